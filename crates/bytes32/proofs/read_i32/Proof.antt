@@ -1,0 +1,27 @@
+use borrow.Author.Needs.{needs}
+use mathlib.Core.Path.{sym, ap, _∙_}
+use native.Mathlib.Omega.{arith}
+use mir.Syntax.{w32}
+use mir.Facts.{toZ-ofZ}
+use Rattle.bytes32.specs.Words.{signed}
+use Rattle.bytes32.proofs.Words.{ints-at, ints-past}
+use Rattle.bytes32.proofs.read_i32.Statement.{statement}
+use Rattle.bytes32.proofs.read_i32.Tie as tie
+
+returns : tie.Need-returns
+returns c = sym (ints-past (c .before .before .args .b .now) (c .before .before .args .i) (omega arith))
+
+read-word-requires : tie.Need-read-word-requires
+read-word-requires c κs = search needs
+
+to-signed-requires : tie.Need-to-signed-requires
+to-signed-requires c κs = search needs
+
+returns-2 : tie.Need-returns-2
+returns-2 c =
+    let a = c .before .before .before .before in
+    rw (toZ-ofZ {w = w32} (record { sfits = c .to-signed .ok }))
+    (c .to-signed .ensures ∙ ap signed (c .before .read-word .ensures) ∙ sym (ints-at (a .args .b .now) (a .args .i) (omega arith)))
+
+pub read-i32-spec : {M : Type 1} → statement M
+read-i32-spec = tie.close (tie.spec returns read-word-requires to-signed-requires returns-2)

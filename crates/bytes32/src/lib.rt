@@ -1,0 +1,131 @@
+// Lists of 32-bit numbers lent as bytes, four a number, two's complement, lowest first.
+ghost use mathlib.Core.Path.{_≡_};
+ghost use Prim.Native.Nat.{_+_, _*_, _/_, _≤_, _<_, min};
+ghost use lib.ListN.{length, getD, take};
+ghost use lib.IntN.{pos};
+ghost use Rattle.laws.specs.Padded.{padded};
+ghost use Rattle.bytes32.specs.Words.{wordAt, signed, unsigned, words, ints, encodeWords, encodeInts, over, fitting, put};
+
+fn wide(x: u8) -> u32
+    ensures { λ r. ⌜ (r ≡ x) × (r < 256) ⌝ }
+{
+    x as u32
+}
+
+// The bits of number i.
+fn read_word(b: &[u8], i: usize) -> u32
+    requires { ⌜ 4 * i + 4 ≤ length (now b) ⌝ }
+    ensures { λ r. ⌜ r ≡ wordAt (now (b .entry)) (4 * i) ⌝ }
+{
+    let k = 4 * i;
+    let b0 = wide(b[k]);
+    let b1 = wide(b[k + 1]);
+    let b2 = wide(b[k + 2]);
+    let b3 = wide(b[k + 3]);
+    b0 + 256 * b1 + 65536 * b2 + 16777216 * b3
+}
+
+fn to_signed(n: u32) -> i32
+    ensures { λ r. ⌜ r ≡ signed n ⌝ }
+{
+    if n < 2147483648 {
+        n as i32
+    } else {
+        let k = (4294967295 - n) as i32;
+        -1 - k
+    }
+}
+
+fn to_unsigned(x: i32) -> u32
+    ensures { λ r. ⌜ r ≡ unsigned x ⌝ }
+{
+    if 0 <= x {
+        x as u32
+    } else {
+        let k = -1 - x;
+        4294967295 - (k as u32)
+    }
+}
+
+// Number i, and 0 where there is none.
+pub fn read_i32(b: &[u8], i: usize) -> i32
+    ensures { λ r. ⌜ r ≡ getD (ints (now (b .entry))) i (pos 0) ⌝ }
+{
+    if b.len() / 4 <= i {
+        return 0;
+    }
+    let n = read_word(b, i);
+    to_signed(n)
+}
+
+// The first 512 numbers, and 0 in the places that are left.
+pub fn read_words(b: &[u8]) -> [u32; 512]
+    ensures { λ r. ⌜ r ≡ padded 512 0 (take 512 (words (now (b .entry)))) ⌝ }
+{
+    let mut r = [0u32; 512];
+    let m = lesser(b.len() / 4, 512);
+    for i in 0..m {
+        let n = read_word(b, i);
+        r[i] = n;
+    }
+    r
+}
+
+fn lesser(a: usize, b: usize) -> usize
+    ensures { λ r. ⌜ r ≡ min a b ⌝ }
+{
+    if a <= b { a } else { b }
+}
+
+// n as number i: exactly its four bytes change.
+fn put_u32(out: &mut [u8], i: usize, n: u32)
+    requires { ⌜ 4 * i + 4 ≤ length (now out) ⌝ }
+    ensures { λ _. ⌜ now (out .exit) ≡ put (now (out .entry)) i n ⌝ }
+{
+    let k = 4 * i;
+    let n1 = n / 256;
+    let n2 = n1 / 256;
+    let n3 = n2 / 256;
+    out[k] = (n % 256) as u8;
+    out[k + 1] = (n1 % 256) as u8;
+    out[k + 2] = (n2 % 256) as u8;
+    out[k + 3] = (n3 % 256) as u8;
+}
+
+// x as number i; where out has no such place, nothing.
+pub fn write_i32(out: &mut [u8], i: usize, x: i32)
+    ensures { λ _. ⌜ now (out .exit) ≡ put (now (out .entry)) i (unsigned x) ⌝ }
+{
+    let n = to_unsigned(x);
+    if i < out.len() / 4 {
+        put_u32(out, i, n);
+    }
+}
+
+// How many of m numbers can be read from a list of `from` numbers and written to one of `to` bytes.
+fn count_of(m: usize, from: usize, to: usize) -> usize
+    ensures { λ r. ⌜ r ≡ min from (min m (to / 4)) ⌝ }
+{
+    lesser(from, lesser(m, to / 4))
+}
+
+// The first m numbers of xs to the first places of out, as many as it has places for.
+pub fn write_words(out: &mut [u8], xs: &[u32], m: usize)
+    ensures { λ _. ⌜ now (out .exit) ≡ over (encodeWords (take (fitting m (now (out .entry))) (now (xs .entry)))) (now (out .entry)) ⌝ }
+{
+    let k = count_of(m, xs.len(), out.len());
+    for i in 0..k {
+        put_u32(out, i, xs[i]);
+    }
+}
+
+pub fn write_ints(out: &mut [u8], xs: &[i32], m: usize)
+    ensures { λ _. ⌜ now (out .exit) ≡ over (encodeInts (take (fitting m (now (out .entry))) (now (xs .entry)))) (now (out .entry)) ⌝ }
+{
+    let k = count_of(m, xs.len(), out.len());
+    for i in 0..k {
+        let x = xs[i];
+        let n = to_unsigned(x);
+        put_u32(out, i, n);
+    }
+}

@@ -1,0 +1,104 @@
+-- ℤ: its order and the tests of it, products and the order, what is not negative as a natural number.
+use mathlib.Core.Path.{_≡_, refl, sym, subst}
+use mathlib.Core.Logic.{_⊎_, inl, inr, ⊎-elim}
+use mathlib.Core.Bool.{Bool, true, false, not, _&&_}
+use Prim.Native.Nat.{_≤_, _<_}
+use native.Mathlib.Omega.{arith}
+use lib.Dec.{T}
+use lib.IntN.{ℤ, pos, negsuc, negℤ, _-ℤ_, _*ℤ_}
+use lib.Signed.{leZ, ltZ, _≤ℤ_, _<ℤ_, leZ-yes, ltZ-yes, ltZ-no}
+use mir.Syntax.{Width}
+use mir.Val.{SFits, toZ, ofZ}
+use mir.Facts.{toZ-ofZ}
+use Rattle.laws.specs.Parts.{plus, minus, le→ℕ, ℕ→le, lt→ℕ}
+use Rattle.laws.specs.Linear.{lin, ring, given, given2}
+use Rattle.laws.specs.Tests.{and-true, true-and}
+
+-- one of the parts is 0
+pub apart : (z : ℤ) → (plus z ≡ 0) ⊎ (minus z ≡ 0)
+apart (pos n) = inr refl
+apart (negsuc n) = inl refl
+
+-- the order is total
+pub leZ-or-lt : (a b : ℤ) → (a ≤ℤ b) ⊎ (b <ℤ a)
+leZ-or-lt a b = go (ltZ b a) (λ t. ltZ-yes t) (λ t. ltZ-no t)
+  where
+    go : (c : Bool) → (T c → b <ℤ a) → (T (not c) → a ≤ℤ b) → (a ≤ℤ b) ⊎ (b <ℤ a)
+    go true f g = inr (f tt)
+    go false f g = inl (g tt)
+
+pub ≤ℤ-total : (a b : ℤ) → (a ≤ℤ b) ⊎ (b ≤ℤ a)
+≤ℤ-total a b = ⊎-elim inl (λ h. inr (given h (simp lin (omega arith)))) (leZ-or-lt a b)
+
+pub ≤ℤ-antisym : {a b : ℤ} → a ≤ℤ b → b ≤ℤ a → a ≡ b
+≤ℤ-antisym h k = given2 h k (simp lin (omega arith))
+
+pub ≤ℤ-trans : {a b c : ℤ} → a ≤ℤ b → b ≤ℤ c → a ≤ℤ c
+≤ℤ-trans h k = given2 h k (simp lin (omega arith))
+
+-- the tests: an equation of the flag, as a branch of the code leaves it
+pub leZ-true : (a b : ℤ) → leZ a b ≡ true → a ≤ℤ b
+leZ-true a b e = leZ-yes (subst T (sym e) tt)
+
+pub leZ-false : (a b : ℤ) → leZ a b ≡ false → b <ℤ a
+leZ-false a b e = go (leZ-or-lt a b)
+  where
+    go : (a ≤ℤ b) ⊎ (b <ℤ a) → b <ℤ a
+    go (inl h) = absurd (subst T e (h .le))
+    go (inr h) = h
+
+pub ltZ-true : (a b : ℤ) → ltZ a b ≡ true → a <ℤ b
+ltZ-true a b e = ltZ-yes (subst T (sym e) tt)
+
+pub ltZ-false : (a b : ℤ) → ltZ a b ≡ false → b ≤ℤ a
+ltZ-false a b e = ltZ-no (subst (λ c. T (not c)) (sym e) tt)
+
+pub true-leZ : (a b : ℤ) → a ≤ℤ b → leZ a b ≡ true
+true-leZ a b h = go (leZ a b) refl
+  where
+    go : (t : Bool) → leZ a b ≡ t → t ≡ true
+    go true e = refl
+    go false e = absurd (given2 h (leZ-false a b e) (simp lin (omega arith)))
+
+-- equality as a test
+abbrev pub eqZ : ℤ → ℤ → Bool
+eqZ a b = leZ a b && leZ b a
+
+pub eqZ-true : (a b : ℤ) → eqZ a b ≡ true → a ≡ b
+eqZ-true a b e = let (h, k) = and-true (leZ a b) (leZ b a) e in ≤ℤ-antisym (leZ-true a b h) (leZ-true b a k)
+
+pub true-eqZ : (a b : ℤ) → a ≡ b → eqZ a b ≡ true
+true-eqZ a b e = true-and (leZ a b) (leZ b a) (true-leZ a b (given e (simp lin (omega arith)))) (true-leZ b a (given e (simp lin (omega arith))))
+
+-- the tests of two values in range: `if-le fx fy (c .if1 .taken)`
+module _ {w : Width} {x y : ℤ} (fx : SFits w x) (fy : SFits w y) where
+  pub if-le : leZ (toZ w (ofZ w x)) (toZ w (ofZ w y)) ≡ true → x ≤ℤ y
+  if-le e = rw (toZ-ofZ fx, toZ-ofZ fy) at (leZ-true (toZ w (ofZ w x)) (toZ w (ofZ w y)) e)
+
+  pub if-not-le : leZ (toZ w (ofZ w x)) (toZ w (ofZ w y)) ≡ false → y <ℤ x
+  if-not-le e = rw (toZ-ofZ fx, toZ-ofZ fy) at (leZ-false (toZ w (ofZ w x)) (toZ w (ofZ w y)) e)
+
+  pub if-lt : ltZ (toZ w (ofZ w x)) (toZ w (ofZ w y)) ≡ true → x <ℤ y
+  if-lt e = rw (toZ-ofZ fx, toZ-ofZ fy) at (ltZ-true (toZ w (ofZ w x)) (toZ w (ofZ w y)) e)
+
+  pub if-not-lt : ltZ (toZ w (ofZ w x)) (toZ w (ofZ w y)) ≡ false → y ≤ℤ x
+  if-not-lt e = rw (toZ-ofZ fx, toZ-ofZ fy) at (ltZ-false (toZ w (ofZ w x)) (toZ w (ofZ w y)) e)
+
+-- products and the order
+parts-nonneg : (x y : ℤ) → minus x ≤ plus x → minus y ≤ plus y → minus (x *ℤ y) ≤ plus (x *ℤ y)
+parts-nonneg (pos a) (pos b) h k = omega arith
+parts-nonneg (pos a) (negsuc b) h k = absurd (omega arith)
+parts-nonneg (negsuc a) y h k = absurd (omega arith)
+
+pub *-nonneg : {x y : ℤ} → pos 0 ≤ℤ x → pos 0 ≤ℤ y → pos 0 ≤ℤ (x *ℤ y)
+*-nonneg {x} {y} h k = ℕ→le (omega (arith, parts-nonneg x y (omega (arith, le→ℕ)) (omega (arith, le→ℕ))))
+
+pub *-mono-l : {x y z : ℤ} → pos 0 ≤ℤ x → y ≤ℤ z → (x *ℤ y) ≤ℤ (x *ℤ z)
+*-mono-l {x} {y} {z} h k = given (*-nonneg {x = x} {y = z -ℤ y} h (given k (simp lin (omega arith)))) (simp ring (omega arith))
+
+pub *-nonpos : {x y : ℤ} → x ≤ℤ pos 0 → y ≤ℤ pos 0 → pos 0 ≤ℤ (x *ℤ y)
+*-nonpos {x} {y} h k = given (*-nonneg {x = negℤ x} {y = negℤ y} (given h (simp lin (omega arith))) (given k (simp lin (omega arith)))) (simp ring (omega arith))
+
+-- a ℤ that is not negative, as a natural number: for measures
+pub plus-lt : {x y : ℤ} → pos 0 ≤ℤ x → x <ℤ y → plus x < plus y
+plus-lt {x} {y} h k = ⊎-elim (λ e. omega (arith, le→ℕ h, lt→ℕ k)) (λ e. omega (arith, lt→ℕ k)) (apart x)

@@ -1,0 +1,52 @@
+-- An array of k places that holds a list: the list, and d in the places that are left; and such an array filled one place after another.
+use mathlib.Core.Path.{_≡_, refl, sym, ap, _∙_}
+use mathlib.Core.List.{List, [], _∷_, _++_, map}
+use Prim.Native.Nat.{ℕ, suc, _+_, _-_, _≤_, _<_}
+use native.Mathlib.Numerals.{add-one}
+use native.Mathlib.Omega.{arith}
+use lib.ListN.{length, getD, take, set, replicate, length-append, length-map, length-replicate}
+use lib.Seq.{take-suc, take-length, length-take-le, take-at, set-at}
+
+abbrev pub padded : {A : Type 0} → ℕ → A → List A → List A
+padded k d l = l ++ replicate (k - length l) d
+
+pub length-padded : {A : Type 0} (k : ℕ) (d : A) (l : List A) → length l ≤ k → length (padded k d l) ≡ k
+length-padded k d l h = rw (length-append, length-replicate) (omega arith)
+
+-- the first places hold the list
+pub take-padded : {A : Type 0} (k : ℕ) (d : A) (l : List A) → take (length l) (padded k d l) ≡ l
+take-padded k d l = take-at l (replicate (k - length l) d) (length l) refl
+
+map-more : {A B : Type 0} (f : A → B) (x : List A) (a : A) (r : List B) → map f (x ++ (a ∷ [])) ++ r ≡ map f x ++ (f a ∷ r)
+map-more f [] a r = refl
+map-more {B = B} f (b ∷ x) a r = ap {B = List B} (λ t. f b ∷ t) (map-more f x a r)
+
+module _ {A B : Type 0} (f : A → B) (l : List A) (k : ℕ) (d : B) where
+  -- f of the first i members of l, and d behind them
+  abbrev pub filled : ℕ → List B
+  filled i = padded k d (map f (take i l))
+
+  length-first : (i : ℕ) → i ≤ length l → length (map f (take i l)) ≡ i
+  length-first i h = length-map (take i l) f ∙ length-take-le i l h
+
+  pub length-filled : (i : ℕ) → i ≤ length l → i ≤ k → length (filled i) ≡ k
+  length-filled i h g = length-padded k d (map f (take i l)) (omega (arith, length-first i h))
+
+  pub filled-more : (e : A) (i : ℕ) (b : B) → i < length l → i < k → b ≡ f (getD l i e) → set (filled i) i b ≡ filled (i + 1)
+  filled-more e i b h g q =
+      ap (λ n. set (map f (take i l) ++ replicate n d) i b) left
+      ∙ set-at (map f (take i l)) d (replicate (k - suc i) d) b i (length-first i (omega arith))
+      ∙ ap (λ x. map f (take i l) ++ (x ∷ replicate (k - suc i) d)) q
+      ∙ sym (map-more f (take i l) (getD l i e) (replicate (k - suc i) d))
+      ∙ ap (λ t. map f t ++ replicate (k - suc i) d) (sym (take-suc l i e h))
+      ∙ ap (λ n. map f (take (suc i) l) ++ replicate n d) right
+      ∙ ap filled (sym (add-one i))
+    where
+      left : k - length (map f (take i l)) ≡ suc (k - suc i)
+      left = omega (arith, length-first i (omega arith))
+
+      right : k - suc i ≡ k - length (map f (take (suc i) l))
+      right = omega (arith, length-first (suc i) (omega arith))
+
+  pub filled-all : (i : ℕ) → i ≡ length l → filled i ≡ padded k d (map f l)
+  filled-all i e = ap filled e ∙ ap (λ t. padded k d (map f t)) (take-length l)
