@@ -1,4 +1,4 @@
--- Lists that ascend strictly in some order: what is kept of one, `++` and `map`, the first member, two with the same members,
+-- Lists that ascend strictly in some order (lists without a repeat, for one): what is kept of one, `++` and `map`, the first member, two with the same members,
 -- the member after a member.
 use mathlib.Core.Path.{_≡_, refl, sym, ap, subst, _∙_}
 use mathlib.Core.Logic.{_⊎_, inl, inr}
@@ -12,6 +12,10 @@ use Rattle.laws.specs.After.{after, afterIf, Apart, after-yes, after-no}
 abbrev pub Ascending : {A : Type 0} → (A → A → Type 0) → List A → Type 0
 Ascending R [] = Unit {0}
 Ascending R (a ∷ l) = Every (R a) l × Ascending R l
+
+-- no member stands twice
+abbrev pub Distinct : {A : Type 0} → List A → Type 0
+Distinct l = Ascending (λ a b. ¬ (b ≡ a)) l
 
 module _ {A : Type 0} where
   ascending-keepIf : (R : A → A → Type 0) (t : Bool) (b : A) (k : List A) → Every (R b) k → Ascending R k → Ascending R (keepIf t b k)

@@ -1,4 +1,4 @@
--- Whether two lists of numbers are one, as a decision that computes.
+-- Whether two numbers, or two lists, are one, as a decision that computes.
 use mathlib.Core.Path.{_≡_, refl, sym, subst}
 use mathlib.Core.List.{List, [], _∷_}
 use mathlib.Core.Bool.{Bool, true, false}
@@ -19,25 +19,29 @@ same-by-test m n false e = no (test-differ m n e)
 abbrev pub same-number : Discrete ℕ
 same-number m n = same-by-test m n (eqb m n) refl
 
-pub cons-same : (a b : ℕ) (x y : List ℕ) → a ≡ b → x ≡ y → _≡_ {A = List ℕ} (a ∷ x) (b ∷ y)
-cons-same a b x y p q = cc
+module _ {A : Type 0} where
+  pub cons-same : (a b : A) (x y : List A) → a ≡ b → x ≡ y → _≡_ {A = List A} (a ∷ x) (b ∷ y)
+  cons-same a b x y p q = cc
 
-pub heads-same : (a b : ℕ) (x y : List ℕ) → _≡_ {A = List ℕ} (a ∷ x) (b ∷ y) → a ≡ b
-heads-same a b x y e = cc
+  pub heads-same : (a b : A) (x y : List A) → _≡_ {A = List A} (a ∷ x) (b ∷ y) → a ≡ b
+  heads-same a b x y e = cc
 
-pub tails-same : (a b : ℕ) (x y : List ℕ) → _≡_ {A = List ℕ} (a ∷ x) (b ∷ y) → x ≡ y
-tails-same a b x y e = cc
+  pub tails-same : (a b : A) (x y : List A) → _≡_ {A = List A} (a ∷ x) (b ∷ y) → x ≡ y
+  tails-same a b x y e = cc
 
-pub nil-cons : (b : ℕ) (y : List ℕ) → ¬ (_≡_ {A = List ℕ} [] (b ∷ y))
-nil-cons b y e = let z : _≡_ {A = ℕ} 0 1 = cc in omega arith
+  pub nil-cons : (b : A) (y : List A) → ¬ (_≡_ {A = List A} [] (b ∷ y))
+  nil-cons b y e = let z : _≡_ {A = ℕ} 0 1 = cc in omega arith
 
-abbrev pub same-cons : (a b : ℕ) (x y : List ℕ) → Dec (a ≡ b) → Dec (x ≡ y) → Dec (_≡_ {A = List ℕ} (a ∷ x) (b ∷ y))
-same-cons a b x y (yes p) (yes q) = yes (cons-same a b x y p q)
-same-cons a b x y (yes p) (no q) = no (λ e. q (tails-same a b x y e))
-same-cons a b x y (no p) t = no (λ e. p (heads-same a b x y e))
+  abbrev pub same-cons : (a b : A) (x y : List A) → Dec (a ≡ b) → Dec (x ≡ y) → Dec (_≡_ {A = List A} (a ∷ x) (b ∷ y))
+  same-cons a b x y (yes p) (yes q) = yes (cons-same a b x y p q)
+  same-cons a b x y (yes p) (no q) = no (λ e. q (tails-same a b x y e))
+  same-cons a b x y (no p) t = no (λ e. p (heads-same a b x y e))
+
+  abbrev pub same-lists : Discrete A → Discrete (List A)
+  same-lists d [] [] = yes refl
+  same-lists d [] (b ∷ y) = no (nil-cons b y)
+  same-lists d (a ∷ x) [] = no (λ e. nil-cons a x (sym e))
+  same-lists d (a ∷ x) (b ∷ y) = same-cons a b x y (d a b) (same-lists d x y)
 
 abbrev pub same-list : Discrete (List ℕ)
-same-list [] [] = yes refl
-same-list [] (b ∷ y) = no (nil-cons b y)
-same-list (a ∷ x) [] = no (λ e. nil-cons a x (sym e))
-same-list (a ∷ x) (b ∷ y) = same-cons a b x y (same-number a b) (same-list x y)
+same-list = same-lists same-number

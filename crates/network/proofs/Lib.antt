@@ -1,0 +1,3 @@
+pub mod FullList
+pub mod Prices
+pub mod Examples

@@ -1,0 +1,5 @@
+pub mod Network
+pub mod Residual
+pub mod FullList
+pub mod Questions
+pub mod Checked
