@@ -32,9 +32,10 @@ module _ {A B : Type 0} (f : A → B) (l : List A) (k : ℕ) (d : B) where
   pub length-filled : (i : ℕ) → i ≤ length l → i ≤ k → length (filled i) ≡ k
   length-filled i h g = length-padded k d (map f (take i l)) (omega (arith, length-first i h))
 
-  pub filled-more : (e : A) (i : ℕ) (b : B) → i < length l → i < k → b ≡ f (getD l i e) → set (filled i) i b ≡ filled (i + 1)
-  filled-more e i b h g q =
-      ap (λ n. set (map f (take i l) ++ replicate n d) i b) left
+  pub filled-more : (e : A) (i : ℕ) (s : List B) (b : B) → s ≡ filled i → i < length l → i < k → b ≡ f (getD l i e) → set s i b ≡ filled (i + 1)
+  filled-more e i s b p h g q =
+      ap (λ x. set x i b) p
+      ∙ ap (λ n. set (map f (take i l) ++ replicate n d) i b) left
       ∙ set-at (map f (take i l)) d (replicate (k - suc i) d) b i (length-first i (omega arith))
       ∙ ap (λ x. map f (take i l) ++ (x ∷ replicate (k - suc i) d)) q
       ∙ sym (map-more f (take i l) (getD l i e) (replicate (k - suc i) d))

@@ -1,5 +1,5 @@
 -- Tests, the Bools that code and definitions compute: joined, of a decided fact, of every member of a list, of every number below n.
-use mathlib.Core.Path.{_≡_, refl, ap, _∙_}
+use mathlib.Core.Path.{_≡_, refl, sym, ap, _∙_}
 use mathlib.Core.Bool.{Bool, true, false, _&&_}
 use mathlib.Core.List.{List, [], _∷_}
 use mathlib.Core.Logic.{inl, inr}
@@ -27,6 +27,13 @@ and-left false q e = absurd (let z : _≡_ {A = ℕ} 0 1 = cc in omega arith)
 pub and-stops : (p q : Bool) → p ≡ false → p && q ≡ false
 and-stops true q e = absurd (let z : _≡_ {A = ℕ} 0 1 = cc in omega arith)
 and-stops false q e = refl
+
+-- two tests of the code, the second only where the first holds
+pub and-then : (b₁ b₂ x y : Bool) → b₁ ≡ x → b₁ ≡ true → b₂ ≡ y → b₂ ≡ x && y
+and-then b₁ b₂ x y p q r = rw (sym p ∙ q) r
+
+pub and-else : (b₁ x y : Bool) → b₁ ≡ x → b₁ ≡ false → false ≡ x && y
+and-else b₁ x y p q = rw (sym p ∙ q)
 
 -- a decided fact as a test
 abbrev pub test : {P : Type 0} → Dec P → Bool

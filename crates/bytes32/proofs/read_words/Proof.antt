@@ -1,9 +1,9 @@
 use mathlib.Core.Path.{_≡_, refl, sym, ap, _∙_}
-use mathlib.Core.List.{List, map-id}
+use mathlib.Core.List.{map-id}
 use Prim.Native.Nat.{ℕ, _-_, _/_, _≤_, min}
 use native.Mathlib.Omega.{arith}
 use native.Mathlib.Nat.{min-le-left, min-le-right}
-use lib.ListN.{length, take, set}
+use lib.ListN.{length, take}
 use borrow.Author.Needs.{needs}
 use Rattle.laws.specs.Padded.{padded, filled, filled-more}
 use Rattle.bytes32.specs.Words.{words}
@@ -47,8 +47,7 @@ loop-again c =
     let n = c .before .before .before in
     let b = n .before .before .args .b .now in (
       omega arith,
-      ap (λ (r : List ℕ). set r (l .i) (c .read-word .result)) (l .inv .1)
-          ∙ filled-more (λ (n : ℕ). n) (words b) 512 0 0 (l .i) (c .read-word .result) (omega (arith, length-words b, few n .0)) (omega (arith, few n .1))
+      filled-more (λ (n : ℕ). n) (words b) 512 0 0 (l .i) (l .r) (c .read-word .result) (l .inv .1) (omega (arith, length-words b, few n .0)) (omega (arith, few n .1))
           (c .read-word .ensures ∙ sym (words-at b (l .i) (omega (arith, few n .0)))),
     )
 

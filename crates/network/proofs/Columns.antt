@@ -1,0 +1,38 @@
+-- The numbers at one place of the arcs, cast into an array.
+use mathlib.Core.Path.{_≡_, sym, ap, subst, _∙_}
+use mathlib.Core.List.{List}
+use Prim.Native.Nat.{ℕ, _+_, _*_, _/_, _<_, _^_}
+use native.Mathlib.Omega.{arith}
+use lib.Dec.{T}
+use lib.ListN.{length, getD}
+use lib.IntN.{ℤ, pos, negsuc, natAbs}
+use lib.Signed.{nonNeg, _≤ℤ_}
+use mir.Syntax.{Width, w32}
+use mir.Val.{Fits, SFits, toZ, ofZ, bits}
+use mir.Facts.{toZ-ofZ}
+use Rattle.laws.specs.Parts.{le→ℕ}
+use Rattle.bytes32.specs.Words.{ints}
+use Rattle.bytes32.proofs.Words.{length-ints}
+use Rattle.network.specs.Questions.{rows}
+use Rattle.network.specs.Checked.{noArc, part, Column}
+use Rattle.network.proofs.Rows.{arcs-of, part-at}
+
+-- z can be cast to the width w, and is the number p then
+pub record Casts (w : Width) (z p : ℤ) : Type 0 where
+  pub ok : T (nonNeg (toZ w32 (ofZ w32 z))) × Fits w (natAbs (toZ w32 (ofZ w32 z)))
+  pub is : natAbs (toZ w32 (ofZ w32 z)) ≡ natAbs p
+
+casts : (w : Width) (hi : ℕ) (z : ℤ) → hi < 2147483648 → hi < 2 ^ bits w → pos 0 ≤ℤ z → z ≤ℤ pos hi → Casts w z z
+casts w hi (pos n) h g l u =
+    let f : SFits w32 (pos n) = record { sfits = omega (arith, le→ℕ u) } in
+    record { ok = rw (toZ-ofZ f) (tt, record { fits = omega (arith, le→ℕ u) }); is = ap natAbs (toZ-ofZ f) }
+casts w hi (negsuc n) h g l u = absurd (omega (arith, le→ℕ l))
+
+module _ (w : Width) (xs : List ℕ) (place hi : ℕ) (column : Column xs place hi) (small : hi < 2147483648) (fits : hi < 2 ^ bits w) where
+  pub column-casts : (a : ℕ) (z : ℤ) → a < length xs / 20 → z ≡ getD (ints xs) (5 * a + place) (pos 0) → Casts w z (part place (getD (rows (ints xs)) a noArc))
+  column-casts a z h e =
+      let q : part place (getD (rows (ints xs)) a noArc) ≡ getD (ints xs) (5 * a + place) (pos 0) =
+      part-at (ints xs) a place (column .placed) (omega (arith, length-ints xs)) in
+      let l : a < length (rows (ints xs)) = omega (arith, arcs-of xs) in
+      subst (λ y. Casts w y (part place (getD (rows (ints xs)) a noArc))) (q ∙ sym e)
+      (casts w hi (part place (getD (rows (ints xs)) a noArc)) small fits (column .from-zero a l) (column .at-most a l))

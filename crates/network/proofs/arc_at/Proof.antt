@@ -1,0 +1,74 @@
+use mathlib.Core.Path.{_≡_, sym, _∙_}
+use native.Mathlib.Omega.{arith}
+use lib.IntN.{ℤ}
+use mir.Syntax.{w32}
+use mir.Facts.{toZ-ofZ}
+use Rattle.bytes32.specs.Words.{ints}
+use Rattle.bytes32.proofs.Words.{length-ints}
+use Rattle.network.proofs.Rows.{rows-at}
+use Rattle.network.specs.declared.Arc.{Arc}
+use borrow.Author.Needs.{needs}
+use Rattle.network.proofs.arc_at.Statement.{statement}
+use Rattle.network.proofs.arc_at.Tie as tie
+
+mul-k : tie.Need-mul-k
+mul-k c = search needs
+
+read-i32-requires : tie.Need-read-i32-requires
+read-i32-requires c κs = search needs
+
+add-read-i32 : tie.Need-add-read-i32
+add-read-i32 c = search needs
+
+read-i32-requires-2 : tie.Need-read-i32-requires-2
+read-i32-requires-2 c κs = search needs
+
+add-read-i32-2 : tie.Need-add-read-i32-2
+add-read-i32-2 c = search needs
+
+read-i32-requires-3 : tie.Need-read-i32-requires-3
+read-i32-requires-3 c κs = search needs
+
+add-read-i32-3 : tie.Need-add-read-i32-3
+add-read-i32-3 c = search needs
+
+read-i32-requires-4 : tie.Need-read-i32-requires-4
+read-i32-requires-4 c κs = search needs
+
+add-read-i32-4 : tie.Need-add-read-i32-4
+add-read-i32-4 c = search needs
+
+read-i32-requires-5 : tie.Need-read-i32-requires-5
+read-i32-requires-5 c κs = search needs
+
+same : {t h l u c t′ h′ l′ u′ c′ : ℤ} → t ≡ t′ → h ≡ h′ → l ≡ l′ → u ≡ u′ → c ≡ c′
+    → _≡_ {A = Arc} (record { tail = t; head = h; low = l; up = u; cost = c }) (record { tail = t′; head = h′; low = l′; up = u′; cost = c′ })
+same p q r s v = cc
+
+returns : tie.Need-returns
+returns c =
+    let a = c .before .before .before .before .before .before in
+    let e = rows-at (ints (a .args .arcs .now)) (a .args .a) (omega (arith, length-ints (a .args .arcs .now), a .pre)) in
+    same
+    (toZ-ofZ {w = w32} (record { sfits = c .before .before .before .before .read-i32 .ok }) ∙ c .before .before .before .before .read-i32 .ensures)
+    (toZ-ofZ {w = w32} (record { sfits = c .before .before .before .read-i322 .ok }) ∙ c .before .before .before .read-i322 .ensures)
+    (toZ-ofZ {w = w32} (record { sfits = c .before .before .read-i323 .ok }) ∙ c .before .before .read-i323 .ensures)
+    (toZ-ofZ {w = w32} (record { sfits = c .before .read-i324 .ok }) ∙ c .before .read-i324 .ensures)
+    (toZ-ofZ {w = w32} (record { sfits = c .read-i325 .ok }) ∙ c .read-i325 .ensures)
+    ∙ sym e
+
+pub arc-at-spec : {M : Type 1} → statement M
+arc-at-spec =
+    tie.close
+    (tie.spec
+    mul-k
+    read-i32-requires
+    add-read-i32
+    read-i32-requires-2
+    add-read-i32-2
+    read-i32-requires-3
+    add-read-i32-3
+    read-i32-requires-4
+    add-read-i32-4
+    read-i32-requires-5
+    returns)
