@@ -17,7 +17,8 @@ use Rattle.bytes32.specs.Words.{ints}
 use Rattle.bytes32.proofs.Words.{length-ints}
 use Rattle.network.specs.Network.{Net, WellFormed, nodes, arcs}
 use Rattle.network.specs.Questions.{rows, netOf, inside, passes, fairBalance, fairNodes, fairArcs, lastNode, ask, refusal}
-use Rattle.network.specs.Checked.{structOf, netIn, noNet, Checks, AcceptedNet, Sound, noArc, part, Column}
+use Rattle.network.specs.Checked.{structOf, netIn, noNet, Checks, AcceptedNet, Sound}
+use Rattle.network.specs.Columns.{noArc, part, Column}
 use Rattle.network.specs.declared.Arc.{Arc}
 use Rattle.network.specs.declared.Checked.{Checked}
 use Rattle.network.specs.declared.ArcQuestion.the-variants.{Ends, Bounds, Cost}

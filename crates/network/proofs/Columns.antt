@@ -1,20 +1,21 @@
 -- The numbers at one place of the arcs, cast into an array.
 use mathlib.Core.Path.{_≡_, sym, ap, subst, _∙_}
-use mathlib.Core.List.{List}
-use Prim.Native.Nat.{ℕ, _+_, _*_, _/_, _<_, _^_}
+use mathlib.Core.List.{List, map}
+use Prim.Native.Nat.{ℕ, _+_, _*_, _/_, _≤_, _<_, _^_}
 use native.Mathlib.Omega.{arith}
 use lib.Dec.{T}
-use lib.ListN.{length, getD}
+use lib.ListN.{length, getD, set}
 use lib.IntN.{ℤ, pos, negsuc, natAbs}
 use lib.Signed.{nonNeg, _≤ℤ_}
 use mir.Syntax.{Width, w32}
 use mir.Val.{Fits, SFits, toZ, ofZ, bits}
 use mir.Facts.{toZ-ofZ}
 use Rattle.laws.specs.Parts.{le→ℕ}
+use Rattle.laws.specs.Padded.{padded, filled, filled-more, filled-all}
 use Rattle.bytes32.specs.Words.{ints}
 use Rattle.bytes32.proofs.Words.{length-ints}
 use Rattle.network.specs.Questions.{rows}
-use Rattle.network.specs.Checked.{noArc, part, Column}
+use Rattle.network.specs.Columns.{noArc, part, Column}
 use Rattle.network.proofs.Rows.{arcs-of, part-at}
 
 -- z can be cast to the width w, and is the number p then
@@ -28,6 +29,10 @@ casts w hi (pos n) h g l u =
     record { ok = rw (toZ-ofZ f) (tt, record { fits = omega (arith, le→ℕ u) }); is = ap natAbs (toZ-ofZ f) }
 casts w hi (negsuc n) h g l u = absurd (omega (arith, le→ℕ l))
 
+pub record Filling (xs : List ℕ) (place a : ℕ) (r : List ℕ) : Type 0 where
+  pub upto : a ≤ length xs / 20
+  pub is : r ≡ filled (λ t. natAbs (part place t)) (rows (ints xs)) 512 0 a
+
 module _ (w : Width) (xs : List ℕ) (place hi : ℕ) (column : Column xs place hi) (small : hi < 2147483648) (fits : hi < 2 ^ bits w) where
   pub column-casts : (a : ℕ) (z : ℤ) → a < length xs / 20 → z ≡ getD (ints xs) (5 * a + place) (pos 0) → Casts w z (part place (getD (rows (ints xs)) a noArc))
   column-casts a z h e =
@@ -36,3 +41,16 @@ module _ (w : Width) (xs : List ℕ) (place hi : ℕ) (column : Column xs place 
       let l : a < length (rows (ints xs)) = omega (arith, arcs-of xs) in
       subst (λ y. Casts w y (part place (getD (rows (ints xs)) a noArc))) (q ∙ sym e)
       (casts w hi (part place (getD (rows (ints xs)) a noArc)) small fits (column .from-zero a l) (column .at-most a l))
+
+  -- a loop over the arcs: the first a of them are in the array r
+  pub filling-more : (a : ℕ) (r : List ℕ) (z : ℤ) → Filling xs place a r → a < length xs / 20 → z ≡ getD (ints xs) (5 * a + place) (pos 0)
+      → Filling xs place (a + 1) (set r a (natAbs (toZ w32 (ofZ w32 z))))
+  filling-more a r z f h e = record {
+    upto = omega arith;
+    is =
+        filled-more (λ t. natAbs (part place t)) (rows (ints xs)) 512 0 noArc a r (natAbs (toZ w32 (ofZ w32 z))) (f .is) (omega (arith, arcs-of xs))
+        (omega (arith, arcs-of xs, column .few)) (column-casts a z h e .is);
+  }
+
+pub filling-all : (xs : List ℕ) (place a : ℕ) (r : List ℕ) → Filling xs place a r → length xs / 20 ≤ a → r ≡ padded 512 0 (map (λ t. natAbs (part place t)) (rows (ints xs)))
+filling-all xs place a r f h = f .is ∙ filled-all (λ t. natAbs (part place t)) (rows (ints xs)) 512 0 a (omega (arith, arcs-of xs, f .upto))

@@ -12,7 +12,7 @@ use Rattle.laws.specs.Tests.{and-true}
 use Rattle.bytes32.specs.Words.{ints}
 use Rattle.bytes32.proofs.Words.{length-ints}
 use Rattle.network.specs.Questions.{rows, fairNodes, fairArcs}
-use Rattle.network.specs.Checked.{noArc, part}
+use Rattle.network.specs.Columns.{noArc, part}
 use Rattle.network.specs.declared.Arc.{Arc}
 
 abbrev pub rowAt : List ℤ → ℕ → Arc

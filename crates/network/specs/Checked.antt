@@ -2,16 +2,15 @@
 use mathlib.Core.Path.{_≡_}
 use mathlib.Core.Bool.{cond}
 use mathlib.Core.List.{List, []}
-use Prim.Native.Nat.{ℕ, zero, suc, _≤_, _<_}
+use Prim.Native.Nat.{ℕ, _≤_, _<_}
 use lib.Dec.{eqb}
-use lib.ListN.{length, getD, take}
-use lib.IntN.{ℤ, pos, negℤ}
+use lib.ListN.{take}
+use lib.IntN.{pos, negℤ}
 use lib.Signed.{_≤ℤ_}
 use Rattle.laws.specs.Padded.{padded}
 use Rattle.bytes32.specs.Words.{ints}
 use Rattle.network.specs.Network.{Net, WellFormed, nodes, arcs, low, up, cost, balance}
-use Rattle.network.specs.Questions.{rows, refusal, netOf, numberOf}
-use Rattle.network.specs.declared.Arc.{Arc}
+use Rattle.network.specs.Questions.{refusal, netOf, numberOf}
 use Rattle.network.specs.declared.Network.{Network}
 use Rattle.network.specs.declared.Checked.{Checked}
 
@@ -63,21 +62,3 @@ pub record Sound (s : Network) : Type 0 where
   pub accepted : AcceptedNet (netIn s)
   pub nodes-held : s .nodes ≡ nodes (netIn s)
   pub arcs-held : s .arcs ≡ arcs (netIn s)
-
--- an arc's numbers by their place
-abbrev pub noArc : Arc
-noArc = record { tail = pos 0; head = pos 0; low = pos 0; up = pos 0; cost = pos 0 }
-
-abbrev pub part : ℕ → Arc → ℤ
-part zero r = r .tail
-part (suc zero) r = r .head
-part (suc (suc zero)) r = r .low
-part (suc (suc (suc zero))) r = r .up
-part (suc (suc (suc (suc n)))) r = r .cost
-
--- the numbers at a place of the arcs, each from 0 to hi: what is cast into an array
-pub record Column (xs : List ℕ) (place hi : ℕ) : Type 0 where
-  pub placed : place < 5
-  pub few : length (rows (ints xs)) ≤ 512
-  pub from-zero : (a : ℕ) → a < length (rows (ints xs)) → pos 0 ≤ℤ part place (getD (rows (ints xs)) a noArc)
-  pub at-most : (a : ℕ) → a < length (rows (ints xs)) → part place (getD (rows (ints xs)) a noArc) ≤ℤ pos hi

@@ -3,3 +3,4 @@ pub mod Residual
 pub mod FullList
 pub mod Questions
 pub mod Checked
+pub mod Columns

@@ -8,7 +8,8 @@ ghost use Rattle.laws.specs.Tests.{all};
 ghost use Rattle.laws.specs.Padded.{padded};
 ghost use Rattle.bytes32.specs.Words.{ints};
 ghost use Rattle.network.specs.Questions.{rows, netOf, inside, passes, fairBalance, fairNodes, fairArcs, refusal, numberOf};
-ghost use Rattle.network.specs.Checked.{structOf, noNet, Checks, noArc, part, Column};
+ghost use Rattle.network.specs.Checked.{structOf, noNet, Checks};
+ghost use Rattle.network.specs.Columns.{noArc, part, Column};
 
 // A network: of each array the first places, as many as there are nodes or arcs; the others are 0.
 pub struct Network {

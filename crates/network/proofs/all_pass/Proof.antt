@@ -11,7 +11,7 @@ use borrow.Author.Tests.{not-true, not-false}
 use Rattle.laws.specs.Tests.{all, all-more, all-fails, all-done}
 use Rattle.bytes32.specs.Words.{ints}
 use Rattle.network.specs.Questions.{rows, passes}
-use Rattle.network.specs.Checked.{noArc}
+use Rattle.network.specs.Columns.{noArc}
 use Rattle.network.proofs.Rows.{arcs-of}
 use Rattle.network.proofs.all_pass.Statement.{statement}
 use Rattle.network.proofs.all_pass.Tie as tie

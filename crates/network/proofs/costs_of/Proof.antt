@@ -10,7 +10,7 @@ use Rattle.laws.specs.Padded.{filled, filled-more, filled-all}
 use Rattle.bytes32.specs.Words.{ints}
 use Rattle.bytes32.proofs.Words.{length-ints}
 use Rattle.network.specs.Questions.{rows}
-use Rattle.network.specs.Checked.{noArc}
+use Rattle.network.specs.Columns.{noArc}
 use Rattle.network.specs.declared.Arc.{Arc}
 use Rattle.network.proofs.Rows.{arcs-of, part-at}
 use Rattle.network.proofs.costs_of.Statement.{statement}

@@ -1,22 +1,16 @@
-use mathlib.Core.Path.{_≡_, refl, _∙_}
+use mathlib.Core.Path.{refl}
 use Prim.Native.Nat.{_-_, _/_, _≤_}
 use native.Mathlib.Omega.{arith}
-use lib.ListN.{length, getD}
-use lib.IntN.{natAbs}
+use lib.ListN.{length}
 use mir.Syntax.{w8}
 use borrow.Author.Needs.{needs}
-use Rattle.laws.specs.Padded.{filled, filled-more, filled-all}
-use Rattle.bytes32.specs.Words.{ints}
-use Rattle.network.specs.Questions.{rows}
-use Rattle.network.specs.Checked.{noArc, part}
-use Rattle.network.specs.declared.Arc.{Arc}
 use Rattle.network.proofs.Rows.{arcs-of}
-use Rattle.network.proofs.Columns.{Casts, column-casts}
+use Rattle.network.proofs.Columns.{Filling, column-casts, filling-more, filling-all}
 use Rattle.network.proofs.ends_of.Statement.{statement}
 use Rattle.network.proofs.ends_of.Tie as tie
 
 abbrev Inv-loop : tie.InvT-loop
-Inv-loop arcs place r₀ a₀ a-end r a = (a ≤ length arcs / 20) × (r ≡ filled (λ (t : Arc). natAbs (part place t)) (rows (ints arcs)) 512 0 a)
+Inv-loop arcs place r₀ a₀ a-end r a = Filling arcs place a r
 
 abbrev μ-loop : tie.MeasureT-loop
 μ-loop arcs place r₀ a₀ a-end r a = a-end - a
@@ -24,14 +18,8 @@ abbrev μ-loop : tie.MeasureT-loop
 few : (c : tie.After-read-i32 Inv-loop μ-loop) → length (c .before .before .before .before .args .arcs .now) / 20 ≤ 512
 few c = omega (arith, arcs-of (c .before .before .before .before .args .arcs .now), c .before .before .before .before .pre .few)
 
--- the number read
-here : (c : tie.After-read-i32 Inv-loop μ-loop) → Casts w8 (c .read-i32 .result) (part (c .before .before .before .before .args .place) (getD (rows (ints (c .before .before .before .before .args .arcs .now))) (c .before .before .loop .a) noArc))
-here c =
-    let s = c .before .before .before .before in
-    column-casts w8 (s .args .arcs .now) (s .args .place) 63 (s .pre) (omega arith) (omega arith) (c .before .before .loop .a) (c .read-i32 .result) (omega arith) (c .read-i32 .ensures)
-
 loop-holds : tie.Need-loop-holds Inv-loop μ-loop
-loop-holds c = (omega arith, refl)
+loop-holds c = record { upto = omega arith; is = refl }
 
 mul-read-i32 : tie.Need-mul-read-i32 Inv-loop μ-loop
 mul-read-i32 c = omega arith
@@ -43,7 +31,9 @@ read-i32-requires : tie.Need-read-i32-requires Inv-loop μ-loop
 read-i32-requires c κs = search needs
 
 cast-r : tie.Need-cast-r Inv-loop μ-loop
-cast-r c = here c .ok
+cast-r c =
+    let s = c .before .before .before .before in
+    column-casts w8 (s .args .arcs .now) (s .args .place) 63 (s .pre) (omega arith) (omega arith) (c .before .before .loop .a) (c .read-i32 .result) (omega arith) (c .read-i32 .ensures) .ok
 
 array-write-r : tie.Need-array-write-r Inv-loop μ-loop
 array-write-r c = omega (arith, few c)
@@ -56,18 +46,12 @@ loop-less c = omega arith
 
 loop-again : tie.Need-loop-again Inv-loop μ-loop
 loop-again c =
-    let l = c .before .before .loop in
     let s = c .before .before .before .before in
-    let xs = s .args .arcs .now in (
-      omega arith,
-      filled-more (λ (t : Arc). natAbs (part (s .args .place) t)) (rows (ints xs)) 512 0 noArc (l .a) (l .r) _ (l .inv .1) (omega (arith, arcs-of xs)) (omega (arith, few c)) (here c .is),
-    )
+    let l = c .before .before .loop in
+    filling-more w8 (s .args .arcs .now) (s .args .place) 63 (s .pre) (omega arith) (omega arith) (l .a) (l .r) (c .read-i32 .result) (l .inv) (omega arith) (c .read-i32 .ensures)
 
 returns : tie.Need-returns Inv-loop μ-loop
-returns c =
-    let s = c .before .before .before in
-    let xs = s .args .arcs .now in
-    c .before .loop .inv .1 ∙ filled-all (λ (t : Arc). natAbs (part (s .args .place) t)) (rows (ints xs)) 512 0 (c .before .loop .a) (omega (arith, arcs-of xs))
+returns c = filling-all _ _ (c .before .loop .a) (c .before .loop .r) (c .before .loop .inv) (omega arith)
 
 pub ends-of-spec : {M : Type 1} → statement M
 ends-of-spec =
