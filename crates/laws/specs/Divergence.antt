@@ -4,9 +4,10 @@ use mathlib.Core.Logic.{_≢_}
 use Prim.Native.Nat.{ℕ, _<_}
 use native.Mathlib.Omega.{arith}
 use native.Mathlib.Decide.{ℕ-discrete}
+use lib.Signed.{_≤ℤ_}
 use lib.IntN.{ℤ, pos, _-ℤ_, _*ℤ_}
-use Rattle.laws.specs.Linear.{lin, ring, given}
-use Rattle.laws.specs.Sum.{sum, sum-cong, sum-scale, sum-swap, sum-only, sum-sub}
+use Rattle.laws.specs.Linear.{lin, ring, given, given2}
+use Rattle.laws.specs.Sum.{sum, sum-cong, sum-scale, sum-swap, sum-only, sum-sub, sum-mono}
 
 -- x where the two are equal, 0 otherwise
 abbrev pub ifDec : {u v : ℕ} → Dec (u ≡ v) → ℤ → ℤ
@@ -66,3 +67,14 @@ ends-sub m e f g v = sum-cong m _ (λ a. at (e a) v (f a) -ℤ at (e a) v (g a))
 
 pub div-sub : (m : ℕ) (tl hd : ℕ → ℕ) (f g : ℕ → ℤ) (v : ℕ) → div m tl hd (λ a. f a -ℤ g a) v ≡ div m tl hd f v -ℤ div m tl hd g v
 div-sub m tl hd f g v = given (ends-sub m tl f g v) (given (ends-sub m hd f g v) (simp lin (omega arith)))
+
+-- a sum is at most its one term that may be positive
+pub sum-le-one : (n : ℕ) (f : ℕ → ℤ) (j : ℕ) → j < n → ((i : ℕ) → i < n → i ≢ j → f i ≤ℤ pos 0) → sum n f ≤ℤ f j
+sum-le-one n f j k h =
+    given2 (sum-mono n f (λ i. at j i (f j)) (λ i l. go i l (ℕ-discrete i j)))
+    (sum-only n (λ i. at j i (f j)) j k (λ i l ne. at-other (λ q. ne (sym q)) (f j)) ∙ at-same refl (f j))
+    (simp lin (omega arith))
+  where
+    go : (i : ℕ) → i < n → Dec (i ≡ j) → f i ≤ℤ at j i (f j)
+    go i l (yes q) = rw (at-same (sym q) (f j), q) (simp lin (omega arith))
+    go i l (no q) = rw (at-other (λ p. q (sym p)) (f j)) (h i l q)

@@ -1,6 +1,6 @@
 -- ℤ: its order and the tests of it, products and the order, what is not negative as a natural number.
 use mathlib.Core.Path.{_≡_, refl, sym, subst}
-use mathlib.Core.Logic.{_⊎_, inl, inr, ⊎-elim}
+use mathlib.Core.Logic.{_⊎_, inl, inr, ⊎-elim, _≢_}
 use mathlib.Core.Bool.{Bool, true, false, not, _&&_}
 use Prim.Native.Nat.{_≤_, _<_}
 use native.Mathlib.Omega.{arith}
@@ -11,7 +11,7 @@ use mir.Syntax.{Width}
 use mir.Val.{SFits, toZ, ofZ}
 use mir.Facts.{toZ-ofZ}
 use Rattle.laws.specs.Parts.{plus, minus, le→ℕ, ℕ→le, lt→ℕ}
-use Rattle.laws.specs.Linear.{lin, ring, given, given2}
+use Rattle.laws.specs.Linear.{lin, ring, poly, given, given2, given3, *-neg-l, *-neg-r}
 use Rattle.laws.specs.Tests.{and-true, true-and}
 
 -- one of the parts is 0
@@ -102,3 +102,44 @@ pub *-nonpos : {x y : ℤ} → x ≤ℤ pos 0 → y ≤ℤ pos 0 → pos 0 ≤�
 -- a ℤ that is not negative, as a natural number: for measures
 pub plus-lt : {x y : ℤ} → pos 0 ≤ℤ x → x <ℤ y → plus x < plus y
 plus-lt {x} {y} h k = ⊎-elim (λ e. omega (arith, le→ℕ h, lt→ℕ k)) (λ e. omega (arith, lt→ℕ k)) (apart x)
+
+-- a product that is 0
+pub data Sign (z : ℤ) : Type 0 where
+  below : z <ℤ pos 0 → Sign z
+  nil : z ≡ pos 0 → Sign z
+  above : pos 0 <ℤ z → Sign z
+
+pub sign : (z : ℤ) → Sign z
+sign z = go (leZ-or-lt z (pos 0)) (leZ-or-lt (pos 0) z)
+  where
+    go : (z ≤ℤ pos 0) ⊎ (pos 0 <ℤ z) → (pos 0 ≤ℤ z) ⊎ (z <ℤ pos 0) → Sign z
+    go (inr p) q = above p
+    go (inl p) (inl q) = nil (≤ℤ-antisym p q)
+    go (inl p) (inr q) = below q
+
+both-above : (r d : ℤ) → r *ℤ d ≡ pos 0 → pos 0 <ℤ r → ¬ (pos 0 <ℤ d)
+both-above r d e p q = given3 (*-mono-l {x = r} {y = pos 1} {z = d} (given p (simp lin (omega arith))) (given q (simp lin (omega arith)))) e p (simp lin (omega arith))
+
+neg-zero : (x y : ℤ) → x ≡ negℤ y → y ≡ pos 0 → x ≡ pos 0
+neg-zero x y e z = given2 e z (simp lin (omega arith))
+
+neg-above : (x : ℤ) → x <ℤ pos 0 → pos 0 <ℤ negℤ x
+neg-above x h = given h (simp lin (omega arith))
+
+pub zero-product : (r d : ℤ) → r *ℤ d ≡ pos 0 → r ≢ pos 0 → d ≡ pos 0
+zero-product r d e ne = go (sign d) (sign r)
+  where
+    go : Sign d → Sign r → d ≡ pos 0
+    go (nil y) t = y
+    go (above x) (nil p) = absurd (ne p)
+    go (below x) (nil p) = absurd (ne p)
+    go (above x) (above p) = absurd (both-above r d e p x)
+    go (below x) (above p) = absurd (both-above r (negℤ d) (neg-zero (r *ℤ negℤ d) (r *ℤ d) (*-neg-r r d) e) p (neg-above d x))
+    go (above x) (below p) = absurd (both-above (negℤ r) d (neg-zero (negℤ r *ℤ d) (r *ℤ d) (*-neg-l r d) e) (neg-above r p) x)
+    go (below x) (below p) =
+        absurd (both-above (negℤ r) (negℤ d)
+          (neg-zero (negℤ r *ℤ negℤ d) (r *ℤ negℤ d) (*-neg-l r (negℤ d)) (neg-zero (r *ℤ negℤ d) (r *ℤ d) (*-neg-r r d) e)) (neg-above r p) (neg-above d x))
+
+-- a product with a difference of equals
+pub times-same : (w x y : ℤ) → x ≡ y → w *ℤ (x -ℤ y) ≡ pos 0
+times-same w x y e = rw e (simp poly (omega arith))

@@ -1,0 +1,126 @@
+-- Prices certify least cost: reduced costs, tight arcs, and that the prices of one least-cost flow are those of every other.
+use mathlib.Core.Path.{_≡_, ap, _∙_}
+use mathlib.Core.Logic.{_⊎_, inl, inr, _≢_}
+use mathlib.Core.List.{List}
+use mathlib.Core.Bool.{true}
+use Prim.Native.Nat.{ℕ, suc, _+_, _≤_, _<_}
+use native.Mathlib.Omega.{arith}
+use native.Mathlib.Decide.{decLt}
+use lib.ListN.{getD}
+use lib.IntN.{ℤ, pos, _+ℤ_, _-ℤ_, _*ℤ_}
+use lib.Signed.{_≤ℤ_, _<ℤ_}
+use borrow.Author.Tests.{lt-ltb}
+use Rattle.laws.specs.Divergence.{at, div, div-sub, telescope}
+use Rattle.laws.specs.Integers.{leZ-or-lt, *-nonneg, *-nonpos, zero-product, times-same}
+use Rattle.laws.specs.Linear.{lin, ring, given, given2, given3}
+use Rattle.laws.specs.Sum.{sum, sum-cong, sum-add, sum-sub, sum-none, sum-nonneg, sum-zero-each}
+use Rattle.network.specs.Network.{Net, nodes, arcs, tail, head, low, up, cost, balance, on, netOut, IsFlow, costOf, LeastCost, WellFormed}
+use Rattle.network.specs.Residual.{src, dst, stepCost, usable}
+use Rattle.certificates.specs.Codes.{even-code, odd-code, even-arc, odd-arc}
+
+abbrev pub reduced : Net → (ℕ → ℤ) → ℕ → ℤ
+reduced N π a = (cost N a +ℤ π (tail N a)) -ℤ π (head N a)
+
+-- the reduced cost of a step
+abbrev pub stepReduced : Net → (ℕ → ℤ) → ℕ → ℤ
+stepReduced N π c = (stepCost N c +ℤ π (src N c)) -ℤ π (dst N c)
+
+-- no usable step has a reduced cost below 0
+abbrev pub Priced : Net → List ℕ → (ℕ → ℤ) → Type 0
+Priced N f π = (c : ℕ) → c < arcs N + arcs N → usable N f c ≡ true → pos 0 ≤ℤ stepReduced N π c
+
+-- the same, arc by arc
+pub record Optimal (N : Net) (f : List ℕ) (π : ℕ → ℤ) : Type 0 where
+  pub room-up : (a : ℕ) → a < arcs N → getD f a 0 < up N a → pos 0 ≤ℤ reduced N π a
+  pub room-down : (a : ℕ) → a < arcs N → low N a < getD f a 0 → reduced N π a ≤ℤ pos 0
+
+pub priced-optimal : (N : Net) (f : List ℕ) (π : ℕ → ℤ) → Priced N f π → Optimal N f π
+priced-optimal N f π p = record { room-up = forth; room-down = back }
+  where
+    forth : (a : ℕ) → a < arcs N → getD f a 0 < up N a → pos 0 ≤ℤ reduced N π a
+    forth a h l = rw (even-code a, even-arc a) at (p (a + a) (omega arith) (rw (even-code a, even-arc a) (lt-ltb (getD f a 0) (up N a) l)))
+
+    back : (a : ℕ) → a < arcs N → low N a < getD f a 0 → reduced N π a ≤ℤ pos 0
+    back a h l = given (rw (odd-code a, odd-arc a) at (p (suc (a + a)) (omega arith) (rw (odd-code a, odd-arc a) (lt-ltb (low N a) (getD f a 0) l)))) (simp lin (omega arith))
+
+price-arc : (r : ℤ) (x y l u : ℕ) → l ≤ y → y ≤ u → (x < u → pos 0 ≤ℤ r) → (l < x → r ≤ℤ pos 0) → pos 0 ≤ℤ (r *ℤ (pos y -ℤ pos x))
+price-arc r x y l u p q f g = go (decLt x y) (decLt y x)
+  where
+    go : Dec (x < y) → Dec (y < x) → pos 0 ≤ℤ (r *ℤ (pos y -ℤ pos x))
+    go (yes h) d = *-nonneg (f (omega arith)) (simp lin (omega arith))
+    go (no h) (yes k) = *-nonpos (g (omega arith)) (simp lin (omega arith))
+    go (no h) (no k) = given (times-same r (pos y) (pos x) (ap pos (omega arith))) (simp lin (omega arith))
+
+module _ (N : Net) (ok : WellFormed N) where
+  -- the one lemma
+  pub weighted : (f g : List ℕ) (π : ℕ → ℤ)
+      → sum (arcs N) (λ a. (π (tail N a) -ℤ π (head N a)) *ℤ (on g a -ℤ on f a)) ≡ sum (nodes N) (λ v. π v *ℤ (netOut N g v -ℤ netOut N f v))
+  weighted f g π =
+      telescope (nodes N) (arcs N) (tail N) (head N) (λ a. on g a -ℤ on f a) π (ok .tail-in) (ok .head-in)
+      ∙ sum-cong (nodes N) (λ v. π v *ℤ div (arcs N) (tail N) (head N) (λ a. on g a -ℤ on f a) v) (λ v. π v *ℤ (netOut N g v -ℤ netOut N f v)) (λ v k. ap (λ z. π v *ℤ z) (div-sub (arcs N) (tail N) (head N) (on g) (on f) v))
+
+  pub circulation : (f g : List ℕ) (π : ℕ → ℤ) → IsFlow N f → IsFlow N g
+      → sum (arcs N) (λ a. (π (tail N a) -ℤ π (head N a)) *ℤ (on g a -ℤ on f a)) ≡ pos 0
+  circulation f g π ff fg =
+      weighted f g π
+      ∙ sum-none (nodes N) (λ v. π v *ℤ (netOut N g v -ℤ netOut N f v))
+      (λ v k. ap (λ z. π v *ℤ z) (level (netOut N g v) (netOut N f v) (balance N v) (fg .balanced v k) (ff .balanced v k)) ∙ simp ring (omega arith))
+    where
+      level : (x y b : ℤ) → x ≡ b → y ≡ b → x -ℤ y ≡ pos 0
+      level x y b p q = given2 p q (simp lin (omega arith))
+
+  -- what g costs above f, in reduced costs
+  pub gap : (f g : List ℕ) (π : ℕ → ℤ) → IsFlow N f → IsFlow N g
+      → costOf N g -ℤ costOf N f ≡ sum (arcs N) (λ a. reduced N π a *ℤ (on g a -ℤ on f a))
+  gap f g π ff fg =
+      given3 split costs (circulation f g π ff fg) (simp lin (omega arith))
+    where
+      expand : (c p q x y : ℤ) → ((c +ℤ p) -ℤ q) *ℤ (x -ℤ y) ≡ (c *ℤ x -ℤ c *ℤ y) +ℤ (p -ℤ q) *ℤ (x -ℤ y)
+      expand c p q x y = simp ring (omega arith)
+
+      split : sum (arcs N) (λ a. reduced N π a *ℤ (on g a -ℤ on f a))
+          ≡ sum (arcs N) (λ a. cost N a *ℤ on g a -ℤ cost N a *ℤ on f a) +ℤ sum (arcs N) (λ a. (π (tail N a) -ℤ π (head N a)) *ℤ (on g a -ℤ on f a))
+      split =
+          sum-cong (arcs N) (λ a. reduced N π a *ℤ (on g a -ℤ on f a)) (λ a. (cost N a *ℤ on g a -ℤ cost N a *ℤ on f a) +ℤ (π (tail N a) -ℤ π (head N a)) *ℤ (on g a -ℤ on f a))
+          (λ a l. expand (cost N a) (π (tail N a)) (π (head N a)) (on g a) (on f a))
+          ∙ sum-add (arcs N) (λ a. cost N a *ℤ on g a -ℤ cost N a *ℤ on f a) (λ a. (π (tail N a) -ℤ π (head N a)) *ℤ (on g a -ℤ on f a))
+
+      costs : sum (arcs N) (λ a. cost N a *ℤ on g a -ℤ cost N a *ℤ on f a) ≡ costOf N g -ℤ costOf N f
+      costs = sum-sub (arcs N) (λ a. cost N a *ℤ on g a) (λ a. cost N a *ℤ on f a)
+
+  terms : (f g : List ℕ) (π : ℕ → ℤ) → Optimal N f π → IsFlow N g → (a : ℕ) → a < arcs N → pos 0 ≤ℤ (reduced N π a *ℤ (on g a -ℤ on f a))
+  terms f g π o fg a l = price-arc (reduced N π a) (getD f a 0) (getD g a 0) (low N a) (up N a) (fg .above a l) (fg .below a l) (o .room-up a l) (o .room-down a l)
+
+  -- (a) optimality
+  pub optimal-least : (f : List ℕ) (π : ℕ → ℤ) → IsFlow N f → Optimal N f π → LeastCost N f
+  optimal-least f π ff o = record { flow = ff; least = least }
+    where
+      least : (g : List ℕ) → IsFlow N g → costOf N f ≤ℤ costOf N g
+      least g fg = given2 (gap f g π ff fg) (sum-nonneg (arcs N) (λ a. reduced N π a *ℤ (on g a -ℤ on f a)) (terms f g π o fg)) (simp lin (omega arith))
+
+  pub priced-least : (f : List ℕ) (π : ℕ → ℤ) → IsFlow N f → Priced N f π → LeastCost N f
+  priced-least f π ff p = optimal-least f π ff (priced-optimal N f π p)
+
+  -- (b) tight arcs
+  pub off-tight : (f g : List ℕ) (π : ℕ → ℤ) → IsFlow N f → Optimal N f π → LeastCost N g → (a : ℕ) → a < arcs N → reduced N π a ≢ pos 0 → getD g a 0 ≡ getD f a 0
+  off-tight f g π ff o lg a l ne =
+      given (zero-product (reduced N π a) (on g a -ℤ on f a) (sum-zero-each (arcs N) (λ a. reduced N π a *ℤ (on g a -ℤ on f a)) (terms f g π o (lg .flow)) none a l) ne)
+      (simp lin (omega arith))
+    where
+      none : sum (arcs N) (λ a. reduced N π a *ℤ (on g a -ℤ on f a)) ≡ pos 0
+      none = close (costOf N g) (costOf N f) (sum (arcs N) (λ a. reduced N π a *ℤ (on g a -ℤ on f a))) (gap f g π ff (lg .flow)) (lg .least f ff) (optimal-least f π ff o .least g (lg .flow))
+        where
+          close : (x y s : ℤ) → x -ℤ y ≡ s → x ≤ℤ y → y ≤ℤ x → s ≡ pos 0
+          close x y s e p q = given3 e p q (simp lin (omega arith))
+
+  -- prices of one least-cost flow are prices of every other
+  pub optimal-any : (f g : List ℕ) (π : ℕ → ℤ) → IsFlow N f → Optimal N f π → LeastCost N g → Optimal N g π
+  optimal-any f g π ff o lg = record { room-up = λ a l h. up-go a l h (leZ-or-lt (pos 0) (reduced N π a)); room-down = λ a l h. down-go a l h (leZ-or-lt (reduced N π a) (pos 0)) }
+    where
+      up-go : (a : ℕ) → a < arcs N → getD g a 0 < up N a → (pos 0 ≤ℤ reduced N π a) ⊎ (reduced N π a <ℤ pos 0) → pos 0 ≤ℤ reduced N π a
+      up-go a l h (inl p) = p
+      up-go a l h (inr p) = o .room-up a l (omega (arith, off-tight f g π ff o lg a l (λ e. given2 e p (simp lin (omega arith)))))
+
+      down-go : (a : ℕ) → a < arcs N → low N a < getD g a 0 → (reduced N π a ≤ℤ pos 0) ⊎ (pos 0 <ℤ reduced N π a) → reduced N π a ≤ℤ pos 0
+      down-go a l h (inl p) = p
+      down-go a l h (inr p) = o .room-down a l (omega (arith, off-tight f g π ff o lg a l (λ e. given2 e p (simp lin (omega arith)))))
