@@ -15,6 +15,7 @@ pub mod Lexicographic
 pub mod Equality
 pub mod Within
 pub mod Padded
+pub mod Store
 pub mod Run
 pub mod Seen
 pub mod Count

@@ -1,0 +1,1 @@
+// The search for a negative cycle in the residual network of a flow.
