@@ -1,3 +1,4 @@
 pub mod Codes
 pub mod Relax
 pub mod Rounds
+pub mod Cycles

@@ -17,14 +17,14 @@ use Rattle.laws.specs.Store.{set-cases}
 use Rattle.laws.specs.Pigeonhole.{Found, find}
 use Rattle.network.specs.Network.{Net}
 use Rattle.network.specs.Residual.{codes, src, dst, stepCost}
-use Rattle.search.specs.Labels.{Searchable, roomy, State, state, label, pred, offer, better, relaxed, back, backCost, Backs, Round, Labelled}
+use Rattle.search.specs.Labels.{Graph, Searchable, roomy, State, state, label, pred, offer, better, relaxed, back, backCost, Backs, Round, Labelled}
 use Rattle.search.proofs.Codes.{src-in, dst-in}
 
 -- a way back along codes stays among the nodes
-pub back-in : (N : Net) (f : List ℕ) → Searchable N f → (p : List ℕ) (x t : ℕ) → x < 64 → Backs N p t x → (j : ℕ) → j ≤ t → back N p j x < 64
+pub back-in : (N : Net) → Graph N → (p : List ℕ) (x t : ℕ) → x < 64 → Backs N p t x → (j : ℕ) → j ≤ t → back N p j x < 64
 unfolding back
-back-in N f ok p x t h b zero l = h
-back-in N f ok p x t h b (suc j) l = src-in N f ok (pred p (back N p j x)) (b j (omega arith))
+back-in N ok p x t h b zero l = h
+back-in N ok p x t h b (suc j) l = src-in N ok (pred p (back N p j x)) (b j (omega arith))
 
 -- labels fall by at least the cost of the way back
 module _ (N : Net) (p : List ℕ) (e : ℕ → ℤ) (x t : ℕ)
@@ -67,7 +67,7 @@ module _ (N : Net) (f : List ℕ) (ok : Searchable N f) (δ : ℕ) (d : List ℤ
   p′ = set p v c
 
   end-in : v < 64
-  end-in = dst-in N f ok c in-range
+  end-in = dst-in N (ok .graph) c in-range
 
   in-labels : v < length d
   in-labels = omega (arith, end-in, L .labels-len)
@@ -117,7 +117,7 @@ module _ (N : Net) (f : List ℕ) (ok : Searchable N f) (δ : ℕ) (d : List ℤ
   negative′ x t r = go (find t (λ i. back N p′ i x) v)
     where
       node : (i : ℕ) → i ≤ t → back N p′ i x < 64
-      node i l = back-in N f ok p′ x t (r .node) (r .steps) i l
+      node i l = back-in N (ok .graph) p′ x t (r .node) (r .steps) i l
 
       drops : (i : ℕ) → i < t → (getD d (back N p′ (suc i) x) (pos 0) +ℤ stepCost N (pred p′ (back N p′ i x))) ≤ℤ getD d (back N p′ i x) (pos 0)
       drops i l = drop-any (back N p′ i x) (node i (omega arith)) (r .steps i l)

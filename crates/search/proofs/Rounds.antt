@@ -34,7 +34,7 @@ module _ (N : Net) (f : List ℕ) (ok : Searchable N f) (δ : ℕ) where
   -- one code: by whether it is better
   module _ (s : State) (c : ℕ) (h : c < codes N) (len : length (s .labels) ≡ 64) where
     long : dst N c < length (s .labels)
-    long = omega (arith, dst-in N f ok c h)
+    long = omega (arith, dst-in N (ok .graph) c h)
 
     one-falls : (w : ℕ) → label (relaxed N f δ c s) w ≤ℤ label s w
     one-falls w = go (better N f δ c s) refl
@@ -111,7 +111,7 @@ module _ (N : Net) (f : List ℕ) (ok : Searchable N f) (δ : ℕ) where
   changed-step d₀ r s h len falls ch = go (better N f δ r s) refl
     where
       long : dst N r < length (s .labels)
-      long = omega (arith, dst-in N f ok r h)
+      long = omega (arith, dst-in N (ok .graph) r h)
 
       next : (t : Bool) → State
       next t = record { labels = cond t (set (s .labels) (dst N r) (offer N r s)) (s .labels); preds = cond t (set (s .preds) (dst N r) r) (s .preds); last = cond t (dst N r) (s .last) }
@@ -129,7 +129,7 @@ module _ (N : Net) (f : List ℕ) (ok : Searchable N f) (δ : ℕ) where
 
       go : (t : Bool) → better N f δ r s ≡ t → Changed d₀ (suc r) (record { labels = cond t (set (s .labels) (dst N r) (offer N r s)) (s .labels); preds = cond t (set (s .preds) (dst N r) r) (s .preds); last = cond t (dst N r) (s .last) })
       go true e =
-          noisy (dst-in N f ok r h)
+          noisy (dst-in N (ok .graph) r h)
           (rw (getD-set-same (s .labels) (dst N r) (offer N r s) (pos 0) long)
             (given2 (ltZ-true (offer N r s) (label s (dst N r)) (and-true (roomy N f δ r) _ e .1)) (falls (dst N r)) (simp lin (omega arith))))
       go false e = still e ch
@@ -148,8 +148,8 @@ module _ (N : Net) (f : List ℕ) (ok : Searchable N f) (δ : ℕ) where
       go true = record {
         labels-len = length-set (s .labels) (dst N c) (offer N c s) ∙ z .labels-len;
         preds-len = length-set (s .preds) (dst N c) c ∙ z .preds-len;
-        small = set-cases (λ j y. j < 64 → Bounded (B + 1000000) y) (s .labels) (dst N c) (offer N c s) (pos 0) (omega (arith, dst-in N f ok c h, z .labels-len))
-            (λ _. bounded-add (z .small (src N c) (src-in N f ok c h)) (step-small N f ok c h)) (λ j q l. bounded-more (omega arith) (z .small j l));
+        small = set-cases (λ j y. j < 64 → Bounded (B + 1000000) y) (s .labels) (dst N c) (offer N c s) (pos 0) (omega (arith, dst-in N (ok .graph) c h, z .labels-len))
+            (λ _. bounded-add (z .small (src N c) (src-in N (ok .graph) c h)) (step-small N f ok c h)) (λ j q l. bounded-more (omega arith) (z .small j l));
       }
       go false = record { labels-len = z .labels-len; preds-len = z .preds-len; small = λ v l. bounded-more (omega arith) (z .small v l) }
 

@@ -1,30 +1,35 @@
 -- A label-correcting search (Bellman and Ford) over the residual arcs that have room for a given amount.
 use mathlib.Core.Path.{_≡_}
 use mathlib.Core.Bool.{Bool, true, cond, _&&_}
-use mathlib.Core.List.{List, []}
+use mathlib.Core.List.{List, [], _∷_}
 use Prim.Native.Nat.{ℕ, zero, suc, _+_, _*_, _/_, _≤_, _<_}
 use lib.Dec.{leb}
-use lib.ListN.{length, getD, set}
+use lib.ListN.{length, getD, set, take}
 use lib.IntN.{ℤ, pos, _+ℤ_}
 use lib.Signed.{ltZ, _≤ℤ_, _<ℤ_}
 use Rattle.laws.specs.Range.{Bounded}
+use Rattle.laws.specs.Members.{Every}
 use Rattle.network.specs.Network.{Net, arcs, tail, head, low, up, cost}
-use Rattle.network.specs.Residual.{codes, either, src, dst, stepCost}
+use Rattle.network.specs.Residual.{codes, either, src, dst, stepCost, walkCost, Cycle}
 
 -- the network of the lists that the search reads; it reads no balances
 abbrev pub graph : List ℕ → List ℕ → List ℕ → List ℕ → List ℤ → Net
 graph t h l u c = record { balances = []; tails = t; heads = h; lows = l; ups = u; costs = c }
 
--- lists of one length, ends below 64, small costs
-pub record Searchable (N : Net) (f : List ℕ) : Type 0 where
+-- at most 512 arcs, with ends below 64
+pub record Graph (N : Net) : Type 0 where
   pub few : arcs N ≤ 512
   pub heads-len : length (N .heads) ≡ arcs N
+  pub tail-in : (a : ℕ) → a < arcs N → tail N a < 64
+  pub head-in : (a : ℕ) → a < arcs N → head N a < 64
+
+-- and as many bounds, costs and numbers of a flow within the bounds
+pub record Searchable (N : Net) (f : List ℕ) : Type 0 where
+  pub graph : Graph N
   pub lows-len : length (N .lows) ≡ arcs N
   pub ups-len : length (N .ups) ≡ arcs N
   pub costs-len : length (N .costs) ≡ arcs N
   pub flow-len : length f ≡ arcs N
-  pub tail-in : (a : ℕ) → a < arcs N → tail N a < 64
-  pub head-in : (a : ℕ) → a < arcs N → head N a < 64
   pub up-small : (a : ℕ) → a < arcs N → up N a ≤ 1000000
   pub low-flow : (a : ℕ) → a < arcs N → low N a ≤ getD f a 0
   pub flow-up : (a : ℕ) → a < arcs N → getD f a 0 ≤ up N a
@@ -56,13 +61,17 @@ offer N c s = label s (src N c) +ℤ stepCost N c
 abbrev pub better : Net → List ℕ → ℕ → ℕ → State → Bool
 better N f δ c s = roomy N f δ c && ltZ (offer N c s) (label s (dst N c))
 
+-- label x and predecessor c for node v, if so
+abbrev pub setIf : Bool → ℕ → ℤ → ℕ → State → State
+setIf b v x c s = record {
+  labels = cond b (set (s .labels) v x) (s .labels);
+  preds = cond b (set (s .preds) v c) (s .preds);
+  last = cond b v (s .last);
+}
+
 -- one residual arc tried, and the first r of them in order
 abbrev pub relaxed : Net → List ℕ → ℕ → ℕ → State → State
-relaxed N f δ c s = record {
-  labels = cond (better N f δ c s) (set (s .labels) (dst N c) (offer N c s)) (s .labels);
-  preds = cond (better N f δ c s) (set (s .preds) (dst N c) c) (s .preds);
-  last = cond (better N f δ c s) (dst N c) (s .last);
-}
+relaxed N f δ c s = setIf (better N f δ c s) (dst N c) (offer N c s) c s
 
 unfoldable pub relaxedAll : Net → List ℕ → ℕ → ℕ → State → State
 relaxedAll N f δ zero s = s
@@ -94,6 +103,21 @@ pub record Round (N : Net) (p : List ℕ) (x t : ℕ) : Type 0 where
   pub steps : Backs N p t x
   pub closes : back N p t x ≡ x
 
+-- some number of steps, at most 64, leads back from x to x; and the least one
+pub record Returns (N : Net) (p : List ℕ) (x : ℕ) : Type 0 where
+  pub steps : ℕ
+  pub few : steps ≤ 64
+  pub round : Round N p x steps
+
+pub record Period (N : Net) (p : List ℕ) (x t : ℕ) : Type 0 where
+  pub round : Round N p x t
+  pub first : (i : ℕ) → 0 < i → i < t → ¬ (back N p i x ≡ x)
+
+-- the codes of t steps back from x: a walk that ends there, its last code first
+abbrev pub trail : Net → List ℕ → ℕ → ℕ → List ℕ
+trail N p zero x = []
+trail N p (suc t) x = pred p x ∷ trail N p t (src N (pred p x))
+
 -- the way back from x ends after t steps
 pub record Ends (N : Net) (p : List ℕ) (x t : ℕ) : Type 0 where
   pub few : t < 64
@@ -112,3 +136,30 @@ pub record Labelled (N : Net) (f : List ℕ) (δ : ℕ) (d : List ℤ) (p : List
   pub offers : (v : ℕ) → v < 64 → pred p v < codes N → (getD d (src N (pred p v)) (pos 0) +ℤ stepCost N (pred p v)) ≤ℤ getD d v (pos 0)
   -- what leads back to itself costs less than 0
   pub negative : (x t : ℕ) → Round N p x t → backCost N p t x <ℤ pos 0
+
+-- 64 steps back from v, or fewer to a node without a predecessor (64)
+pub data WentBack (N : Net) (p : List ℕ) (v r : ℕ) : Type 0 where
+  ended : r ≡ 64 → (t : ℕ) → Ends N p v t → WentBack N p v r
+  went : r ≡ back N p 64 v → Backs N p 64 v → WentBack N p v r
+
+-- r codes lead back from x to x for the first time
+pub record Collected (N : Net) (p : List ℕ) (x : ℕ) (out : List ℕ) (r : ℕ) : Type 0 where
+  pub few : r ≤ 64
+  pub period : Period N p x r
+  pub are : take r out ≡ trail N p r x
+
+-- no residual arc with room for δ has a reduced cost below 0
+pub record Quiet (N : Net) (f : List ℕ) (δ : ℕ) (π : ℕ → ℤ) : Type 0 where
+  pub low : (v : ℕ) → π v ≤ℤ pos 0
+  pub reduced : (c : ℕ) → c < codes N → roomy N f δ c ≡ true → π (dst N c) ≤ℤ (π (src N c) +ℤ stepCost N c)
+
+-- a residual cycle of cost below 0, each of its arcs with room for δ
+pub record NegativeCycle (N : Net) (f : List ℕ) (δ : ℕ) (cs : List ℕ) : Type 0 where
+  pub cycle : Cycle N f cs
+  pub room : Every (λ c. roomy N f δ c ≡ true) cs
+  pub negative : walkCost N cs <ℤ pos 0
+
+-- what the search ends with: the count of a negative cycle's codes; or 0, and there is none
+pub data Searched (N : Net) (f : List ℕ) (δ : ℕ) (out : List ℕ) (r : ℕ) : Type 0 where
+  found : r ≤ 64 → NegativeCycle N f δ (take r out) → Searched N f δ out r
+  none : r ≡ 0 → (π : ℕ → ℤ) → Quiet N f δ π → Searched N f δ out r
