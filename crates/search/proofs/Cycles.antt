@@ -18,7 +18,7 @@ use Rattle.laws.specs.Pigeonhole.{Twice, pigeon}
 use Rattle.network.specs.Network.{Net, low, up}
 use Rattle.network.specs.Residual.{codes, usable, src, dst, stepCost, Walk, walkCost, Cycle}
 use Rattle.search.specs.Labels.{Graph, roomy, pred, back, backCost, Backs, Round, Returns, Ends, Period, trail, Labelled}
-use Rattle.search.proofs.Relax.{back-in, slope}
+use Rattle.search.proofs.Relaxing.{back-in, slope}
 use Rattle.search.proofs.Rounds.{Trip, AtMost}
 
 module _ (N : Net) (p : List ℕ) where

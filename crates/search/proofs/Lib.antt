@@ -1,4 +1,6 @@
 pub mod Codes
-pub mod Relax
+mod Sums
+mod Arcs
+pub mod Relaxing
 pub mod Rounds
 pub mod Cycles

@@ -19,7 +19,7 @@ use Rattle.network.specs.Network.{Net}
 use Rattle.network.specs.Residual.{codes, src, dst, stepCost, walkCost}
 use Rattle.search.specs.Labels.{Searchable, roomy, State, state, label, pred, offer, better, relaxed, relaxedAll, Sized, Labelled}
 use Rattle.search.proofs.Codes.{src-in, dst-in, step-small}
-use Rattle.search.proofs.Relax.{labelled-relaxed}
+use Rattle.search.proofs.Relaxing.{labelled-relaxed}
 
 -- a walk of codes that have room, the last one first
 abbrev pub Trip : Net → List ℕ → ℕ → ℕ → ℕ → List ℕ → Type 0
@@ -141,7 +141,7 @@ module _ (N : Net) (f : List ℕ) (ok : Searchable N f) (δ : ℕ) where
       changed-step d r (relaxedAll N f δ r (state d p 64)) h (all-length (state d p 64) len r (omega arith)) (all-falls (state d p 64) len r (omega arith)) (round-changed d p len r (omega arith))
 
   -- how large labels can be
-  one-sized : (B : ℕ) (s : State) (c : ℕ) → c < codes N → Sized B (s .labels) (s .preds) → Sized (B + 1000000) (relaxed N f δ c s .labels) (relaxed N f δ c s .preds)
+  pub one-sized : (B : ℕ) (s : State) (c : ℕ) → c < codes N → Sized B (s .labels) (s .preds) → Sized (B + 1000000) (relaxed N f δ c s .labels) (relaxed N f δ c s .preds)
   one-sized B s c h z = go (better N f δ c s)
     where
       go : (t : Bool) → Sized (B + 1000000) (cond t (set (s .labels) (dst N c) (offer N c s)) (s .labels)) (cond t (set (s .preds) (dst N c) c) (s .preds))

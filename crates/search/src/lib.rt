@@ -1,1 +1,73 @@
-// The search for a negative cycle in the residual network of a flow.
+// The search for a negative cycle in the residual network of a flow: labels corrected in rounds over the arcs (Bellman and Ford).
+ghost use mathlib.Core.Path.{_≡_};
+ghost use mathlib.Core.Bool.{_&&_};
+ghost use Prim.Native.Nat.{ℕ, suc, _+_, _/_, _≤_, _<_};
+ghost use lib.ListN.{length, getD};
+ghost use lib.IntN.{ℤ, pos, _+ℤ_};
+ghost use lib.Signed.{ltZ};
+ghost use mir.Syntax.{w64};
+ghost use mir.Val.{SFits};
+ghost use mathlib.Core.List.{[]};
+ghost use Rattle.network.specs.Residual.{codes, either};
+ghost use Rattle.search.specs.Labels.{graph, Graph, Searchable, state, label, setIf, relaxed, relaxedAll, Sized, Returns, WentBack, Collected, Searched};
+
+fn wide(c: i32) -> i64
+    ensures { λ r. ⌜ r ≡ c ⌝ }
+{
+    c as i64
+}
+
+// The residual arc `code` from u to v, if it is on: a better label for v, or nothing. The node whose label fell last.
+fn relax(
+    labels: &mut [i64],
+    preds: &mut [u16],
+    on: bool,
+    u: usize,
+    v: usize,
+    c: i64,
+    code: u16,
+    last: usize,
+) -> usize
+    requires { ⌜ (u < length (now labels)) × (v < length (now labels)) × (v < length (now preds)) × SFits w64 (getD (now labels) u (pos 0) +ℤ c) ⌝ }
+    ensures { λ r. ⌜ state (now (labels .exit)) (now (preds .exit)) r ≡ setIf (on && ltZ (getD (now (labels .entry)) u (pos 0) +ℤ c) (getD (now (labels .entry)) v (pos 0))) v (getD (now (labels .entry)) u (pos 0) +ℤ c) code (state (now (labels .entry)) (now (preds .entry)) last) ⌝ }
+{
+    if !on {
+        return last;
+    }
+    let a = labels[u];
+    let b = labels[v];
+    let x = a + c;
+    if x < b {
+        labels[v] = x;
+        preds[v] = code;
+        return v;
+    }
+    last
+}
+
+// Both residual arcs of arc a, where `need` more can go.
+fn relax_arc(
+    tails: &[u8],
+    heads: &[u8],
+    lows: &[u32],
+    ups: &[u32],
+    costs: &[i32],
+    flow: &[u32],
+    need: u32,
+    labels: &mut [i64],
+    preds: &mut [u16],
+    a: usize,
+    last: usize,
+) -> usize
+    requires { ⌜ Searchable (graph (now tails) (now heads) (now lows) (now ups) (now costs)) (now flow) × Sized 90000000000 (now labels) (now preds) × (a < length (now tails)) × (need ≤ 1000000) ⌝ }
+    ensures { λ r. ⌜ state (now (labels .exit)) (now (preds .exit)) r ≡ relaxed (graph (now (tails .entry)) (now (heads .entry)) (now (lows .entry)) (now (ups .entry)) (now (costs .entry))) (now (flow .entry)) need (suc (a + a)) (relaxed (graph (now (tails .entry)) (now (heads .entry)) (now (lows .entry)) (now (ups .entry)) (now (costs .entry))) (now (flow .entry)) need (a + a) (state (now (labels .entry)) (now (preds .entry)) last)) ⌝ }
+{
+    let t = tails[a] as usize;
+    let h = heads[a] as usize;
+    let c = wide(costs[a]);
+    let f = flow[a];
+    let forward = f + need <= ups[a];
+    let next = relax(labels, preds, forward, t, h, c, (a + a) as u16, last);
+    let backward = lows[a] + need <= f;
+    relax(labels, preds, backward, h, t, -c, (a + a + 1) as u16, next)
+}

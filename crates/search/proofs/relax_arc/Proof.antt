@@ -1,0 +1,214 @@
+use borrow.Author.Needs.{needs}
+use mathlib.Core.Path.{_≡_, refl, sym, ap, subst, _∙_}
+use mathlib.Core.Bool.{_&&_}
+use mathlib.Core.List.{List}
+use Prim.Native.Nat.{ℕ, suc, _+_, _<_, _≤_}
+use native.Mathlib.Omega.{arith}
+use native.Mathlib.Numerals.{add-one}
+use lib.Dec.{leb}
+use lib.ListN.{length, getD}
+use lib.IntN.{ℤ, pos, negℤ, _+ℤ_, _-ℤ_}
+use lib.Signed.{ltZ}
+use mir.Syntax.{w32, w64}
+use mir.Val.{SFits, toZ, ofZ}
+use mir.Facts.{toZ-ofZ}
+use Rattle.laws.specs.Linear.{lin}
+use Rattle.laws.specs.Range.{Bounded, bounded-add, bounded-neg, bounded-fits}
+use Rattle.network.specs.Network.{Net, tail, head, cost}
+use Rattle.network.specs.Residual.{codes}
+use Rattle.search.specs.Labels.{graph, Searchable, State, state, label, setIf, relaxed, Sized}
+use Rattle.search.proofs.Rounds.{one-sized}
+use Rattle.search.proofs.Arcs.{forward, backward}
+use Rattle.search.proofs.relax_arc.Statement.{statement}
+use Rattle.search.proofs.relax_arc.Tie as tie
+
+-- the lists that the function reads, and what it is told of them
+module _ (s : tie.Start) where
+  abbrev net : Net
+  net = graph (s .args .tails .now) (s .args .heads .now) (s .args .lows .now) (s .args .ups .now) (s .args .costs .now)
+
+  ok : Searchable net (s .args .flow .now)
+  ok = s .pre .0
+
+  inside : s .args .a < length (s .args .tails .now)
+  inside = s .pre .2
+
+  tail-in : getD (s .args .tails .now) (s .args .a) 0 < 64
+  tail-in = ok .graph .tail-in (s .args .a) inside
+
+  head-in : getD (s .args .heads .now) (s .args .a) 0 < 64
+  head-in = ok .graph .head-in (s .args .a) inside
+
+  cost-small : Bounded 1000000 (getD (s .args .costs .now) (s .args .a) (pos 0))
+  cost-small = ok .cost-small (s .args .a) inside
+
+  at-label : {v : ℕ} → v < 64 → v < length (s .args .labels .now)
+  at-label h = omega (arith, s .pre .1 .labels-len)
+
+  at-pred : {v : ℕ} → v < 64 → v < length (s .args .preds .now)
+  at-pred h = omega (arith, s .pre .1 .preds-len)
+
+fits : {B : ℕ} {x y : ℤ} → B ≤ 91000000000 → Bounded B x → Bounded 1000000 y → SFits w64 (x +ℤ y)
+fits {B} l h k = bounded-fits w64 (B + 1000000) _ (bounded-add h k) (omega arith)
+
+minus-small : {x : ℤ} → Bounded 1000000 x → Bounded 1000000 (pos 0 -ℤ x)
+minus-small {x} h = bounded-add {A = 0} {B = 1000000} {x = pos 0} {y = negℤ x} (omega arith) (bounded-neg h)
+
+-- the cost, widened
+cost-read : (c : tie.After-wide) → toZ w64 (ofZ w64 (c .wide .result)) ≡ getD (c .before .before .before .before .before .before .before .before .before .before .args .costs .now) (c .before .before .before .before .before .before .before .before .before .before .args .a) (pos 0)
+cost-read c = toZ-ofZ {w = w64} (record { sfits = c .wide .ok }) ∙ c .wide .ensures ∙ toZ-ofZ {w = w32} (record { sfits = c .before .wide-arg .given })
+
+abbrev minus-read : tie.After-wide → ℤ
+minus-read c = toZ w64 (ofZ w64 (pos 0 -ℤ toZ w64 (ofZ w64 (c .wide .result))))
+
+minus-is : (c : tie.After-wide) → minus-read c ≡ pos 0 -ℤ getD (c .before .before .before .before .before .before .before .before .before .before .args .costs .now) (c .before .before .before .before .before .before .before .before .before .before .args .a) (pos 0)
+minus-is c =
+    toZ-ofZ {w = w64} (subst (λ z. SFits w64 (pos 0 -ℤ z)) (sym (cost-read c)) (bounded-fits w64 1000000 _ (minus-small (cost-small (c .before .before .before .before .before .before .before .before .before .before))) (omega arith)))
+    ∙ ap (λ z. pos 0 -ℤ z) (cost-read c)
+
+-- after the first call
+module _ (r : tie.After-relax) where
+  abbrev entry : tie.Start
+  entry = r .before .before .before .before .before .before .before .before .before .before .before .before .before .before .before
+
+  abbrev begun : State
+  begun = state (entry .args .labels .now) (entry .args .preds .now) (entry .args .last)
+
+  forth : state (r .relax .last .0) (r .relax .last .1 .0) (r .relax .result) ≡ relaxed (net entry) (entry .args .flow .now) (entry .args .need) (entry .args .a + entry .args .a) begun
+  forth = r .relax .ensures ∙ forward (net entry) (entry .args .flow .now) (entry .args .need) (entry .args .a) begun _ (cost-read (r .before .before .before .before .before))
+
+  sized : Sized 90001000000 (r .relax .last .0) (r .relax .last .1 .0)
+  sized =
+      subst (λ (S : State). Sized 90001000000 (S .labels) (S .preds)) (sym forth)
+      (one-sized (net entry) (entry .args .flow .now) (ok entry) (entry .args .need) 90000000000 begun (entry .args .a + entry .args .a) (omega (arith, inside entry)) (entry .pre .1))
+
+  in-labels : {v : ℕ} → v < 64 → v < length (r .relax .last .0)
+  in-labels h = omega (arith, sized .labels-len)
+
+  in-preds : {v : ℕ} → v < 64 → v < length (r .relax .last .1 .0)
+  in-preds h = omega (arith, sized .preds-len)
+
+shared-slice-read-t : tie.Need-shared-slice-read-t
+shared-slice-read-t c = search needs
+
+cast-t : tie.Need-cast-t
+cast-t c = omega (arith, tail-in (c .before .before .before .before .before .before .before))
+
+shared-slice-read-h : tie.Need-shared-slice-read-h
+shared-slice-read-h c = search needs
+
+cast-h : tie.Need-cast-h
+cast-h c = omega (arith, head-in (c .before .before .before .before .before .before .before .before))
+
+mul-wide : tie.Need-mul-wide
+mul-wide c = search needs
+
+shared-slice-copy-out-wide : tie.Need-shared-slice-copy-out-wide
+shared-slice-copy-out-wide c = search needs
+
+wide-requires : tie.Need-wide-requires
+wide-requires c κs = search needs
+
+mul-f : tie.Need-mul-f
+mul-f c = search needs
+
+shared-slice-read-f : tie.Need-shared-slice-read-f
+shared-slice-read-f c = search needs
+
+add-forward : tie.Need-add-forward
+add-forward c = omega (arith, ok (c .before .before .before .before .before .before .before .before .before .before .before) .flow-up (c .before .before .before .before .before .before .before .before .before .before .before .args .a) (inside (c .before .before .before .before .before .before .before .before .before .before .before)), ok (c .before .before .before .before .before .before .before .before .before .before .before) .up-small (c .before .before .before .before .before .before .before .before .before .before .before .args .a) (inside (c .before .before .before .before .before .before .before .before .before .before .before)), c .before .before .before .before .before .before .before .before .before .before .before .pre .3)
+
+mul-forward : tie.Need-mul-forward
+mul-forward c = search needs
+
+shared-slice-read-forward : tie.Need-shared-slice-read-forward
+shared-slice-read-forward c = search needs
+
+add-relax : tie.Need-add-relax
+add-relax c = search needs
+
+cast-relax : tie.Need-cast-relax
+cast-relax c = search needs
+
+relax-requires : tie.Need-relax-requires
+relax-requires c κs =
+    let s = c .before .before .before .before .before .before .before .before .before .before .before .before .before .before in
+    let w = c .before .before .before .before in
+    (at-label s (tail-in s), at-label s (head-in s), at-pred s (head-in s), rw (cost-read w) (fits (omega arith) (s .pre .1 .small _ (tail-in s)) (cost-small s)))
+
+mul-backward : tie.Need-mul-backward
+mul-backward c = search needs
+
+shared-slice-read-backward : tie.Need-shared-slice-read-backward
+shared-slice-read-backward c = search needs
+
+add-backward : tie.Need-add-backward
+add-backward c = omega (arith, ok (c .before .before .before .before .before .before .before .before .before .before .before .before .before .before .before .before .before .before .before) .low-flow (c .before .before .before .before .before .before .before .before .before .before .before .before .before .before .before .before .before .before .before .args .a) (inside (c .before .before .before .before .before .before .before .before .before .before .before .before .before .before .before .before .before .before .before)), ok (c .before .before .before .before .before .before .before .before .before .before .before .before .before .before .before .before .before .before .before) .flow-up (c .before .before .before .before .before .before .before .before .before .before .before .before .before .before .before .before .before .before .before .args .a) (inside (c .before .before .before .before .before .before .before .before .before .before .before .before .before .before .before .before .before .before .before)), ok (c .before .before .before .before .before .before .before .before .before .before .before .before .before .before .before .before .before .before .before) .up-small (c .before .before .before .before .before .before .before .before .before .before .before .before .before .before .before .before .before .before .before .args .a) (inside (c .before .before .before .before .before .before .before .before .before .before .before .before .before .before .before .before .before .before .before)), c .before .before .before .before .before .before .before .before .before .before .before .before .before .before .before .before .before .before .before .pre .3)
+
+sub-relax : tie.Need-sub-relax
+sub-relax c = rw (cost-read (c .before .before .before .before .before .before .before .before .before .before .before)) (bounded-fits w64 1000000 _ (minus-small (cost-small (c .before .before .before .before .before .before .before .before .before .before .before .before .before .before .before .before .before .before .before .before .before))) (omega arith))
+
+add-relax-2 : tie.Need-add-relax-2
+add-relax-2 c = search needs
+
+add-relax-3 : tie.Need-add-relax-3
+add-relax-3 c = search needs
+
+cast-relax-2 : tie.Need-cast-relax-2
+cast-relax-2 c = search needs
+
+relax-requires-2 : tie.Need-relax-requires-2
+relax-requires-2 c κs =
+    let r = c .before .before .before .before .before .before in
+    let s = entry r in
+    (in-labels r (head-in s), in-labels r (tail-in s), in-preds r (tail-in s), rw (minus-is (r .before .before .before .before .before)) (fits (omega arith) (sized r .small _ (head-in s)) (minus-small (cost-small s))))
+
+same-length : tie.Need-same-length
+same-length c = search needs
+
+same-length-2 : tie.Need-same-length-2
+same-length-2 c = search needs
+
+returns : tie.Need-returns
+returns c =
+    let q = c .before .before .before in
+    let r = q .before .before .before .before .before .before .before in
+    let s = entry r in
+    let t = getD (s .args .tails .now) (s .args .a) 0 in
+    let h = getD (s .args .heads .now) (s .args .a) 0 in
+    let y = minus-read (r .before .before .before .before .before) in
+    q .relax2 .ensures
+    ∙ ap (λ (S : State). setIf (leb (getD (s .args .lows .now) (s .args .a) 0 + s .args .need) (getD (s .args .flow .now) (s .args .a) 0) && ltZ (label S h +ℤ y) (label S t)) t (label S h +ℤ y) (s .args .a + s .args .a + 1) S) (forth r)
+    ∙ backward (net s) (s .args .flow .now) (s .args .need) (s .args .a) (relaxed (net s) (s .args .flow .now) (s .args .need) (s .args .a + s .args .a) (begun r)) y (s .args .a + s .args .a + 1)
+    (minus-is (r .before .before .before .before .before) ∙ simp lin (omega arith)) (omega arith)
+
+pub relax-arc-spec : {M : Type 1} → statement M
+relax-arc-spec =
+    tie.close
+    (tie.spec
+    shared-slice-read-t
+    cast-t
+    shared-slice-read-h
+    cast-h
+    mul-wide
+    shared-slice-copy-out-wide
+    wide-requires
+    mul-f
+    shared-slice-read-f
+    add-forward
+    mul-forward
+    shared-slice-read-forward
+    add-relax
+    cast-relax
+    relax-requires
+    mul-backward
+    shared-slice-read-backward
+    add-backward
+    sub-relax
+    add-relax-2
+    add-relax-3
+    cast-relax-2
+    relax-requires-2
+    same-length
+    same-length-2
+    returns)
