@@ -89,7 +89,7 @@ module _ (N : Net) (ok : WellFormed N) where
       → ((v : ℕ) → v < nodes N → S v ≡ true → netOut N f v ≤ℤ balance N v) → (g : List ℕ) → ¬ IsFlow N g
   stuck f S cl s k in-s lacks none = no-flow f S cl
       (given2 (sum-term (nodes N) (λ v. χ (S v) *ℤ (balance N v -ℤ netOut N f v)) (λ v l. each v (S v) (none v l)) s k)
-        (ap (λ b. χ b *ℤ (balance N s -ℤ netOut N f s)) in-s) (λ p q. close (balance N s) (netOut N f s) _ _ q p lacks))
+      (ap (λ b. χ b *ℤ (balance N s -ℤ netOut N f s)) in-s) (λ p q. close (balance N s) (netOut N f s) _ _ q p lacks))
     where
       each : (v : ℕ) (b : Bool) → (b ≡ true → netOut N f v ≤ℤ balance N v) → pos 0 ≤ℤ (χ b *ℤ (balance N v -ℤ netOut N f v))
       each v true h = *-nonneg {x = pos 1} {y = balance N v -ℤ netOut N f v} (simp lin (omega arith)) (given (h refl) (simp lin (omega arith)))

@@ -52,7 +52,7 @@ module _ (N : Net) (f g : List ℕ) (s t δ : ℕ)
       go : Dec (i ≡ t) → pos (plus (lack N g i)) ≡ pos (plus (lack N f i))
       go (yes q) =
           ap pos (plus-le-zero (lack N g i) (met (balance N i) (netOut N g i) (netOut N f i) (at s i (pos δ)) (at t i (pos δ)) (pos δ) (moved i) (at-other (λ p. ne (sym p)) (pos δ)) (at-same (sym q) (pos δ)) (rw q t-has))
-            ∙ sym (plus-le-zero (lack N f i) (low (lack N f i) (pos δ) (rw q t-has) (simp lin (omega arith)))))
+          ∙ sym (plus-le-zero (lack N f i) (low (lack N f i) (pos δ) (rw q t-has) (simp lin (omega arith)))))
         where
           met : (b o′ o x y d : ℤ) → o′ ≡ o +ℤ (x -ℤ y) → x ≡ pos 0 → y ≡ d → (b -ℤ o) ≤ℤ negℤ d → (b -ℤ o′) ≤ℤ pos 0
           met b o′ o x y d p q r h = given4 p q r h (simp lin (omega arith))
@@ -77,7 +77,7 @@ module _ (N : Net) (f g : List ℕ) (s t δ : ℕ)
   relieved =
       plus-lt (sum-nonneg (nodes N) (λ v. pos (plus (lack N g v))) (λ v l. simp lin (omega arith)))
       (drop (lacks N g) (lacks N f) (pos (plus (lack N g s))) (pos (plus (lack N f s))) (pos δ)
-        (sum-change (nodes N) (λ v. pos (plus (lack N f v))) (λ v. pos (plus (lack N g v))) s s-in other) at-s (simp lin (omega arith)))
+      (sum-change (nodes N) (λ v. pos (plus (lack N f v))) (λ v. pos (plus (lack N g v))) s s-in other) at-s (simp lin (omega arith)))
     where
       drop : (x y p q d : ℤ) → x ≡ y +ℤ (p -ℤ q) → p ≡ q -ℤ d → pos 0 <ℤ d → x <ℤ y
       drop x y p q d e h k = given3 e h k (simp lin (omega arith))

@@ -61,13 +61,15 @@ module _ (N : Net) (ok : WellFormed N) where
 
   raised-greater : (f f′ : List ℕ) (k : ℕ) → LeastCost N f → Raised f f′ k → f <lex f′
   raised-greater f f′ k lf r =
-      lex-first-difference f f′ .1
-      (k, record {
-        in-left = omega (arith, lf .flow .all-arcs, r .in-range);
-        in-right = omega (arith, r .least-cost .flow .all-arcs, r .in-range);
-        equal-before = agree-take k f f′ (omega (arith, lf .flow .all-arcs, r .in-range)) (omega (arith, r .least-cost .flow .all-arcs, r .in-range)) (r .same-before);
-        smaller = omega (arith, r .one-more);
-      })
+      lex-first-difference f f′ .1 (
+        k,
+        record {
+          in-left = omega (arith, lf .flow .all-arcs, r .in-range);
+          in-right = omega (arith, r .least-cost .flow .all-arcs, r .in-range);
+          equal-before = agree-take k f f′ (omega (arith, lf .flow .all-arcs, r .in-range)) (omega (arith, r .least-cost .flow .all-arcs, r .in-range)) (r .same-before);
+          smaller = omega (arith, r .one-more);
+        },
+      )
 
   -- no least-cost flow lies between
   none-between : (f f′ : List ℕ) (k : ℕ) → LeastCost N f → Raised f f′ k → TopFrom (suc k) f → MinimalFrom (suc k) f′

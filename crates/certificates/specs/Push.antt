@@ -127,7 +127,7 @@ module _ (N : Net) (δ : ℕ) where
         go true e = rw e (set-netOut N f (c / 2) (getD f (c / 2) 0 + δ) (pos δ) (b .all-arcs) arc-in (pos-add (getD f (c / 2) 0) δ) v)
         go false e =
             rw e (set-netOut N f (c / 2) (getD f (c / 2) 0 - δ) (negℤ (pos δ)) (b .all-arcs) arc-in (pos-sub (getD f (c / 2) 0) δ (omega (arith, fit .back e))) v
-              ∙ ap (λ z. netOut N f v +ℤ z) (turn (at (tail N (c / 2)) v (negℤ (pos δ))) (at (head N (c / 2)) v (negℤ (pos δ))) (at (tail N (c / 2)) v (pos δ)) (at (head N (c / 2)) v (pos δ)) (at-neg (tail N (c / 2)) v (pos δ)) (at-neg (head N (c / 2)) v (pos δ))))
+            ∙ ap (λ z. netOut N f v +ℤ z) (turn (at (tail N (c / 2)) v (negℤ (pos δ))) (at (head N (c / 2)) v (negℤ (pos δ))) (at (tail N (c / 2)) v (pos δ)) (at (head N (c / 2)) v (pos δ)) (at-neg (tail N (c / 2)) v (pos δ)) (at-neg (head N (c / 2)) v (pos δ))))
           where
             turn : (x y p q : ℤ) → x ≡ negℤ p → y ≡ negℤ q → x -ℤ y ≡ q -ℤ p
             turn x y p q d e = given2 d e (simp lin (omega arith))
@@ -139,7 +139,7 @@ module _ (N : Net) (δ : ℕ) where
         go true e = rw e (set-cost N f (c / 2) (getD f (c / 2) 0 + δ) (pos δ) (b .all-arcs) arc-in (pos-add (getD f (c / 2) 0) δ))
         go false e =
             rw e (set-cost N f (c / 2) (getD f (c / 2) 0 - δ) (negℤ (pos δ)) (b .all-arcs) arc-in (pos-sub (getD f (c / 2) 0) δ (omega (arith, fit .back e)))
-              ∙ ap (λ z. costOf N f +ℤ z) (turn (cost N (c / 2)) (pos δ)))
+            ∙ ap (λ z. costOf N f +ℤ z) (turn (cost N (c / 2)) (pos δ)))
           where
             turn : (x d : ℤ) → x *ℤ negℤ d ≡ negℤ x *ℤ d
             turn x d = simp ring (omega arith)
@@ -225,7 +225,7 @@ module _ (N : Net) (δ : ℕ) where
   all-netOut (c ∷ cs) f u v w b t d h =
       chain (netOut N (pushAll δ cs (pushOne δ c f)) w) (netOut N (pushOne δ c f) w) (netOut N f w) (at u w (pos δ)) (at (src N c) w (pos δ)) (at (dst N c) w (pos δ)) (at v w (pos δ))
       (all-netOut cs (pushOne δ c f) u (src N c) w (one-bounds N δ f c b (t .0) (h .0)) (t .2) (d .1)
-        (every-map cs (λ x. x ≢ c) (one-fits N δ f c b (t .0) (h .0)) (d .0) (h .1)))
+      (every-map cs (λ x. x ≢ c) (one-fits N δ f c b (t .0) (h .0)) (d .0) (h .1)))
       (one-netOut N δ f c b (t .0) (h .0) w)
       (ap (λ i. at i w (pos δ)) (t .1))
     where
@@ -241,7 +241,7 @@ module _ (N : Net) (δ : ℕ) where
   all-cost (c ∷ cs) f u v b t d h =
       chain (costOf N (pushAll δ cs (pushOne δ c f))) (costOf N (pushOne δ c f)) (costOf N f) (trailCost N cs) (stepCost N c) (pos δ)
       (all-cost cs (pushOne δ c f) u (src N c) (one-bounds N δ f c b (t .0) (h .0)) (t .2) (d .1)
-        (every-map cs (λ x. x ≢ c) (one-fits N δ f c b (t .0) (h .0)) (d .0) (h .1)))
+      (every-map cs (λ x. x ≢ c) (one-fits N δ f c b (t .0) (h .0)) (d .0) (h .1)))
       (one-cost N δ f c b (t .0) (h .0))
     where
       chain : (x y z t s d : ℤ) → x ≡ y +ℤ t *ℤ d → y ≡ z +ℤ s *ℤ d → x ≡ z +ℤ (s +ℤ t) *ℤ d
@@ -342,9 +342,9 @@ module _ (N : Net) (π : ℕ → ℤ) where
   raised δ f k cs l lf ti room de =
       subst (λ (g : List ℕ). Moved f (pushAll δ cs g) k (getD f k 0 + δ)) is
       (moved δ f k (k + k) cs (even-arc k) (omega arith) lf ti
-        (record { forth = λ _. rw even-arc room; back = λ e. absurd (let z : _≡_ {A = ℕ} 0 1 = cc (e, even-code k) in omega arith) })
-        (rw (even-code k, even-arc k) de) (getD f k 0 + δ)
-        (ap (λ g. getD g k 0) is ∙ getD-set-same f k (getD f k 0 + δ) 0 (omega (arith, lf .flow .all-arcs))))
+      (record { forth = λ _. rw even-arc room; back = λ e. absurd (let z : _≡_ {A = ℕ} 0 1 = cc (e, even-code k) in omega arith) })
+      (rw (even-code k, even-arc k) de) (getD f k 0 + δ)
+      (ap (λ g. getD g k 0) is ∙ getD-set-same f k (getD f k 0 + δ) 0 (omega (arith, lf .flow .all-arcs))))
     where
       is : pushOne δ (k + k) f ≡ set f k (getD f k 0 + δ)
       is = rw (even-code k, even-arc k)
@@ -354,9 +354,9 @@ module _ (N : Net) (π : ℕ → ℤ) where
   lowered δ f k cs l lf ti room de =
       subst (λ (g : List ℕ). Moved f (pushAll δ cs g) k (getD f k 0 - δ)) is
       (moved δ f k (suc (k + k)) cs (odd-arc k) (omega arith) lf ti
-        (record { forth = λ e. absurd (let z : _≡_ {A = ℕ} 0 1 = cc (e, odd-code k) in omega arith); back = λ _. rw odd-arc room })
-        (rw (odd-code k, odd-arc k) de) (getD f k 0 - δ)
-        (ap (λ g. getD g k 0) is ∙ getD-set-same f k (getD f k 0 - δ) 0 (omega (arith, lf .flow .all-arcs))))
+      (record { forth = λ e. absurd (let z : _≡_ {A = ℕ} 0 1 = cc (e, odd-code k) in omega arith); back = λ _. rw odd-arc room })
+      (rw (odd-code k, odd-arc k) de) (getD f k 0 - δ)
+      (ap (λ g. getD g k 0) is ∙ getD-set-same f k (getD f k 0 - δ) 0 (omega (arith, lf .flow .all-arcs))))
     where
       is : pushOne δ (suc (k + k)) f ≡ set f k (getD f k 0 - δ)
       is = rw (odd-code k, odd-arc k)

@@ -233,8 +233,8 @@ module _ (n lo hi : ℕ) (sr ds : ℕ → ℕ) (go : ℕ → Bool) (s : ℕ) whe
     low = every-snoc (λ c. lo ≤ c) cs c (w .low) (l .low);
     goes = every-snoc (λ c. go c ≡ true) cs c (w .goes) (l .goes);
     later = every-snoc (λ d. getD rank (sr c) 0 < getD rank (ds d) 0) cs c
-      (every-map (λ d. getD rank v 0 < getD rank (ds d) 0) (λ d. getD rank (sr c) 0 < getD rank (ds d) 0) cs (λ d h. omega (arith, l .earlier)) (w .later))
-      (omega (arith, l .earlier, ap (λ i. getD rank i 0) (l .ends)));
+        (every-map (λ d. getD rank v 0 < getD rank (ds d) 0) (λ d. getD rank (sr c) 0 < getD rank (ds d) 0) cs (λ d h. omega (arith, l .earlier)) (w .later))
+        (omega (arith, l .earlier, ap (λ i. getD rank i 0) (l .ends)));
   }
 
 -- ---- what tracing back needs to be safe and to end

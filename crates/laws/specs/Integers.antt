@@ -138,7 +138,7 @@ zero-product r d e ne = go (sign d) (sign r)
     go (above x) (below p) = absurd (both-above (negℤ r) d (neg-zero (negℤ r *ℤ d) (r *ℤ d) (*-neg-l r d) e) (neg-above r p) x)
     go (below x) (below p) =
         absurd (both-above (negℤ r) (negℤ d)
-          (neg-zero (negℤ r *ℤ negℤ d) (r *ℤ negℤ d) (*-neg-l r (negℤ d)) (neg-zero (r *ℤ negℤ d) (r *ℤ d) (*-neg-r r d) e)) (neg-above r p) (neg-above d x))
+        (neg-zero (negℤ r *ℤ negℤ d) (r *ℤ negℤ d) (*-neg-l r (negℤ d)) (neg-zero (r *ℤ negℤ d) (r *ℤ d) (*-neg-r r d) e)) (neg-above r p) (neg-above d x))
 
 -- a product with a difference of equals
 pub times-same : (w x y : ℤ) → x ≡ y → w *ℤ (x -ℤ y) ≡ pos 0

@@ -55,12 +55,16 @@ module _ (N : Net) (p : List ℕ) where
   comes-round ok v h b = close (pigeon 64 65 (λ i. back N p i v) (omega arith) (λ i l. back-in N ok p v 64 h b i (omega arith)))
     where
       close : Twice 65 (λ i. back N p i v) → Returns N p (back N p 64 v)
-      close w = record { steps = w .j - w .i; few = omega (arith, w .in-range); round = record {
-        node = back-in N ok p v 64 h b 64 (omega arith);
-        some = omega (arith, w .less);
-        steps = λ m l. subst (λ y. pred p y < codes N) (sym (again m l)) (b (m + 64 - (w .j - w .i)) (omega (arith, w .less, w .in-range)));
-        closes = sym (back-add (w .j - w .i) 64 v) ∙ ap (λ k. back N p k v) over ∙ sym (alike v (w .i) (w .j) (64 - w .i) (w .same)) ∙ ap (λ k. back N p k v) under;
-      } }
+      close w = record {
+        steps = w .j - w .i;
+        few = omega (arith, w .in-range);
+        round = record {
+          node = back-in N ok p v 64 h b 64 (omega arith);
+          some = omega (arith, w .less);
+          steps = λ m l. subst (λ y. pred p y < codes N) (sym (again m l)) (b (m + 64 - (w .j - w .i)) (omega (arith, w .less, w .in-range)));
+          closes = sym (back-add (w .j - w .i) 64 v) ∙ ap (λ k. back N p k v) over ∙ sym (alike v (w .i) (w .j) (64 - w .i) (w .same)) ∙ ap (λ k. back N p k v) under;
+        };
+      }
         where
           over : (w .j - w .i) + 64 ≡ (64 - w .i) + w .j
           over = omega (arith, w .less, w .in-range)
@@ -117,9 +121,13 @@ module _ (N : Net) (f : List ℕ) (ok : Graph N) (δ : ℕ) (d : List ℤ) (p : 
   unfolding back
   trail-trip zero x h b = refl
   trail-trip (suc t) x h b =
-      let k = b 0 (omega arith) in
-      (k, L .room x h k, L .ends x h k, subst (λ y. Trip N f δ y (src N (pred p x)) (trail N p t (src N (pred p x)))) (sym (back-first N p t x))
-        (trail-trip t (src N (pred p x)) (subst (λ z. z < 64) (back-first N p 0 x) (back-in N ok p x (suc t) h b 1 (omega arith))) (backs-first N p t x b)))
+      let k = b 0 (omega arith) in (
+        k,
+        L .room x h k,
+        L .ends x h k,
+        subst (λ y. Trip N f δ y (src N (pred p x)) (trail N p t (src N (pred p x)))) (sym (back-first N p t x))
+            (trail-trip t (src N (pred p x)) (subst (λ z. z < 64) (back-first N p 0 x) (back-in N ok p x (suc t) h b 1 (omega arith))) (backs-first N p t x b)),
+      )
 
   trip-walk : 0 < δ → (u v : ℕ) (cs : List ℕ) → Trip N f δ u v cs → Walk N f u v cs
   trip-walk h u v [] w = w

@@ -4,3 +4,4 @@ mod Arcs
 pub mod Relaxing
 pub mod Rounds
 pub mod Cycles
+mod Ways

@@ -161,7 +161,7 @@ module _ (N : Net) (f : List ℕ) (ok : Searchable N f) (δ : ℕ) (d : List ℤ
     offers = by-node (λ w. pred p′ w < codes N → (getD d′ (src N (pred p′ w)) (pos 0) +ℤ stepCost N (pred p′ w)) ≤ℤ getD d′ w (pos 0))
         (λ k. rw here (at-end (getD d′ (src N c) (pos 0)) (getD d (src N c) (pos 0)) (stepCost N c) (getD d′ v (pos 0)) (falls (src N c)) (getD-set-same d v (getD d (src N c) (pos 0) +ℤ stepCost N c) (pos 0) in-labels)))
         (λ w h q k. elsewhere (getD d′ (src N (pred p′ w)) (pos 0)) (getD d (src N (pred p′ w)) (pos 0)) (stepCost N (pred p′ w)) (getD d′ w (pos 0)) (getD d w (pos 0)) (falls (src N (pred p′ w)))
-          (getD-set-other d v w (getD d (src N c) (pos 0) +ℤ stepCost N c) (pos 0) q) (drop-any w h k));
+        (getD-set-other d v w (getD d (src N c) (pos 0) +ℤ stepCost N c) (pos 0) q) (drop-any w h k));
     negative = negative′;
   }
     where

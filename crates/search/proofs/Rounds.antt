@@ -30,6 +30,9 @@ Trip N f δ u v (c ∷ cs) = (c < codes N) × (roomy N f δ c ≡ true) × (dst 
 abbrev pub AtMost : Net → List ℕ → ℕ → ℕ → List ℤ → Type 0
 AtMost N f δ k d = (u v : ℕ) (cs : List ℕ) → length cs ≤ k → Trip N f δ u v cs → getD d v (pos 0) ≤ℤ walkCost N cs
 
+pub sized-more : {B C : ℕ} {d : List ℤ} {p : List ℕ} → B ≤ C → Sized B d p → Sized C d p
+sized-more h z = record { labels-len = z .labels-len; preds-len = z .preds-len; small = λ v l. bounded-more h (z .small v l) }
+
 module _ (N : Net) (f : List ℕ) (ok : Searchable N f) (δ : ℕ) where
   -- one code: by whether it is better
   module _ (s : State) (c : ℕ) (h : c < codes N) (len : length (s .labels) ≡ 64) where
@@ -87,7 +90,7 @@ module _ (N : Net) (f : List ℕ) (ok : Searchable N f) (δ : ℕ) where
             → label (relaxed N f δ r (after r)) (dst N c) ≤ℤ (label s (src N c) +ℤ stepCost N c)
         go (yes q) deep =
             rw q (first (label (relaxed N f δ r (after r)) (dst N r)) (label (after r) (src N r)) (offer N r (after r)) (label s (src N r)) (stepCost N r)
-              (one-offer (after r) r h (all-length r (omega arith)) (subst (λ k. roomy N f δ k ≡ true) q e)) refl (all-falls r (omega arith) (src N r)))
+            (one-offer (after r) r h (all-length r (omega arith)) (subst (λ k. roomy N f δ k ≡ true) q e)) refl (all-falls r (omega arith) (src N r)))
         go (no q) deep = given2 (one-falls (after r) r h (all-length r (omega arith)) (dst N c)) (deep (omega arith) e) (simp lin (omega arith))
 
     pub all-labelled : Labelled N f δ (s .labels) (s .preds) → (r : ℕ) → r ≤ codes N → Labelled N f δ (after r .labels) (after r .preds)
@@ -113,9 +116,6 @@ module _ (N : Net) (f : List ℕ) (ok : Searchable N f) (δ : ℕ) where
       long : dst N r < length (s .labels)
       long = omega (arith, dst-in N (ok .graph) r h)
 
-      next : (t : Bool) → State
-      next t = record { labels = cond t (set (s .labels) (dst N r) (offer N r s)) (s .labels); preds = cond t (set (s .preds) (dst N r) r) (s .preds); last = cond t (dst N r) (s .last) }
-
       no-better : roomy N f δ r && ltZ (offer N r s) (label s (dst N r)) ≡ false → roomy N f δ r ≡ true → label s (dst N r) ≤ℤ offer N r s
       no-better e q = ltZ-false (offer N r s) (label s (dst N r)) (sym (ap (λ t. t && ltZ (offer N r s) (label s (dst N r))) q) ∙ e)
 
@@ -131,7 +131,7 @@ module _ (N : Net) (f : List ℕ) (ok : Searchable N f) (δ : ℕ) where
       go true e =
           noisy (dst-in N (ok .graph) r h)
           (rw (getD-set-same (s .labels) (dst N r) (offer N r s) (pos 0) long)
-            (given2 (ltZ-true (offer N r s) (label s (dst N r)) (and-true (roomy N f δ r) _ e .1)) (falls (dst N r)) (simp lin (omega arith))))
+          (given2 (ltZ-true (offer N r s) (label s (dst N r)) (and-true (roomy N f δ r) _ e .1)) (falls (dst N r)) (simp lin (omega arith))))
       go false e = still e ch
 
   pub round-changed : (d : List ℤ) (p : List ℕ) → length d ≡ 64 → (r : ℕ) → r ≤ codes N → Changed d r (relaxedAll N f δ r (state d p 64))
@@ -151,11 +151,9 @@ module _ (N : Net) (f : List ℕ) (ok : Searchable N f) (δ : ℕ) where
         small = set-cases (λ j y. j < 64 → Bounded (B + 1000000) y) (s .labels) (dst N c) (offer N c s) (pos 0) (omega (arith, dst-in N (ok .graph) c h, z .labels-len))
             (λ _. bounded-add (z .small (src N c) (src-in N (ok .graph) c h)) (step-small N f ok c h)) (λ j q l. bounded-more (omega arith) (z .small j l));
       }
-      go false = record { labels-len = z .labels-len; preds-len = z .preds-len; small = λ v l. bounded-more (omega arith) (z .small v l) }
+      go false = sized-more (omega arith) z
 
   pub all-sized : (B : ℕ) (s : State) (r : ℕ) → r ≤ codes N → Sized B (s .labels) (s .preds) → Sized (B + 1000000 * r) (relaxedAll N f δ r s .labels) (relaxedAll N f δ r s .preds)
   unfolding relaxedAll
-  all-sized B s zero h z = record { labels-len = z .labels-len; preds-len = z .preds-len; small = λ v l. bounded-more (omega arith) (z .small v l) }
-  all-sized B s (suc r) h z =
-      let q = one-sized (B + 1000000 * r) (relaxedAll N f δ r s) r h (all-sized B s r (omega arith) z) in
-      record { labels-len = q .labels-len; preds-len = q .preds-len; small = λ v l. bounded-more (omega arith) (q .small v l) }
+  all-sized B s zero h z = sized-more (omega arith) z
+  all-sized B s (suc r) h z = sized-more (omega arith) (one-sized (B + 1000000 * r) (relaxedAll N f δ r s) r h (all-sized B s r (omega arith) z))

@@ -8,7 +8,7 @@ ghost use lib.Signed.{ltZ};
 ghost use mir.Syntax.{w64};
 ghost use mir.Val.{SFits};
 ghost use mathlib.Core.List.{[]};
-ghost use Rattle.network.specs.Residual.{codes, either};
+ghost use Rattle.network.specs.Residual.{codes, src};
 ghost use Rattle.search.specs.Labels.{graph, Graph, Searchable, state, label, setIf, relaxed, relaxedAll, Sized, Returns, WentBack, Collected, Searched};
 
 fn wide(c: i32) -> i64
@@ -70,4 +70,129 @@ fn relax_arc(
     let next = relax(labels, preds, forward, t, h, c, (a + a) as u16, last);
     let backward = lows[a] + need <= f;
     relax(labels, preds, backward, h, t, -c, (a + a + 1) as u16, next)
+}
+
+// One round over the arcs. The node whose label fell last, or 64 where none did.
+fn round(
+    tails: &[u8],
+    heads: &[u8],
+    lows: &[u32],
+    ups: &[u32],
+    costs: &[i32],
+    flow: &[u32],
+    need: u32,
+    labels: &mut [i64],
+    preds: &mut [u16],
+) -> usize
+    requires { ⌜ Searchable (graph (now tails) (now heads) (now lows) (now ups) (now costs)) (now flow) × Sized 80000000000 (now labels) (now preds) × (need ≤ 1000000) ⌝ }
+    ensures { λ r. ⌜ state (now (labels .exit)) (now (preds .exit)) r ≡ relaxedAll (graph (now (tails .entry)) (now (heads .entry)) (now (lows .entry)) (now (ups .entry)) (now (costs .entry))) (now (flow .entry)) need (codes (graph (now (tails .entry)) (now (heads .entry)) (now (lows .entry)) (now (ups .entry)) (now (costs .entry)))) (state (now (labels .entry)) (now (preds .entry)) 64) ⌝ }
+{
+    let mut last = 64;
+    for a in 0..tails.len() {
+        last = relax_arc(
+            tails,
+            heads,
+            lows,
+            ups,
+            costs,
+            flow,
+            need,
+            labels,
+            preds,
+            a,
+            last,
+        );
+    }
+    last
+}
+
+// Where the residual arc c starts.
+fn source(tails: &[u8], heads: &[u8], c: usize) -> usize
+    requires { ⌜ (c / 2 < length (now tails)) × (c / 2 < length (now heads)) ⌝ }
+    ensures { λ r. ⌜ r ≡ src (graph (now (tails .entry)) (now (heads .entry)) [] [] []) c ⌝ }
+{
+    let a = c / 2;
+    if c % 2 == 0 {
+        return tails[a] as usize;
+    }
+    heads[a] as usize
+}
+
+// 64 predecessors back from v, or 64 where a node without one is met.
+fn go_back(tails: &[u8], heads: &[u8], preds: &[u16], v: usize) -> usize
+    requires { ⌜ Graph (graph (now tails) (now heads) [] [] []) × (length (now preds) ≡ 64) × (v < 64) ⌝ }
+    ensures { λ r. ⌜ WentBack (graph (now (tails .entry)) (now (heads .entry)) [] [] []) (now (preds .entry)) v r ⌝ }
+{
+    let m = tails.len() + tails.len();
+    let mut w = v;
+    for _i in 0..64usize {
+        let c = preds[w] as usize;
+        if m <= c {
+            return 64;
+        }
+        w = source(tails, heads, c);
+    }
+    w
+}
+
+// The codes of the cycle through x, the last first. How many.
+fn collect(tails: &[u8], heads: &[u8], preds: &[u16], x: usize, out: &mut [u16]) -> usize
+    requires { ⌜ Graph (graph (now tails) (now heads) [] [] []) × (length (now preds) ≡ 64) × (length (now out) ≡ 64) × Returns (graph (now tails) (now heads) [] [] []) (now preds) x ⌝ }
+    ensures { λ r. ⌜ Collected (graph (now (tails .entry)) (now (heads .entry)) [] [] []) (now (preds .entry)) x (now (out .exit)) r ⌝ }
+{
+    let mut w = x;
+    let mut len = 0;
+    loop {
+        let c = preds[w];
+        out[len] = c;
+        len += 1;
+        w = source(tails, heads, c as usize);
+        if w == x {
+            return len;
+        }
+    }
+}
+
+// A residual cycle of negative cost, each of its arcs with room for `need` more: its codes, the last first, and how many; or 0.
+pub fn find_cycle(
+    tails: &[u8],
+    heads: &[u8],
+    lows: &[u32],
+    ups: &[u32],
+    costs: &[i32],
+    flow: &[u32],
+    need: u32,
+    out: &mut [u16],
+) -> usize
+    requires { ⌜ Searchable (graph (now tails) (now heads) (now lows) (now ups) (now costs)) (now flow) × (0 < need) × (need ≤ 1000000) × (length (now out) ≡ 64) ⌝ }
+    ensures { λ r. ⌜ Searched (graph (now (tails .entry)) (now (heads .entry)) (now (lows .entry)) (now (ups .entry)) (now (costs .entry))) (now (flow .entry)) need (now (out .exit)) r ⌝ }
+{
+    let mut labels = [0i64; 64];
+    let mut preds = [65535u16; 64];
+    let mut k: usize = 0;
+    let node = 'rounds: loop {
+        let last = round(
+            tails,
+            heads,
+            lows,
+            ups,
+            costs,
+            flow,
+            need,
+            &mut labels,
+            &mut preds,
+        );
+        if last == 64 {
+            break 'rounds 64;
+        }
+        let x = go_back(tails, heads, &preds, last);
+        if x != 64 {
+            break 'rounds x;
+        }
+        k += 1;
+    };
+    if node == 64 {
+        return 0;
+    }
+    collect(tails, heads, &preds, node, out)
 }
