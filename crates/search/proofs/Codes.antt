@@ -1,11 +1,10 @@
 -- The codes of a network that can be searched: their ends are below 64, their costs small.
-use mathlib.Core.Path.{_≡_}
 use mathlib.Core.Bool.{Bool, true, false, cond}
 use mathlib.Core.List.{List}
 use Prim.Native.Nat.{ℕ, _/_, _%_, _<_}
 use native.Mathlib.Omega.{arith}
 use lib.Dec.{eqb}
-use lib.IntN.{ℤ, negℤ}
+use lib.IntN.{negℤ}
 use Rattle.laws.specs.Range.{Bounded, bounded-neg}
 use Rattle.network.specs.Network.{Net, arcs, tail, head, cost}
 use Rattle.network.specs.Residual.{codes, either, src, dst, stepCost}

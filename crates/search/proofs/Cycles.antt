@@ -1,23 +1,22 @@
 -- Ways back along predecessors: one of 64 steps comes to a cycle, and a cycle's codes are a residual cycle of negative cost.
-use mathlib.Core.Path.{_≡_, refl, sym, ap, ap₂, subst, _∙_}
-use mathlib.Core.Logic.{_⊎_, inl, inr, _≢_}
+use mathlib.Core.Path.{_≡_, refl, sym, ap, subst, _∙_}
+use mathlib.Core.Logic.{inl, inr, _≢_}
 use mathlib.Core.Bool.{Bool, true, false}
 use mathlib.Core.List.{List, [], _∷_, _++_, map}
 use Prim.Native.Nat.{ℕ, zero, suc, _+_, _-_, _/_, _%_, _≤_, _<_}
 use native.Mathlib.Omega.{arith}
-use native.Mathlib.Nat.{add-suc, add-zero}
-use lib.Dec.{eqb, leb}
+use lib.Dec.{eqb}
 use lib.ListN.{length, getD}
 use lib.IntN.{ℤ, pos, _+ℤ_}
 use lib.Signed.{_≤ℤ_, _<ℤ_}
 use borrow.Author.Tests.{leb-true, lt-ltb}
 use Rattle.laws.specs.Linear.{lin, given, given2, given3}
 use Rattle.laws.specs.Members.{_∈_, Every, member-every}
-use Rattle.laws.specs.Ascending.{Ascending, Distinct}
+use Rattle.laws.specs.Ascending.{Distinct}
 use Rattle.laws.specs.Pigeonhole.{Twice, pigeon}
 use Rattle.network.specs.Network.{Net, low, up}
 use Rattle.network.specs.Residual.{codes, usable, src, dst, stepCost, Walk, walkCost, Cycle}
-use Rattle.search.specs.Labels.{Graph, roomy, pred, back, backCost, Backs, Round, Returns, Ends, Period, trail, Labelled}
+use Rattle.search.specs.Labels.{Graph, roomy, pred, back, backCost, Backs, Returns, Ends, Period, trail, Labelled}
 use Rattle.search.proofs.Relaxing.{back-in, slope}
 use Rattle.search.proofs.Rounds.{Trip, AtMost}
 

@@ -5,3 +5,4 @@ pub mod Relaxing
 pub mod Rounds
 pub mod Cycles
 mod Ways
+mod Searching

@@ -1,11 +1,11 @@
 -- One residual arc relaxed: labels stay labels, and a way back to itself stays negative.
 use mathlib.Core.Path.{_≡_, refl, sym, ap, ap₂, subst, _∙_}
-use mathlib.Core.Logic.{_⊎_, inl, inr, ⊎-elim, _≢_}
-use mathlib.Core.Bool.{Bool, true, false, cond, _&&_}
+use mathlib.Core.Logic.{_⊎_, inl, inr, _≢_}
+use mathlib.Core.Bool.{Bool, true, false, cond}
 use mathlib.Core.List.{List}
 use Prim.Native.Nat.{ℕ, zero, suc, _≤_, _<_}
 use native.Mathlib.Omega.{arith}
-use native.Mathlib.Decide.{ℕ-discrete, decLt}
+use native.Mathlib.Decide.{ℕ-discrete}
 use lib.ListN.{length, getD, set, length-set}
 use lib.Seq.{getD-set-same, getD-set-other}
 use lib.IntN.{ℤ, pos, _+ℤ_}
@@ -17,7 +17,7 @@ use Rattle.laws.specs.Store.{set-cases}
 use Rattle.laws.specs.Pigeonhole.{Found, find}
 use Rattle.network.specs.Network.{Net}
 use Rattle.network.specs.Residual.{codes, src, dst, stepCost}
-use Rattle.search.specs.Labels.{Graph, Searchable, roomy, State, state, label, pred, offer, better, relaxed, back, backCost, Backs, Round, Labelled}
+use Rattle.search.specs.Labels.{Graph, Searchable, roomy, State, label, pred, offer, better, relaxed, back, backCost, Backs, Round, Labelled}
 use Rattle.search.proofs.Codes.{src-in, dst-in}
 
 -- a way back along codes stays among the nodes

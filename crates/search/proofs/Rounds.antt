@@ -1,6 +1,5 @@
 -- A round over the residual arcs: labels fall, each arc has made its offer, and a round that changed nothing leaves a potential.
 use mathlib.Core.Path.{_≡_, refl, sym, ap, subst, _∙_}
-use mathlib.Core.Logic.{_⊎_, inl, inr, _≢_}
 use mathlib.Core.Bool.{Bool, true, false, cond, _&&_}
 use mathlib.Core.List.{List, [], _∷_}
 use Prim.Native.Nat.{ℕ, zero, suc, _+_, _*_, _≤_, _<_}
@@ -17,7 +16,7 @@ use Rattle.laws.specs.Range.{Bounded, bounded-add, bounded-more}
 use Rattle.laws.specs.Store.{set-cases}
 use Rattle.network.specs.Network.{Net}
 use Rattle.network.specs.Residual.{codes, src, dst, stepCost, walkCost}
-use Rattle.search.specs.Labels.{Searchable, roomy, State, state, label, pred, offer, better, relaxed, relaxedAll, Sized, Labelled}
+use Rattle.search.specs.Labels.{Searchable, roomy, State, state, label, offer, better, relaxed, relaxedAll, Sized, Labelled}
 use Rattle.search.proofs.Codes.{src-in, dst-in, step-small}
 use Rattle.search.proofs.Relaxing.{labelled-relaxed}
 

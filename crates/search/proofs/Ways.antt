@@ -1,7 +1,7 @@
 -- The loops along predecessors: going back 64 steps, and collecting the codes of a cycle.
 use mathlib.Core.Path.{_≡_, refl, sym, ap, subst, _∙_}
 use mathlib.Core.List.{List, [], _∷_, _++_}
-use Prim.Native.Nat.{ℕ, zero, suc, _+_, _/_, _≤_, _<_}
+use Prim.Native.Nat.{ℕ, suc, _+_, _/_, _≤_, _<_}
 use native.Mathlib.Omega.{arith}
 use native.Mathlib.Numerals.{add-one}
 use native.Mathlib.Decide.{ℕ-discrete}
@@ -9,7 +9,7 @@ use lib.ListN.{length, take, set, length-set}
 use lib.Seq.{take-suc-set}
 use Rattle.network.specs.Network.{Net, arcs}
 use Rattle.network.specs.Residual.{codes, src}
-use Rattle.search.specs.Labels.{Graph, pred, back, Backs, Round, Returns, Ends, Period, trail, Collected}
+use Rattle.search.specs.Labels.{Graph, pred, back, Backs, Returns, Ends, trail, Collected}
 use Rattle.search.proofs.Codes.{src-in}
 use Rattle.search.proofs.Relaxing.{back-in}
 use Rattle.search.proofs.Cycles.{trail-more}

@@ -1,15 +1,15 @@
 // The search for a negative cycle in the residual network of a flow: labels corrected in rounds over the arcs (Bellman and Ford).
 ghost use mathlib.Core.Path.{_≡_};
 ghost use mathlib.Core.Bool.{_&&_};
-ghost use Prim.Native.Nat.{ℕ, suc, _+_, _/_, _≤_, _<_};
+ghost use Prim.Native.Nat.{suc, _+_, _/_, _≤_, _<_};
 ghost use lib.ListN.{length, getD};
-ghost use lib.IntN.{ℤ, pos, _+ℤ_};
+ghost use lib.IntN.{pos, _+ℤ_};
 ghost use lib.Signed.{ltZ};
 ghost use mir.Syntax.{w64};
 ghost use mir.Val.{SFits};
 ghost use mathlib.Core.List.{[]};
 ghost use Rattle.network.specs.Residual.{codes, src};
-ghost use Rattle.search.specs.Labels.{graph, Graph, Searchable, state, label, setIf, relaxed, relaxedAll, Sized, Returns, WentBack, Collected, Searched};
+ghost use Rattle.search.specs.Labels.{graph, Graph, Searchable, state, setIf, relaxed, relaxedAll, Sized, Returns, WentBack, Collected, Searched};
 
 fn wide(c: i32) -> i64
     ensures { λ r. ⌜ r ≡ c ⌝ }

@@ -1,72 +1,127 @@
+use mathlib.Core.Path.{_≡_, refl, sym, subst, _∙_}
+use mathlib.Core.Logic.{⊎-elim}
+use mathlib.Core.List.{List, []}
+use Prim.Native.Nat.{ℕ, _+_, _-_, _<_}
+use native.Mathlib.Omega.{arith}
+use lib.ListN.{getD-replicate}
+use lib.IntN.{ℤ}
+use Rattle.network.specs.Network.{Net}
+use Rattle.search.specs.Labels.{graph, Graph, Returns, WentBack, Labelled, Searched, none}
+use Rattle.search.proofs.Rounds.{sized-more}
+use Rattle.search.proofs.Searching.{Searching, searching-start, zero-at, labelled′, quiet-of, fell, returns-of, searching-more, searched-found, went-any, returns-any, collected-any, graph-any}
 use Rattle.search.proofs.find_cycle.Statement.{statement}
 use Rattle.search.proofs.find_cycle.Tie as tie
-use Rattle.search.proofs.find_cycle.Reads as reads
-use Rattle.search.proofs.find_cycle.Lts as lts
-use Rattle.search.proofs.collect.Reads as collect-reads
-use Rattle.search.proofs.go_back.Reads as go-back-reads
-use Rattle.search.proofs.round.Reads as round-reads
 
 abbrev Inv-rounds : tie.InvT-rounds
-Inv-rounds tails heads lows ups costs flow need out labels₀ preds₀ k₀ labels preds k = ?
+Inv-rounds tails heads lows ups costs flow need out labels₀ preds₀ k₀ labels preds k = Searching (graph tails heads lows ups costs) flow need labels preds k
 
 abbrev μ-rounds : tie.MeasureT-rounds
-μ-rounds tails heads lows ups costs flow need out labels₀ preds₀ k₀ labels preds k = ?
+μ-rounds tails heads lows ups costs flow need out labels₀ preds₀ k₀ labels preds k = 64 - k
 
--- src/lib.rt:173:9
+abbrev net : tie.Start Inv-rounds μ-rounds → Net
+net s = graph (s .args .tails .now) (s .args .heads .now) (s .args .lows .now) (s .args .ups .now) (s .args .costs .now)
+
+abbrev entry : tie.At-rounds Inv-rounds μ-rounds → tie.Start Inv-rounds μ-rounds
+entry l = l .before .before .before .before .before .before .before
+
+-- after a round
+module _ (r : tie.After-round Inv-rounds μ-rounds) where
+  abbrev before : tie.At-rounds Inv-rounds μ-rounds
+  before = r .before .before .before
+
+  abbrev start : tie.Start Inv-rounds μ-rounds
+  start = entry before
+
+  abbrev labels : List ℤ
+  labels = r .round .last .1 .1 .1 .1 .1 .1 .1 .0
+
+  abbrev preds : List ℕ
+  preds = r .round .last .1 .1 .1 .1 .1 .1 .1 .1 .0
+
+  labelled : Labelled (net start) (start .args .flow .now) (start .args .need) labels preds
+  labelled = labelled′ (net start) (start .args .flow .now) (start .pre .0) (start .args .need) (before .rounds .labels) (before .rounds .preds) (before .rounds .k) (before .rounds .inv) labels preds (r .round .result) (r .round .ensures)
+
+  quiet-here : r .round .result ≡ 64 → Searched (net start) (start .args .flow .now) (start .args .need) (start .args .out .now) 0
+  quiet-here e = none refl _ (quiet-of (net start) (start .args .flow .now) (start .pre .0) (start .args .need) (before .rounds .labels) (before .rounds .preds) (before .rounds .k) (before .rounds .inv) labels preds (r .round .result) (r .round .ensures) e)
+
+  fell-in : ¬ (r .round .result ≡ 64) → r .round .result < 64
+  fell-in n = fell (net start) (start .args .flow .now) (start .pre .0) (start .args .need) (before .rounds .labels) (before .rounds .preds) (before .rounds .k) (before .rounds .inv) labels preds (r .round .result) (r .round .ensures) n .0
+
+  bare : Graph (graph (start .args .tails .now) (start .args .heads .now) [] [] [])
+  bare = graph-any (start .args .tails .now) (start .args .heads .now) _ _ [] [] _ [] (start .pre .0 .graph)
+
+  -- a way back, told of tails and heads alone
+  module _ (x : ℕ) (n : ¬ (r .round .result ≡ 64)) (w : WentBack (graph (start .args .tails .now) (start .args .heads .now) [] [] []) preds (r .round .result) x) where
+    went-whole : WentBack (net start) preds (r .round .result) x
+    went-whole = went-any (start .args .tails .now) (start .args .heads .now) [] [] (start .args .lows .now) (start .args .ups .now) [] (start .args .costs .now) preds (r .round .result) x w
+
+    more : x ≡ 64 → Searching (net start) (start .args .flow .now) (start .args .need) labels preds (before .rounds .k + 1)
+    more e = searching-more (net start) (start .args .flow .now) (start .pre .0) (start .args .need) (before .rounds .labels) (before .rounds .preds) (before .rounds .k) (before .rounds .inv) labels preds (r .round .result) (r .round .ensures) x n went-whole e
+
+    returning : ¬ (x ≡ 64) → Returns (graph (start .args .tails .now) (start .args .heads .now) [] [] []) preds x
+    returning m =
+        returns-any (start .args .tails .now) (start .args .heads .now) (start .args .lows .now) (start .args .ups .now) [] [] (start .args .costs .now) [] preds x
+        (returns-of (net start) (start .args .flow .now) (start .pre .0) (start .args .need) (before .rounds .labels) (before .rounds .preds) (before .rounds .k) (before .rounds .inv) labels preds (r .round .result) (r .round .ensures) x n went-whole m)
+
+-- the two ways out of the loop
+module _ (c : tie.Joined1 Inv-rounds μ-rounds) where
+  abbrev ran : tie.After-round Inv-rounds μ-rounds
+  ran = c .before .before .before
+
+  out-quiet : c .if1 .node ≡ 64 → Searched (net (start ran)) (start ran .args .flow .now) (start ran .args .need) (start ran .args .out .now) 0
+  out-quiet e = ⊎-elim (λ w. quiet-here ran (w .0 .taken)) (λ w. absurd (w .3 .taken (sym (w .4) ∙ e))) (c .if1 .came)
+
+  out-cycle : ¬ (c .if1 .node ≡ 64) → Returns (graph (start ran .args .tails .now) (start ran .args .heads .now) [] [] []) (preds ran) (c .if1 .node)
+  out-cycle n =
+      ⊎-elim (λ w. absurd (n (w .1)))
+      (λ w. subst (Returns (graph (start ran .args .tails .now) (start ran .args .heads .now) [] [] []) (preds ran)) (sym (w .4)) (returning ran (w .2 .result) (w .0 .left) (w .2 .ensures) (w .3 .taken)))
+      (c .if1 .came)
+
 rounds-holds : tie.Need-rounds-holds Inv-rounds μ-rounds
-rounds-holds c = ?
+rounds-holds c = let s = c .before .before .before .before .before .before in searching-start (net s) (s .args .flow .now) (s .pre .0) (s .args .need) _ _ refl refl (zero-at 64) (λ v h. omega (arith, getD-replicate {A = ℕ} 64 v 65535 0 h))
 
--- src/lib.rt:182:13
 slice-aggregate-round : tie.Need-slice-aggregate-round Inv-rounds μ-rounds
-slice-aggregate-round c = ?
+slice-aggregate-round c = sym (c .before .rounds .inv .labelled .labels-len)
 
--- src/lib.rt:183:13
 slice-aggregate-round-2 : tie.Need-slice-aggregate-round-2 Inv-rounds μ-rounds
-slice-aggregate-round-2 c = ?
+slice-aggregate-round-2 c = sym (c .before .before .rounds .inv .labelled .preds-len)
 
--- src/lib.rt:174:13
 round-requires : tie.Need-round-requires Inv-rounds μ-rounds
-round-requires c κs = ?
+round-requires c κs = let l = c .before .before in (entry l .pre .0, sized-more (omega (arith, l .rounds .inv .early)) (l .rounds .inv .sized), entry l .pre .2)
 
--- src/lib.rt:188:39
 slice-aggregate-go-back : tie.Need-slice-aggregate-go-back Inv-rounds μ-rounds
-slice-aggregate-go-back c = ?
+slice-aggregate-go-back c = sym (labelled (c .before .before .before .before) .preds-len)
 
--- src/lib.rt:188:13
 go-back-requires : tie.Need-go-back-requires Inv-rounds μ-rounds
-go-back-requires c κs = ?
+go-back-requires c κs = let r = c .before .before .before .before in (bare r, labelled r .preds-len, fell-in r (c .before .if1 .left))
 
--- src/lib.rt:192:9
 add-k : tie.Need-add-k Inv-rounds μ-rounds
-add-k c = ?
+add-k c = omega (arith, c .before .before .before .before .before .before .before .before .before .rounds .inv .early)
 
--- src/lib.rt:173:9
 rounds-less : tie.Need-rounds-less Inv-rounds μ-rounds
-rounds-less c = ?
+rounds-less c = omega (arith, c .before .before .before .before .before .before .before .before .before .rounds .inv .early)
 
--- src/lib.rt:173:9
 rounds-again : tie.Need-rounds-again Inv-rounds μ-rounds
-rounds-again c = ?
+rounds-again c = more (c .before .before .before .before .before .before) (c .before .go-back .result) (c .before .before .before .if1 .left) (c .before .go-back .ensures) (c .if2 .left)
 
--- src/lib.rt:195:9
 returns : tie.Need-returns Inv-rounds μ-rounds
-returns c = ?
+returns c = out-quiet (c .before) (c .if3 .taken)
 
--- src/lib.rt:197:27
 slice-aggregate-collect : tie.Need-slice-aggregate-collect Inv-rounds μ-rounds
-slice-aggregate-collect c = ?
+slice-aggregate-collect c = sym (labelled (c .before .before .before .before .before) .preds-len)
 
--- src/lib.rt:197:5
 collect-requires : tie.Need-collect-requires Inv-rounds μ-rounds
-collect-requires c κs = ?
+collect-requires c κs = let j = c .before .before .before in (bare (ran j), labelled (ran j) .preds-len, start (ran j) .pre .3, out-cycle j (c .before .before .if3 .left))
 
--- src/lib.rt:157:1
 same-length : tie.Need-same-length Inv-rounds μ-rounds
-same-length c = ?
+same-length c = c .before .before .collect .kept .1 .1 .1 .1 .0
 
--- src/lib.rt:157:1
 returns-2 : tie.Need-returns-2 Inv-rounds μ-rounds
-returns-2 c = ?
+returns-2 c =
+    let j = c .before .before .before .before .before .before in
+    let s = start (ran j) in
+    searched-found (net s) (s .args .flow .now) (s .pre .0) (s .args .need) (s .pre .1) (labels (ran j)) (preds (ran j)) (labelled (ran j)) (j .if1 .node) _ _
+    (collected-any (s .args .tails .now) (s .args .heads .now) [] [] (s .args .lows .now) (s .args .ups .now) [] (s .args .costs .now) (preds (ran j)) (j .if1 .node) _ _ (c .before .before .collect .ensures))
 
 pub find-cycle-spec : {M : Type 1} → statement M
 find-cycle-spec =

@@ -1,10 +1,8 @@
 use borrow.Author.Needs.{needs}
-use mathlib.Core.Path.{_≡_, refl, sym, ap, subst, _∙_}
+use mathlib.Core.Path.{_≡_, sym, ap, subst, _∙_}
 use mathlib.Core.Bool.{_&&_}
-use mathlib.Core.List.{List}
-use Prim.Native.Nat.{ℕ, suc, _+_, _<_, _≤_}
+use Prim.Native.Nat.{ℕ, _+_, _<_, _≤_}
 use native.Mathlib.Omega.{arith}
-use native.Mathlib.Numerals.{add-one}
 use lib.Dec.{leb}
 use lib.ListN.{length, getD}
 use lib.IntN.{ℤ, pos, negℤ, _+ℤ_, _-ℤ_}
@@ -14,8 +12,7 @@ use mir.Val.{SFits, toZ, ofZ}
 use mir.Facts.{toZ-ofZ}
 use Rattle.laws.specs.Linear.{lin}
 use Rattle.laws.specs.Range.{Bounded, bounded-add, bounded-neg, bounded-fits}
-use Rattle.network.specs.Network.{Net, tail, head, cost}
-use Rattle.network.specs.Residual.{codes}
+use Rattle.network.specs.Network.{Net}
 use Rattle.search.specs.Labels.{graph, Searchable, State, state, label, setIf, relaxed, Sized}
 use Rattle.search.proofs.Rounds.{one-sized}
 use Rattle.search.proofs.Arcs.{forward, backward}

@@ -1,12 +1,9 @@
 use mathlib.Core.Path.{_≡_, refl, sym, ap, subst, _∙_}
-use mathlib.Core.List.{List}
-use Prim.Native.Nat.{ℕ, suc, _+_, _-_, _≤_, _<_}
+use Prim.Native.Nat.{suc, _+_, _-_, _≤_}
 use native.Mathlib.Omega.{arith}
 use lib.ListN.{length}
-use lib.IntN.{ℤ}
 use Rattle.network.specs.Network.{Net}
-use Rattle.network.specs.Residual.{codes}
-use Rattle.search.specs.Labels.{graph, Searchable, State, state, relaxed, relaxedAll, Sized}
+use Rattle.search.specs.Labels.{graph, State, state, relaxed, relaxedAll, Sized}
 use Rattle.search.proofs.Rounds.{all-sized, sized-more}
 use Rattle.search.proofs.round.Statement.{statement}
 use Rattle.search.proofs.round.Tie as tie
