@@ -105,7 +105,7 @@ module _ (N : Net) (p : List ℕ) where
       (suc i, omega arith, e ∙ sym (back-first i x))
 
 -- δ more is room for one more
-roomy-usable : (N : Net) (f : List ℕ) (δ c : ℕ) → 0 < δ → roomy N f δ c ≡ true → usable N f c ≡ true
+pub roomy-usable : (N : Net) (f : List ℕ) (δ c : ℕ) → 0 < δ → roomy N f δ c ≡ true → usable N f c ≡ true
 roomy-usable N f δ c h e = go (eqb (c % 2) 0) refl
   where
     go : (t : Bool) → eqb (c % 2) 0 ≡ t → usable N f c ≡ true

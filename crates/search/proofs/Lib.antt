@@ -6,3 +6,5 @@ pub mod Rounds
 pub mod Cycles
 mod Ways
 mod Searching
+pub mod Pricing
+pub mod Shorten

@@ -9,6 +9,7 @@ ghost use mir.Syntax.{w64};
 ghost use mir.Val.{SFits};
 ghost use mathlib.Core.List.{[]};
 ghost use Rattle.network.specs.Residual.{codes, src};
+ghost use Rattle.search.specs.Prices.{PriceLabels, Settled};
 ghost use Rattle.search.specs.Labels.{graph, Graph, Searchable, state, setIf, relaxed, relaxedAll, Sized, Returns, WentBack, Collected, Searched};
 
 fn wide(c: i32) -> i64
@@ -195,4 +196,37 @@ pub fn find_cycle(
         return 0;
     }
     collect(tails, heads, &preds, node, out)
+}
+
+// The price of each node, for a flow without a negative cycle: the least cost of a residual walk that ends there.
+pub fn prices(
+    tails: &[u8],
+    heads: &[u8],
+    lows: &[u32],
+    ups: &[u32],
+    costs: &[i32],
+    flow: &[u32],
+) -> [i64; 64]
+    requires { ⌜ Searchable (graph (now tails) (now heads) (now lows) (now ups) (now costs)) (now flow) × Settled (graph (now tails) (now heads) (now lows) (now ups) (now costs)) (now flow) ⌝ }
+    ensures { λ r. ⌜ PriceLabels (graph (now (tails .entry)) (now (heads .entry)) (now (lows .entry)) (now (ups .entry)) (now (costs .entry))) (now (flow .entry)) r ⌝ }
+{
+    let mut labels = [0i64; 64];
+    let mut preds = [65535u16; 64];
+    for _k in 0..64usize {
+        let last = round(
+            tails,
+            heads,
+            lows,
+            ups,
+            costs,
+            flow,
+            1,
+            &mut labels,
+            &mut preds,
+        );
+        if last == 64 {
+            return labels;
+        }
+    }
+    labels
 }
