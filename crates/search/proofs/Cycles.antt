@@ -16,7 +16,8 @@ use Rattle.laws.specs.Ascending.{Distinct}
 use Rattle.laws.specs.Pigeonhole.{Twice, pigeon}
 use Rattle.network.specs.Network.{Net, low, up}
 use Rattle.network.specs.Residual.{codes, usable, src, dst, stepCost, Walk, walkCost, Cycle}
-use Rattle.search.specs.Labels.{Graph, roomy, pred, back, backCost, Backs, Returns, Ends, Period, trail, Labelled}
+use Rattle.search.specs.Labels.{Graph, roomy, pred}
+use Rattle.search.specs.Predecessors.{back, backCost, Backs, Returns, Ends, Period, trail, Labelled}
 use Rattle.search.proofs.Relaxing.{back-in, slope}
 use Rattle.search.proofs.Rounds.{Trip, AtMost}
 

@@ -1,6 +1,6 @@
 -- The rounds of the price search: labels are costs of walks, and in the end the least ones.
 use mathlib.Core.Path.{_≡_, refl, sym, ap, subst, _∙_}
-use mathlib.Core.Bool.{Bool, true, false, cond, _&&_}
+use mathlib.Core.Bool.{Bool, true, false, cond}
 use mathlib.Core.List.{List, [], _∷_}
 use Prim.Native.Nat.{ℕ, zero, suc, _+_, _*_, _/_, _%_, _≤_, _<_}
 use native.Mathlib.Omega.{arith}
@@ -8,7 +8,7 @@ use native.Mathlib.Numerals.{add-one}
 use lib.Dec.{eqb}
 use lib.ListN.{length, getD, set}
 use lib.IntN.{ℤ, pos, _+ℤ_}
-use lib.Signed.{ltZ, _≤ℤ_}
+use lib.Signed.{_≤ℤ_}
 use borrow.Author.Tests.{ltb-true, le-leb}
 use Rattle.laws.specs.Linear.{lin, given, given2}
 use Rattle.laws.specs.Tests.{and-true}
@@ -16,7 +16,8 @@ use Rattle.laws.specs.Store.{set-cases}
 use Rattle.certificates.specs.Optimality.{priced-least}
 use Rattle.network.specs.Network.{Net, WellFormed, IsFlow, LeastCost, nodes, low, up}
 use Rattle.network.specs.Residual.{codes, usable, src, dst, stepCost, Walk, walkCost, Price}
-use Rattle.search.specs.Labels.{graph, Graph, Searchable, roomy, State, state, label, offer, better, relaxed, relaxedAll, Sized, Quiet}
+use Rattle.search.specs.Labels.{graph, Searchable, roomy, State, state, label, offer, better, relaxed, relaxedAll, Sized}
+use Rattle.search.specs.Search.{Quiet}
 use Rattle.search.specs.Prices.{PriceLabels, Settled}
 use Rattle.search.proofs.Codes.{src-in, dst-in, either-is}
 use Rattle.search.proofs.Rounds.{Trip, AtMost, Changed, quiet, noisy, all-length, round-at-most, round-changed, all-sized, sized-more}

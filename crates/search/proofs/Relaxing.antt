@@ -17,7 +17,8 @@ use Rattle.laws.specs.Store.{set-cases}
 use Rattle.laws.specs.Pigeonhole.{Found, find}
 use Rattle.network.specs.Network.{Net}
 use Rattle.network.specs.Residual.{codes, src, dst, stepCost}
-use Rattle.search.specs.Labels.{Graph, Searchable, roomy, State, label, pred, offer, better, relaxed, back, backCost, Backs, Round, Labelled}
+use Rattle.search.specs.Labels.{Graph, Searchable, roomy, State, label, pred, offer, better, relaxed}
+use Rattle.search.specs.Predecessors.{back, backCost, Backs, Round, Labelled}
 use Rattle.search.proofs.Codes.{src-in, dst-in}
 
 -- a way back along codes stays among the nodes

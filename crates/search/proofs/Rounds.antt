@@ -16,7 +16,8 @@ use Rattle.laws.specs.Range.{Bounded, bounded-add, bounded-more}
 use Rattle.laws.specs.Store.{set-cases}
 use Rattle.network.specs.Network.{Net}
 use Rattle.network.specs.Residual.{codes, src, dst, stepCost, walkCost}
-use Rattle.search.specs.Labels.{Searchable, roomy, State, state, label, offer, better, relaxed, relaxedAll, Sized, Labelled}
+use Rattle.search.specs.Labels.{Searchable, roomy, State, state, label, offer, better, relaxed, relaxedAll, Sized}
+use Rattle.search.specs.Predecessors.{Labelled}
 use Rattle.search.proofs.Codes.{src-in, dst-in, step-small}
 use Rattle.search.proofs.Relaxing.{labelled-relaxed}
 

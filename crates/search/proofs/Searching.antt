@@ -10,7 +10,9 @@ use lib.Signed.{_<ℤ_}
 use Rattle.laws.specs.Linear.{lin}
 use Rattle.network.specs.Network.{Net}
 use Rattle.network.specs.Residual.{codes, src}
-use Rattle.search.specs.Labels.{graph, Graph, Searchable, State, state, pred, relaxedAll, Sized, back, Backs, Round, Returns, trail, Labelled, WentBack, ended, went, Collected, Quiet, Searched, found}
+use Rattle.search.specs.Labels.{graph, Graph, Searchable, State, state, pred, relaxedAll, Sized}
+use Rattle.search.specs.Predecessors.{back, Backs, Round, Returns, trail, Labelled, WentBack, ended, went, Collected}
+use Rattle.search.specs.Search.{Quiet, Searched, found}
 use Rattle.search.proofs.Rounds.{AtMost, Changed, quiet, noisy, all-labelled, round-at-most, round-changed, all-sized, sized-more}
 use Rattle.search.proofs.Cycles.{comes-round, period-cycle, period-room, period-negative, ends-late}
 

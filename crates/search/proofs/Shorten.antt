@@ -4,15 +4,16 @@ use mathlib.Core.List.{List, [], _∷_, _++_}
 use Prim.Native.Nat.{ℕ, zero, suc, _+_, _-_, _≤_, _<_}
 use native.Mathlib.Omega.{arith}
 use native.Mathlib.Decide.{decLt}
-use lib.ListN.{length, take, drop, length-append, length-take, length-drop, take-append-drop}
+use lib.ListN.{length, take, drop, length-append, length-drop, take-append-drop}
 use lib.Seq.{length-take-le, drop-drop}
 use lib.IntN.{ℤ, pos, _+ℤ_, _-ℤ_}
 use lib.Signed.{_≤ℤ_}
 use Rattle.laws.specs.Linear.{lin, given, given2, given3}
 use Rattle.laws.specs.Pigeonhole.{Twice, pigeon}
 use Rattle.network.specs.Network.{Net}
-use Rattle.network.specs.Residual.{codes, src, dst, stepCost, walkCost}
-use Rattle.search.specs.Labels.{Graph, roomy, Quiet}
+use Rattle.network.specs.Residual.{src, dst, stepCost, walkCost}
+use Rattle.search.specs.Labels.{Graph}
+use Rattle.search.specs.Search.{Quiet}
 use Rattle.search.proofs.Codes.{src-in}
 use Rattle.search.proofs.Rounds.{Trip}
 

@@ -1,2 +1,4 @@
 pub mod Labels
+pub mod Predecessors
+pub mod Search
 pub mod Prices

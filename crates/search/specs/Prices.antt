@@ -7,7 +7,7 @@ use lib.IntN.{ℤ, pos}
 use lib.Signed.{_≤ℤ_}
 use Rattle.network.specs.Network.{Net}
 use Rattle.network.specs.Residual.{Walk, walkCost}
-use Rattle.search.specs.Labels.{Quiet}
+use Rattle.search.specs.Search.{Quiet}
 
 pub record PriceLabels (N : Net) (f : List ℕ) (d : List ℤ) : Type 0 where
   pub len : length d ≡ 64

@@ -9,8 +9,10 @@ ghost use mir.Syntax.{w64};
 ghost use mir.Val.{SFits};
 ghost use mathlib.Core.List.{[]};
 ghost use Rattle.network.specs.Residual.{codes, src};
+ghost use Rattle.search.specs.Labels.{graph, Graph, Searchable, state, setIf, relaxed, relaxedAll, Sized};
+ghost use Rattle.search.specs.Predecessors.{Returns, WentBack, Collected};
+ghost use Rattle.search.specs.Search.{Searched};
 ghost use Rattle.search.specs.Prices.{PriceLabels, Settled};
-ghost use Rattle.search.specs.Labels.{graph, Graph, Searchable, state, setIf, relaxed, relaxedAll, Sized, Returns, WentBack, Collected, Searched};
 
 fn wide(c: i32) -> i64
     ensures { λ r. ⌜ r ≡ c ⌝ }
@@ -210,7 +212,7 @@ pub fn prices(
     requires { ⌜ Searchable (graph (now tails) (now heads) (now lows) (now ups) (now costs)) (now flow) × Settled (graph (now tails) (now heads) (now lows) (now ups) (now costs)) (now flow) ⌝ }
     ensures { λ r. ⌜ PriceLabels (graph (now (tails .entry)) (now (heads .entry)) (now (lows .entry)) (now (ups .entry)) (now (costs .entry))) (now (flow .entry)) r ⌝ }
 {
-    let mut labels = [0i64; 64];
+    let mut least = [0i64; 64];
     let mut preds = [65535u16; 64];
     for _k in 0..64usize {
         let last = round(
@@ -221,12 +223,12 @@ pub fn prices(
             costs,
             flow,
             1,
-            &mut labels,
+            &mut least,
             &mut preds,
         );
         if last == 64 {
-            return labels;
+            return least;
         }
     }
-    labels
+    least
 }

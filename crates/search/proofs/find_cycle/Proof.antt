@@ -6,7 +6,9 @@ use native.Mathlib.Omega.{arith}
 use lib.ListN.{getD-replicate}
 use lib.IntN.{ℤ}
 use Rattle.network.specs.Network.{Net}
-use Rattle.search.specs.Labels.{graph, Graph, Returns, WentBack, Labelled, Searched, none}
+use Rattle.search.specs.Labels.{graph, Graph}
+use Rattle.search.specs.Predecessors.{Returns, WentBack, Labelled}
+use Rattle.search.specs.Search.{Searched, none}
 use Rattle.search.proofs.Rounds.{sized-more}
 use Rattle.search.proofs.Searching.{Searching, searching-start, zero-at, labelled′, quiet-of, fell, returns-of, searching-more, searched-found, went-any, returns-any, collected-any, graph-any}
 use Rattle.search.proofs.find_cycle.Statement.{statement}

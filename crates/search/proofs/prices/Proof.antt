@@ -1,8 +1,6 @@
 use mathlib.Core.Path.{_≡_, refl, sym, subst}
-use mathlib.Core.List.{List}
-use Prim.Native.Nat.{ℕ, _+_, _-_, _≤_}
+use Prim.Native.Nat.{_-_}
 use native.Mathlib.Omega.{arith}
-use lib.IntN.{ℤ}
 use Rattle.network.specs.Network.{Net}
 use Rattle.search.specs.Labels.{graph}
 use Rattle.search.proofs.Rounds.{sized-more}
@@ -12,10 +10,10 @@ use Rattle.search.proofs.prices.Statement.{statement}
 use Rattle.search.proofs.prices.Tie as tie
 
 abbrev Inv-loop : tie.InvT-loop
-Inv-loop tails heads lows ups costs flow labels₀ preds₀ -k₀ labels preds -k = Pricing (graph tails heads lows ups costs) flow labels preds -k
+Inv-loop tails heads lows ups costs flow least₀ preds₀ -k₀ least preds -k = Pricing (graph tails heads lows ups costs) flow least preds -k
 
 abbrev μ-loop : tie.MeasureT-loop
-μ-loop tails heads lows ups costs flow labels₀ preds₀ -k₀ labels preds -k = 64 - -k
+μ-loop tails heads lows ups costs flow least₀ preds₀ -k₀ least preds -k = 64 - -k
 
 abbrev net : tie.Start Inv-loop μ-loop → Net
 net s = graph (s .args .tails .now) (s .args .heads .now) (s .args .lows .now) (s .args .ups .now) (s .args .costs .now)
@@ -42,7 +40,7 @@ round-requires : tie.Need-round-requires Inv-loop μ-loop
 round-requires c κs = let l = c .before .before .before in (entry l .pre .0, sized-more (omega (arith, l .loop .inv .upto)) (l .loop .inv .sized), omega arith)
 
 returns : tie.Need-returns Inv-loop μ-loop
-returns c = let r = c .before .before .before in prices-quiet (net (start r)) (start r .args .flow .now) (start r .pre .0) (before r .loop .labels) (before r .loop .preds) (before r .loop .-k) (before r .loop .inv) _ _ (r .round .result) (r .round .ensures) (c .if1 .taken)
+returns c = let r = c .before .before .before in prices-quiet (net (start r)) (start r .args .flow .now) (start r .pre .0) (before r .loop .least) (before r .loop .preds) (before r .loop .-k) (before r .loop .inv) _ _ (r .round .result) (r .round .ensures) (c .if1 .taken)
 
 add--k : tie.Need-add--k Inv-loop μ-loop
 add--k c = omega arith
@@ -51,14 +49,14 @@ loop-less : tie.Need-loop-less Inv-loop μ-loop
 loop-less c = omega arith
 
 loop-again : tie.Need-loop-again Inv-loop μ-loop
-loop-again c = let r = c .before .before .before in pricing-more (net (start r)) (start r .args .flow .now) (start r .pre .0) (before r .loop .labels) (before r .loop .preds) (before r .loop .-k) (before r .loop .inv) _ _ (r .round .result) (r .round .ensures) (omega arith)
+loop-again c = let r = c .before .before .before in pricing-more (net (start r)) (start r .args .flow .now) (start r .pre .0) (before r .loop .least) (before r .loop .preds) (before r .loop .-k) (before r .loop .inv) _ _ (r .round .result) (r .round .ensures) (omega arith)
 
 returns-2 : tie.Need-returns-2 Inv-loop μ-loop
 returns-2 c =
     let l = c .before in
     let s = entry l in
     let e : l .loop .-k ≡ 64 = omega (arith, l .loop .inv .upto) in
-    prices-all (net s) (s .args .flow .now) (s .pre .0) (l .loop .labels) (l .loop .preds) (subst (Pricing (net s) (s .args .flow .now) (l .loop .labels) (l .loop .preds)) e (l .loop .inv)) (s .pre .1)
+    prices-all (net s) (s .args .flow .now) (s .pre .0) (l .loop .least) (l .loop .preds) (subst (Pricing (net s) (s .args .flow .now) (l .loop .least) (l .loop .preds)) e (l .loop .inv)) (s .pre .1)
 
 pub prices-spec : {M : Type 1} → statement M
 prices-spec =

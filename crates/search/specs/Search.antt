@@ -1,0 +1,28 @@
+-- What the search ends with: a residual cycle of cost below 0, or none.
+use mathlib.Core.Path.{_≡_}
+use mathlib.Core.Bool.{true}
+use mathlib.Core.List.{List}
+use Prim.Native.Nat.{ℕ, _≤_, _<_}
+use lib.ListN.{take}
+use lib.IntN.{ℤ, pos, _+ℤ_}
+use lib.Signed.{_≤ℤ_, _<ℤ_}
+use Rattle.laws.specs.Members.{Every}
+use Rattle.network.specs.Network.{Net, low}
+use Rattle.network.specs.Residual.{codes, src, dst, stepCost, walkCost, Cycle}
+use Rattle.search.specs.Labels.{roomy}
+
+-- no residual arc with room for δ has a reduced cost below 0
+pub record Quiet (N : Net) (f : List ℕ) (δ : ℕ) (π : ℕ → ℤ) : Type 0 where
+  pub low : (v : ℕ) → π v ≤ℤ pos 0
+  pub reduced : (c : ℕ) → c < codes N → roomy N f δ c ≡ true → π (dst N c) ≤ℤ (π (src N c) +ℤ stepCost N c)
+
+-- a residual cycle of cost below 0, each of its arcs with room for δ
+pub record NegativeCycle (N : Net) (f : List ℕ) (δ : ℕ) (cs : List ℕ) : Type 0 where
+  pub cycle : Cycle N f cs
+  pub room : Every (λ c. roomy N f δ c ≡ true) cs
+  pub negative : walkCost N cs <ℤ pos 0
+
+-- what the search ends with: the count of a negative cycle's codes; or 0, and there is none
+pub data Searched (N : Net) (f : List ℕ) (δ : ℕ) (out : List ℕ) (r : ℕ) : Type 0 where
+  found : r ≤ 64 → NegativeCycle N f δ (take r out) → Searched N f δ out r
+  none : r ≡ 0 → (π : ℕ → ℤ) → Quiet N f δ π → Searched N f δ out r
