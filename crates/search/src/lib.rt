@@ -139,17 +139,17 @@ fn go_back(tails: &[u8], heads: &[u8], preds: &[u16], v: usize) -> usize
 }
 
 // The codes of the cycle through x, the last first. How many.
-fn collect(tails: &[u8], heads: &[u8], preds: &[u16], x: usize, out: &mut [u16]) -> usize
+fn collect(tails: &[u8], heads: &[u8], preds: &[u16], x: usize, out: &mut [usize]) -> usize
     requires { ⌜ Graph (graph (now tails) (now heads) [] [] []) × (length (now preds) ≡ 64) × (length (now out) ≡ 64) × Returns (graph (now tails) (now heads) [] [] []) (now preds) x ⌝ }
     ensures { λ r. ⌜ Collected (graph (now (tails .entry)) (now (heads .entry)) [] [] []) (now (preds .entry)) x (now (out .exit)) r ⌝ }
 {
     let mut w = x;
     let mut len = 0;
     loop {
-        let c = preds[w];
+        let c = preds[w] as usize;
         out[len] = c;
         len += 1;
-        w = source(tails, heads, c as usize);
+        w = source(tails, heads, c);
         if w == x {
             return len;
         }
@@ -165,7 +165,7 @@ pub fn find_cycle(
     costs: &[i32],
     flow: &[u32],
     need: u32,
-    out: &mut [u16],
+    out: &mut [usize],
 ) -> usize
     requires { ⌜ Searchable (graph (now tails) (now heads) (now lows) (now ups) (now costs)) (now flow) × (0 < need) × (need ≤ 1000000) × (length (now out) ≡ 64) ⌝ }
     ensures { λ r. ⌜ Searched (graph (now (tails .entry)) (now (heads .entry)) (now (lows .entry)) (now (ups .entry)) (now (costs .entry))) (now (flow .entry)) need (now (out .exit)) r ⌝ }

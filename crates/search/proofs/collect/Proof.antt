@@ -53,8 +53,8 @@ slice-write-out c = omega (arith, room-of (c .before), c .before .loop .inv .lon
 add-len : tie.Need-add-len Inv-loop μ-loop
 add-len c = omega (arith, room-of (c .before))
 
-cast-source : tie.Need-cast-source Inv-loop μ-loop
-cast-source c = omega (arith, c .shared-slice-known4 .given (c .before .loop .w))
+cast-c : tie.Need-cast-c Inv-loop μ-loop
+cast-c c = omega (arith, c .shared-slice-known4 .given (c .before .loop .w))
 
 source-requires : tie.Need-source-requires Inv-loop μ-loop
 source-requires c κs = let s = entry (c .before) in arc-of (net s) (s .pre .0) (s .args .preds .now) _ (here-of (c .before))
@@ -86,10 +86,10 @@ collect-spec =
     loop-holds
     mul-c
     shared-slice-read-c
+    cast-c
     mul-out
     slice-write-out
     add-len
-    cast-source
     source-requires
     same-length
     returns
