@@ -1,15 +1,14 @@
 -- The steps of a search: which codes go, what one code reaches, one round.
-use mathlib.Core.Path.{_≡_, refl, _∙_}
+use mathlib.Core.Path.{_≡_}
 use mathlib.Core.List.{List}
 use mathlib.Core.Bool.{Bool, true, false, _&&_}
-use Prim.Native.Nat.{ℕ, _+_, _/_, _%_, _<_}
+use Prim.Native.Nat.{ℕ, _+_, _/_, _%_}
 use native.Mathlib.Omega.{arith}
 use native.Mathlib.Numerals.{add-one}
-use native.Mathlib.Decide.{ℕ-discrete}
 use lib.Dec.{eqb, ltb}
-use lib.ListN.{length, getD, set}
-use lib.Seq.{getD-set-same, getD-set-other}
+use lib.ListN.{getD, set}
 use borrow.Author.Tests.{lt-ltb, le-ltb, eq-eqb, ne-eqb}
+use Rattle.laws.specs.Tests.{and-stops-second}
 use Rattle.network.specs.Network.{Net, arcs, low, up}
 use Rattle.network.specs.Residual.{src, dst}
 use Rattle.certificates.specs.Reach.{Spread, hit, Turn}
@@ -25,10 +24,6 @@ module _ (N : Net) (f : List ℕ) (free : List Bool) (c : ℕ) where
   pub goes-odd : getD free (c / 2) false ≡ true → ¬ (c % 2 ≡ 0) → ltb (low N (c / 2)) (getD f (c / 2) 0) ≡ goes N f free c
   goes-odd e p = rw (e, ne-eqb (c % 2) 0 p)
 
-and-off : (p q : Bool) → q ≡ false → p && q ≡ false
-and-off true q e = e
-and-off false q e = refl
-
 module _ (on : Bool) (rank via : List ℕ) (count u v c : ℕ) where
   miss : hit on rank u v ≡ false → Spread on rank via count u v c rank via count
   miss e = record { ranks = rw e; vias = rw e; counts = rw e }
@@ -37,10 +32,10 @@ module _ (on : Bool) (rank via : List ℕ) (count u v c : ℕ) where
   spread-shut e = miss (rw e)
 
   pub spread-unreached : getD rank u 0 ≡ 0 → Spread on rank via count u v c rank via count
-  spread-unreached e = miss (and-off on (ltb 0 (getD rank u 0) && eqb (getD rank v 0) 0) (rw (le-ltb 0 (getD rank u 0) (omega arith))))
+  spread-unreached e = miss (and-stops-second on (ltb 0 (getD rank u 0) && eqb (getD rank v 0) 0) (rw (le-ltb 0 (getD rank u 0) (omega arith))))
 
   pub spread-old : ¬ (getD rank v 0 ≡ 0) → Spread on rank via count u v c rank via count
-  spread-old e = miss (and-off on (ltb 0 (getD rank u 0) && eqb (getD rank v 0) 0) (and-off (ltb 0 (getD rank u 0)) (eqb (getD rank v 0) 0) (ne-eqb (getD rank v 0) 0 e)))
+  spread-old e = miss (and-stops-second on (ltb 0 (getD rank u 0) && eqb (getD rank v 0) 0) (and-stops-second (ltb 0 (getD rank u 0)) (eqb (getD rank v 0) 0) (ne-eqb (getD rank v 0) 0 e)))
 
   pub spread-new : on ≡ true → ¬ (getD rank u 0 ≡ 0) → getD rank v 0 ≡ 0
       → Spread on rank via count u v c (set rank v (count + 1)) (set via v c) (count + 1)
@@ -56,11 +51,3 @@ TurnOf n N f free s from rank via count₀ count i = Turn n (from + from) (arcs 
 pub spread-at : (on on′ : Bool) (rank via : List ℕ) (count u u′ v v′ c : ℕ) (rank′ via′ : List ℕ) (r : ℕ)
     → on ≡ on′ → u ≡ u′ → v ≡ v′ → Spread on rank via count u v c rank′ via′ r → Spread on′ rank via count u′ v′ c rank′ via′ r
 spread-at on on′ rank via count u u′ v v′ c rank′ via′ r p q w s = rw (← p, ← q, ← w) s
-
--- one more 0 at the front
-pub zero-more : (l : List ℕ) (i : ℕ) → i < length l → ((v : ℕ) → v < i → getD l v 0 ≡ 0) → (v : ℕ) → v < i + 1 → getD (set l i 0) v 0 ≡ 0
-zero-more l i h f v k = go (ℕ-discrete v i)
-  where
-    go : Dec (v ≡ i) → getD (set l i 0) v 0 ≡ 0
-    go (yes q) = rw (q, getD-set-same l i 0 0 h)
-    go (no q) = getD-set-other l i v 0 0 q ∙ f v (omega arith)

@@ -3,7 +3,7 @@ use mathlib.Core.Path.{_≡_, refl}
 use native.Mathlib.Omega.{arith}
 use borrow.Author.Needs.{needs}
 use lib.ListN.{length, getD, length-set}
-use Rattle.paths.proofs.Reaching.{zero-more}
+use Rattle.laws.specs.Padded.{set-more}
 use Rattle.paths.proofs.clear.Statement.{statement}
 use Rattle.paths.proofs.clear.Tie as tie
 
@@ -29,7 +29,7 @@ loop-less : tie.Need-loop-less Inv-loop μ-loop
 loop-less c = simp length-set (omega arith)
 
 loop-again : tie.Need-loop-again Inv-loop μ-loop
-loop-again c = let a = c .before .loop in (simp length-set (a .inv .0), simp length-set (omega arith), zero-more (a .rank) (a .i) (c .loop-test .taken) (a .inv .2))
+loop-again c = let a = c .before .loop in (simp length-set (a .inv .0), simp length-set (omega arith), set-more (λ v x. x ≡ 0) (a .rank) (a .i) 0 0 (c .loop-test .taken) (a .inv .2) refl)
 
 same-length : tie.Need-same-length Inv-loop μ-loop
 same-length c = c .before .loop .inv .0
