@@ -39,7 +39,7 @@ at-sub u v x y = go (ℕ-discrete u v)
     go (yes q) = rw (at-same q (x -ℤ y), at-same q x, at-same q y)
     go (no q) = rw (at-other q (x -ℤ y), at-other q x, at-other q y)
 
-at-neg : (u v : ℕ) (x : ℤ) → at u v (negℤ x) ≡ negℤ (at u v x)
+pub at-neg : (u v : ℕ) (x : ℤ) → at u v (negℤ x) ≡ negℤ (at u v x)
 at-neg u v x = go (ℕ-discrete u v)
   where
     go : Dec (u ≡ v) → at u v (negℤ x) ≡ negℤ (at u v x)

@@ -41,6 +41,14 @@ module _ {A : Type 0} where
   member-every P [] f = tt
   member-every P (b ∷ l) f = (f b (inl refl), member-every P l (λ a m. f a (inr m)))
 
+  pub every-map : (P Q : A → Type 0) (l : List A) → ((a : A) → P a → Q a) → Every P l → Every Q l
+  every-map P Q [] g e = tt
+  every-map P Q (a ∷ l) g e = (g a (e .0), every-map P Q l g (e .1))
+
+  pub every-map2 : (P Q R : A → Type 0) (l : List A) → ((a : A) → P a → Q a → R a) → Every P l → Every Q l → Every R l
+  every-map2 P Q R [] g d e = tt
+  every-map2 P Q R (a ∷ l) g d e = (g a (d .0) (e .0), every-map2 P Q R l g (d .1) (e .1))
+
   pub append-cases : (l k : List A) (a : A) → a ∈ (l ++ k) → (a ∈ l) ⊎ (a ∈ k)
   append-cases [] k a m = inr m
   append-cases (b ∷ l) k a (inl q) = inl (inl q)

@@ -1,11 +1,12 @@
--- An array of k places that holds a list: the list, and d in the places that are left; and such an array filled one place after another.
+-- An array of k places that holds a list: the list, and d in the places that are left; and an array filled one place after another.
 use mathlib.Core.Path.{_≡_, refl, sym, ap, _∙_}
 use mathlib.Core.List.{List, [], _∷_, _++_, map}
 use Prim.Native.Nat.{ℕ, suc, _+_, _-_, _≤_, _<_}
 use native.Mathlib.Numerals.{add-one}
 use native.Mathlib.Omega.{arith}
+use native.Mathlib.Decide.{ℕ-discrete}
 use lib.ListN.{length, getD, take, set, replicate, length-append, length-map, length-replicate}
-use lib.Seq.{take-suc, take-length, length-take-le, take-at, set-at}
+use lib.Seq.{take-suc, take-length, length-take-le, take-at, set-at, getD-set-same, getD-set-other}
 
 abbrev pub padded : {A : Type 0} → ℕ → A → List A → List A
 padded k d l = l ++ replicate (k - length l) d
@@ -51,3 +52,12 @@ module _ {A B : Type 0} (f : A → B) (l : List A) (k : ℕ) (d : B) where
 
   pub filled-all : (i : ℕ) → i ≡ length l → filled i ≡ padded k d (map f l)
   filled-all i e = ap filled e ∙ ap (λ t. padded k d (map f t)) (take-length l)
+
+-- what holds of the first i members holds of one more, once it is set
+pub set-more : {A : Type 0} (P : ℕ → A → Type 0) (l : List A) (i : ℕ) (a d : A) → i < length l → ((k : ℕ) → k < i → P k (getD l k d)) → P i a
+    → (k : ℕ) → k < i + 1 → P k (getD (set l i a) k d)
+set-more P l i a d h all here k m = go (ℕ-discrete k i)
+  where
+    go : Dec (k ≡ i) → P k (getD (set l i a) k d)
+    go (yes q) = rw (q, getD-set-same l i a d h) here
+    go (no q) = rw (getD-set-other l i k a d q) (all k (omega arith))

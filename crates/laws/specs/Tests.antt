@@ -28,6 +28,10 @@ pub and-stops : (p q : Bool) → p ≡ false → p && q ≡ false
 and-stops true q e = absurd (let z : _≡_ {A = ℕ} 0 1 = cc in omega arith)
 and-stops false q e = refl
 
+pub and-stops-second : (p q : Bool) → q ≡ false → p && q ≡ false
+and-stops-second true q e = e
+and-stops-second false q e = refl
+
 -- two tests of the code, the second only where the first holds
 pub and-then : (b₁ b₂ x y : Bool) → b₁ ≡ x → b₁ ≡ true → b₂ ≡ y → b₂ ≡ x && y
 and-then b₁ b₂ x y p q r = rw (sym p ∙ q) r

@@ -1,0 +1,89 @@
+-- What the search answers, and why it ends.
+use mathlib.Core.Path.{_≡_, sym, ap, _∙_}
+use mathlib.Core.Logic.{_⊎_, inl, inr}
+use mathlib.Core.List.{List}
+use mathlib.Core.Bool.{Bool, true, false}
+use Prim.Native.Nat.{ℕ, _/_, _≤_, _<_}
+use native.Mathlib.Omega.{arith}
+use lib.ListN.{length, getD}
+use lib.IntN.{ℤ, pos, _-ℤ_}
+use lib.Signed.{_≤ℤ_, _<ℤ_}
+use Rattle.laws.specs.Integers.{leZ-or-lt, ≤ℤ-trans}
+use Rattle.laws.specs.Linear.{lin, given2}
+use Rattle.laws.specs.Parts.{plus}
+use Rattle.laws.specs.Range.{fits}
+use Rattle.laws.specs.Sum.{sum}
+use Rattle.network.specs.Network.{Net, WellFormed, netOut, balance}
+use Rattle.certificates.specs.Cuts.{stuck, closed-steps, balances-sum}
+use Rattle.certificates.specs.Push.{InBounds, all-netOut}
+use Rattle.certificates.specs.Feasible.{lacks as excesses, relieved, all-met}
+use Rattle.paths.specs.Graph.{graph, netWith}
+use Rattle.paths.specs.Pushing.{Ready}
+use Rattle.paths.proofs.Lists.{searchable-again}
+use Rattle.feasible.specs.Excess.{supplies, SmallNumbers, Excesses, FirstExcess}
+use Rattle.feasible.specs.Sending.{SentFrom, CutOff}
+use Rattle.feasible.specs.Answer.{Given, Answer}
+
+module _ (b : List ℤ) (t h l u : List ℕ) (free : List Bool) (f₀ : List ℕ) (G : Given b t h l u free f₀) where
+  pub start-bounds : (f : List ℕ) → f ≡ l → InBounds (graph t h l u) f
+  start-bounds f e = rw e (record { all-arcs = G .small .lows-len; above = λ a k. omega arith; below = G .ordered })
+
+  pub small-of : (f : List ℕ) → InBounds (graph t h l u) f → SmallNumbers b t h f
+  small-of f k = record {
+    few = G .small .few;
+    heads-len = G .searchable .heads-len;
+    flow-len = k .all-arcs;
+    tail-in = G .tail-in;
+    head-in = G .head-in;
+    flow-small = λ a i. omega (arith, k .below a i, G .small .ups-small a i);
+    balance-small = G .balance-small;
+  }
+
+  pub ready-of : (f : List ℕ) → InBounds (graph t h l u) f → Ready (graph t h l u) f free
+  ready-of f k = record { searchable = searchable-again 64 (graph t h l u) f₀ f free (k .all-arcs ∙ sym (G .searchable .flow-len)) (G .searchable); small = G .small; bounds = k }
+
+  formed : (c : List ℤ) → length c ≡ length t → WellFormed (netWith b t h l u c)
+  formed c e = record { heads-len = G .searchable .heads-len; lows-len = G .small .lows-len; ups-len = G .small .ups-len; costs-len = e; tail-in = G .tail-in; head-in = G .head-in }
+
+  pub no-balance : (g : List ℕ) → ¬ (sum (length b) (λ v. getD b v (pos 0)) ≡ pos 0) → Answer b t h l u g false
+  no-balance g ne = record {
+    found = λ q. absurd (let w : _≡_ {A = ℕ} 0 1 = cc in omega arith);
+    none = λ _ c d x F. ne (balances-sum (netWith b t h l u c) (formed c d) x F);
+  }
+
+  module _ (f : List ℕ) (k : InBounds (graph t h l u) f) (lk : List ℤ) (L : Excesses b t h f lk) where
+    pub all-sent : sum (length b) (λ v. getD b v (pos 0)) ≡ pos 0 → (r : ℕ) → FirstExcess lk r → length lk ≤ r → Answer b t h l u f true
+    all-sent e r F z = record {
+      found = λ _ c d. all-met (netWith b t h l u c) (formed c d) f (record { all-arcs = k .all-arcs; above = k .above; below = k .below }) e
+          (λ v i. rw (← (L .is v i)) (F .none z v (omega (arith, L .len))));
+      none = λ q. absurd (let w : _≡_ {A = ℕ} 0 1 = cc in omega arith);
+    }
+
+    pub no-flow-left : (s : ℕ) → s < length lk → pos 0 <ℤ getD lk s (pos 0) → CutOff (graph t h l u) f free lk s (length lk) → (g : List ℕ) → Answer b t h l u g false
+    no-flow-left s i p C g = record {
+      found = λ q. absurd (let w : _≡_ {A = ℕ} 0 1 = cc in omega arith);
+      none = λ _ c d. stuck (netWith b t h l u c) (formed c d) f (C .inside)
+          (closed-steps (netWith b t h l u c) f (λ a. Unit {0}) (C .inside) (λ x y _ v w. C .shut x y (rw (G .all-free (x / 2) (omega arith)) v) w))
+          s (omega (arith, L .len)) (C .has) (owes (balance (netWith b t h l u c) s) (netOut (netWith b t h l u c) f s) (getD lk s (pos 0)) (L .is s (omega (arith, L .len))) p)
+          (λ v j m. fine (netWith b t h l u c) v m (L .is v j) (leZ-or-lt (pos 0) (getD lk v (pos 0))) (λ n. C .none v (omega (arith, L .len)) n));
+    }
+      where
+        owes : (b o x : ℤ) → x ≡ b -ℤ o → pos 0 <ℤ x → o <ℤ b
+        owes b o x e p = given2 e p (simp lin (omega arith))
+
+        even : (b o x : ℤ) → x ≡ b -ℤ o → pos 0 ≤ℤ x → o ≤ℤ b
+        even b o x e p = given2 e p (simp lin (omega arith))
+
+        fine : (N : Net) (v : ℕ) → C .inside v ≡ true → getD lk v (pos 0) ≡ balance N v -ℤ netOut N f v → (pos 0 ≤ℤ getD lk v (pos 0)) ⊎ (getD lk v (pos 0) <ℤ pos 0) → (getD lk v (pos 0) <ℤ pos 0 → C .inside v ≡ false) → netOut N f v ≤ℤ balance N v
+        fine N v m e (inl p) n = even (balance N v) (netOut N f v) (getD lk v (pos 0)) e p
+        fine N v m e (inr p) n = absurd (let w : _≡_ {A = ℕ} 0 1 = cc (m, n p) in omega arith)
+
+    -- the sum of the excesses above 0 falls
+    pub falls : (g : List ℕ) (s : ℕ) → s < length lk → SentFrom (graph t h l u) f g lk s → plus (excesses (supplies b t h) g) < plus (excesses (supplies b t h) f)
+    falls g s i S =
+        let R = S .sent in
+        relieved (supplies b t h) f g s (S .to) (R .amount)
+        (λ w. ap (λ x. netOut (supplies b t h) x w) (R .exact) ∙ all-netOut (graph t h l u) (R .amount) (R .codes) f s (S .to) w k (R .trail) (R .able .distinct) (R .able .fits))
+        (omega (arith, L .len)) (R .some)
+        (rw (← (L .is s (omega (arith, L .len)))) (≤ℤ-trans {a = pos (R .amount)} {b = pos (S .most)} {c = getD lk s (pos 0)} (simp lin (omega (arith, R .at-most))) (S .most-ok)))
+        (rw (← (L .is (S .to) (omega (arith, L .len, S .to-in)))) (R .at-t))

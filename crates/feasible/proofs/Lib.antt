@@ -1,0 +1,4 @@
+mod Widths
+mod Excess
+mod Sending
+mod Answer

@@ -1,0 +1,22 @@
+use mathlib.Core.Path.{ap, _∙_}
+use native.Mathlib.Omega.{arith}
+use lib.IntN.{negℤ}
+use mir.Syntax.{w64}
+use mir.Val.{toZ, ofZ}
+use mir.Facts.{toZ-ofZ}
+use borrow.Author.Needs.{needs}
+use Rattle.feasible.proofs.Widths.{neg-fits, zero-sub}
+use Rattle.feasible.proofs.negative.Statement.{statement}
+use Rattle.feasible.proofs.negative.Tie as tie
+
+signed-requires : tie.Need-signed-requires
+signed-requires c κs = search needs
+
+sub-result : tie.Need-sub-result
+sub-result c = neg-fits (toZ w64 (ofZ w64 (c .signed .result))) (c .before .args .x) (toZ-ofZ (record { sfits = c .signed .ok }) ∙ c .signed .ensures) (omega (arith, c .before .fits .x))
+
+returns : tie.Need-returns
+returns c = toZ-ofZ (sub-result c) ∙ zero-sub (toZ w64 (ofZ w64 (c .signed .result))) ∙ ap negℤ (toZ-ofZ (record { sfits = c .signed .ok }) ∙ c .signed .ensures)
+
+pub negative-spec : {M : Type 1} → statement M
+negative-spec = tie.close (tie.spec signed-requires sub-result returns)

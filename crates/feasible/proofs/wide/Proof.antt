@@ -1,0 +1,15 @@
+use mathlib.Core.Path.{_∙_}
+use mir.Syntax.{w64}
+use mir.Facts.{toZ-ofZ}
+use Rattle.feasible.proofs.Widths.{widens}
+use Rattle.feasible.proofs.wide.Statement.{statement}
+use Rattle.feasible.proofs.wide.Tie as tie
+
+cast-result : tie.Need-cast-result
+cast-result c = widens (c .fits .c)
+
+returns : tie.Need-returns
+returns c = toZ-ofZ {w = w64} (widens (c .fits .c)) ∙ toZ-ofZ (c .fits .c)
+
+pub wide-spec : {M : Type 1} → statement M
+wide-spec = tie.close (tie.spec cast-result returns)

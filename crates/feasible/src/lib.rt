@@ -1,0 +1,231 @@
+// The search for a flow. It starts at the lower bounds and sends from nodes with an excess to nodes with a deficit, until there is
+// no excess, or none of it can be sent: the nodes reached then certify that there is no flow.
+ghost use mathlib.Core.Path.{_≡_};
+ghost use Prim.Native.Nat.{ℕ, _≤_, _<_};
+ghost use lib.ListN.{length, getD, set};
+ghost use lib.IntN.{pos, negℤ, _+ℤ_};
+ghost use lib.Signed.{_<ℤ_};
+ghost use mir.Syntax.{w64};
+ghost use mir.Val.{SFits};
+ghost use Rattle.laws.specs.Range.{Bounded};
+ghost use Rattle.laws.specs.Sum.{sum};
+ghost use Rattle.paths.specs.Graph.{graph};
+ghost use Rattle.paths.specs.Pushing.{Ready};
+ghost use Rattle.feasible.specs.Excess.{SmallNumbers, Excesses, FirstExcess};
+ghost use Rattle.feasible.specs.Sending.{Capped, SendsTo, Sends};
+ghost use Rattle.feasible.specs.Answer.{Given, Answer};
+
+// The same number in 64 bits.
+fn wide(c: i32) -> i64
+    ensures { λ r. ⌜ r ≡ c ⌝ }
+{
+    c as i64
+}
+
+// A number of units, as a signed number.
+fn signed(x: u32) -> i64
+    ensures { λ r. ⌜ r ≡ pos x ⌝ }
+{
+    x as i64
+}
+
+// The same, below 0.
+fn negative(x: u32) -> i64
+    ensures { λ r. ⌜ r ≡ negℤ (pos x) ⌝ }
+{
+    -signed(x)
+}
+
+// x more at node v.
+fn add_at(excess: &mut [i64], v: usize, x: i64)
+    requires { ⌜ (v < length (now excess)) × SFits w64 (getD (now excess) v (pos 0) +ℤ x) ⌝ }
+    ensures { λ _. ⌜ now (excess .exit) ≡ set (now (excess .entry)) v (getD (now (excess .entry)) v (pos 0) +ℤ x) ⌝ }
+{
+    let y = excess[v];
+    excess[v] = y + x;
+}
+
+// The balances, in 64 bits.
+fn copy_balances(balances: &[i32], excess: &mut [i64])
+    requires { ⌜ length (now excess) ≡ length (now balances) ⌝ }
+    ensures { λ _. ⌜ now (excess .exit) ≡ now (balances .entry) ⌝ }
+{
+    let mut i = 0;
+    while i < balances.len() {
+        let x = wide(balances[i]);
+        excess[i] = x;
+        i += 1;
+    }
+}
+
+// The excess of each node: its balance, less what the flow sends out of it beyond what comes in.
+pub fn excess_of(tails: &[u8], heads: &[u8], balances: &[i32], flow: &[u32], excess: &mut [i64])
+    requires { ⌜ SmallNumbers (now balances) (now tails) (now heads) (now flow) × (length (now excess) ≡ length (now balances)) ⌝ }
+    ensures { λ _. ⌜ Excesses (now (balances .entry)) (now (tails .entry)) (now (heads .entry)) (now (flow .entry)) (now (excess .exit)) ⌝ }
+{
+    copy_balances(balances, excess);
+    let mut a = 0;
+    while a < tails.len() {
+        let t = tails[a] as usize;
+        let h = heads[a] as usize;
+        let f = flow[a];
+        add_at(excess, t, negative(f));
+        add_at(excess, h, signed(f));
+        a += 1;
+    }
+}
+
+// A positive number, or a million where it is greater.
+fn capped(x: i64) -> u32
+    requires { ⌜ pos 0 <ℤ x ⌝ }
+    ensures { λ r. ⌜ Capped x r ⌝ }
+{
+    if 1000000 < x {
+        return 1000000;
+    }
+    x as u32
+}
+
+// As much as there is room for, at most `most`, from s to t, if t has a deficit (its excess x is below 0) and is reached.
+fn send_to(
+    tails: &[u8],
+    heads: &[u8],
+    lows: &[u32],
+    ups: &[u32],
+    free: &[bool],
+    flow: &mut [u32],
+    s: usize,
+    t: usize,
+    x: i64,
+    most: u32,
+) -> bool
+    requires { ⌜ Ready (graph (now tails) (now heads) (now lows) (now ups)) (now flow) (now free) × (s < 64) × (t < 64) × (0 < most) × Bounded 3000000000 x ⌝ }
+    ensures { λ r. ⌜ SendsTo (graph (now (tails .entry)) (now (heads .entry)) (now (lows .entry)) (now (ups .entry))) (now (flow .entry)) (now (flow .exit)) (now (free .entry)) s t most x r ⌝ }
+{
+    if x >= 0 {
+        return false;
+    }
+    let mut codes = [0usize; 64];
+    let len = paths::detour(tails, heads, lows, ups, free, flow, s, t, 0, &mut codes);
+    if 64 < len {
+        return false;
+    }
+    let cap = paths::lesser(most, capped(-x));
+    let d = paths::room(tails, lows, ups, flow, &codes, len, cap);
+    paths::push(tails, lows, ups, flow, &codes, len, d);
+    true
+}
+
+// Some of the excess of s, sent to the first node that has a deficit and is reached.
+pub fn send(
+    tails: &[u8],
+    heads: &[u8],
+    lows: &[u32],
+    ups: &[u32],
+    free: &[bool],
+    flow: &mut [u32],
+    excess: &[i64],
+    s: usize,
+) -> bool
+    requires { ⌜ Ready (graph (now tails) (now heads) (now lows) (now ups)) (now flow) (now free) × (s < length (now excess)) × (length (now excess) ≤ 64) × (pos 0 <ℤ getD (now excess) s (pos 0)) × ((v : ℕ) → Bounded 3000000000 (getD (now excess) v (pos 0))) ⌝ }
+    ensures { λ r. ⌜ Sends (graph (now (tails .entry)) (now (heads .entry)) (now (lows .entry)) (now (ups .entry))) (now (flow .entry)) (now (flow .exit)) (now (free .entry)) (now (excess .entry)) s r ⌝ }
+{
+    let most = capped(excess[s]);
+    let mut t = 0;
+    while t < excess.len() {
+        if send_to(tails, heads, lows, ups, free, flow, s, t, excess[t], most) {
+            return true;
+        }
+        t += 1;
+    }
+    false
+}
+
+// The first node whose excess is above 0; the length where there is none.
+fn first_excess(excess: &[i64]) -> usize
+    ensures { λ r. ⌜ FirstExcess (now (excess .entry)) r ⌝ }
+{
+    let mut i = 0;
+    while i < excess.len() {
+        let x = excess[i];
+        if 0 < x {
+            return i;
+        }
+        i += 1;
+    }
+    i
+}
+
+// The numbers of `from`, into `to`.
+fn copy(from: &[u32], to: &mut [u32])
+    requires { ⌜ length (now to) ≡ length (now from) ⌝ }
+    ensures { λ _. ⌜ now (to .exit) ≡ now (from .entry) ⌝ }
+{
+    let mut i = 0;
+    while i < from.len() {
+        let x = from[i];
+        to[i] = x;
+        i += 1;
+    }
+}
+
+// What the balances sum to.
+fn total(balances: &[i32]) -> i64
+    requires { ⌜ (length (now balances) ≤ 64) × ((v : ℕ) → Bounded 1000000000 (getD (now balances) v (pos 0))) ⌝ }
+    ensures { λ r. ⌜ r ≡ sum (length (now (balances .entry))) (λ v. getD (now (balances .entry)) v (pos 0)) ⌝ }
+{
+    let mut sum: i64 = 0;
+    let mut i = 0;
+    while i < balances.len() {
+        sum += wide(balances[i]);
+        i += 1;
+    }
+    sum
+}
+
+// A flow, where the balances sum to 0; false if there is none.
+fn from_lower_bounds(
+    tails: &[u8],
+    heads: &[u8],
+    lows: &[u32],
+    ups: &[u32],
+    free: &[bool],
+    balances: &[i32],
+    flow: &mut [u32],
+    excess: &mut [i64],
+) -> bool
+    requires { ⌜ Given (now balances) (now tails) (now heads) (now lows) (now ups) (now free) (now flow) × (length (now excess) ≡ length (now balances)) × (sum (length (now balances)) (λ v. getD (now balances) v (pos 0)) ≡ pos 0) ⌝ }
+    ensures { λ r. ⌜ Answer (now (balances .entry)) (now (tails .entry)) (now (heads .entry)) (now (lows .entry)) (now (ups .entry)) (now (flow .exit)) r ⌝ }
+{
+    copy(lows, flow);
+    loop {
+        excess_of(tails, heads, balances, flow, excess);
+        let s = first_excess(excess);
+        if s >= excess.len() {
+            return true;
+        }
+        if !send(tails, heads, lows, ups, free, flow, excess, s) {
+            return false;
+        }
+    }
+}
+
+// A flow; false if there is none. Every arc is marked free; `excess` is room to work in.
+pub fn feasible(
+    tails: &[u8],
+    heads: &[u8],
+    lows: &[u32],
+    ups: &[u32],
+    free: &[bool],
+    balances: &[i32],
+    flow: &mut [u32],
+    excess: &mut [i64],
+) -> bool
+    requires { ⌜ Given (now balances) (now tails) (now heads) (now lows) (now ups) (now free) (now flow) × (length (now excess) ≡ length (now balances)) ⌝ }
+    ensures { λ r. ⌜ Answer (now (balances .entry)) (now (tails .entry)) (now (heads .entry)) (now (lows .entry)) (now (ups .entry)) (now (flow .exit)) r ⌝ }
+{
+    if total(balances) != 0 {
+        return false;
+    }
+    from_lower_bounds(tails, heads, lows, ups, free, balances, flow, excess)
+}

@@ -1,0 +1,5 @@
+mod Detours
+mod Certified
+mod Minimising
+mod Following
+mod Counting

@@ -1,0 +1,68 @@
+use Prim.Native.Nat.{_-_, _≤_}
+use mathlib.Core.Path.{_≡_, refl, _∙_}
+use mathlib.Core.List.{List}
+use native.Mathlib.Omega.{arith}
+use native.Mathlib.Numerals.{add-one}
+use lib.ListN.{length}
+use lib.IntN.{ℤ}
+use Rattle.network.specs.Network.{Net}
+use Rattle.certificates.specs.Push.{InBounds}
+use Rattle.paths.proofs.Lists.{ready-again}
+use Rattle.paths.specs.Graph.{graph, netWith}
+use Rattle.flows.proofs.Certified.{tight-any}
+use Rattle.flows.proofs.Minimising.{MinTurn, min-start, min-step, min-done}
+use Rattle.flows.specs.Tight.{Tight, ForAll}
+use Rattle.flows.proofs.minimise.Statement.{statement}
+use Rattle.flows.proofs.minimise.Tie as tie
+
+abbrev Inv-loop : tie.InvT-loop
+Inv-loop tails heads lows ups tight flow₀ k a₀ flow a = (k ≤ a) × (length flow ≡ length flow₀) × InBounds (graph tails heads lows ups) flow × ForAll tails heads lows ups (λ N π. Tight N π tight flow₀ → MinTurn N flow₀ flow k a)
+
+abbrev μ-loop : tie.MeasureT-loop
+μ-loop tails heads lows ups tight flow₀ k a₀ flow a = length tails - a
+
+abbrev part : tie.Start Inv-loop μ-loop → Net
+part s = graph (s .args .tails .now) (s .args .heads .now) (s .args .lows .now) (s .args .ups .now)
+
+abbrev whole : tie.Start Inv-loop μ-loop → List ℤ → List ℤ → Net
+whole s b c = netWith b (s .args .tails .now) (s .args .heads .now) (s .args .lows .now) (s .args .ups .now) c
+
+loop-holds : tie.Need-loop-holds Inv-loop μ-loop
+loop-holds c = let s = c .before .before .before .before .before .before in (omega arith, refl, s .pre .0 .bounds, λ b d π ti. min-start (whole s b d) (s .args .flow .now) (s .args .k) (ti .least))
+
+lower-requires : tie.Need-lower-requires Inv-loop μ-loop
+lower-requires c κs = let s = c .before .before .before .before .before .before .before .before .before in let a = c .before .before .loop in (ready-again (part s) (s .args .flow .now) (a .flow) (s .args .tight .now) (a .inv .1) (a .inv .2) (s .pre .0), c .before .loop-test .taken)
+
+add-a : tie.Need-add-a Inv-loop μ-loop
+add-a c = let t = c .before .before .before .before in let s = t .before .before .before .before .before .before .before .before in omega (arith, t .loop-test .taken, s .pre .0 .searchable .few)
+
+loop-less : tie.Need-loop-less Inv-loop μ-loop
+loop-less c = let t = c .before .before .before .before in omega (arith, t .loop-test .taken)
+
+loop-again : tie.Need-loop-again Inv-loop μ-loop
+loop-again c = let t = c .before .before .before .before in let s = t .before .before .before .before .before .before .before .before in let a = t .before .loop in let o = c .before .before .lower in (
+  omega (arith, a .inv .0),
+  o .kept .1 .1 .1 .1 .1 .0 ∙ a .inv .1,
+  o .ensures .0,
+  λ b d π ti. rw add-one (min-step (whole s b d) (s .args .flow .now) (a .flow) _ (s .args .k) (a .a) (a .inv .0) (a .inv .3 b d π ti) (o .ensures .1 b d π (tight-any (whole s b d) π (s .args .tight .now) (s .args .flow .now) (a .flow) ti (a .inv .3 b d π ti .least)))),
+)
+
+same-length : tie.Need-same-length Inv-loop μ-loop
+same-length c = c .before .loop .inv .1
+
+returns : tie.Need-returns Inv-loop μ-loop
+returns c = let s = c .before .before .before .before .before .before .before .before in let a = c .before .loop in (a .inv .2, λ b d π ti. min-done (whole s b d) (s .args .flow .now) (a .flow) (s .args .k) (a .a) (c .loop-test .left) (a .inv .3 b d π ti))
+
+pub minimise-spec : {M : Type 1} → statement M
+minimise-spec =
+    tie.close
+    (tie.spec
+    Inv-loop
+    μ-loop
+    loop-holds
+    lower-requires
+    add-a
+    loop-less
+    loop-again
+    same-length
+    returns)

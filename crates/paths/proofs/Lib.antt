@@ -1,0 +1,7 @@
+mod Codes
+mod Prefix
+mod Reaching
+mod Tracing
+pub mod LeastRoom
+pub mod Pushing
+pub mod Lists

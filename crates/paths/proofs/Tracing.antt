@@ -1,0 +1,45 @@
+-- From a search to a path, or to a set of nodes that no code leaves.
+use mathlib.Core.Path.{_≡_}
+use mathlib.Core.List.{List}
+use mathlib.Core.Bool.{Bool}
+use Prim.Native.Nat.{ℕ, _+_, _≤_, _<_}
+use native.Mathlib.Omega.{arith}
+use native.Mathlib.Numerals.{add-one}
+use lib.Dec.{ltb}
+use lib.ListN.{length, getD, set, take}
+use lib.Seq.{take-suc-set}
+use borrow.Author.Tests.{ltb-true, lt-ltb, le-ltb}
+use Rattle.network.specs.Network.{Net, arcs}
+use Rattle.network.specs.Residual.{src, dst}
+use Rattle.certificates.specs.Reach.{Falls, TracedAny, any-step, tree-falls}
+use Rattle.paths.specs.Reaching.{goes, Searchable, ReachedOf, Path, Blocked, Detoured}
+use Rattle.paths.proofs.Codes.{src-in}
+
+pub trace-more : (n hi : ℕ) (sr ds : ℕ → ℕ) (rank via codes : List ℕ) (t v len w : ℕ) → len < length codes → v < n → 1 < getD rank v 0 → w ≡ sr (getD via v 0)
+    → TracedAny n hi sr ds rank via t (λ _. v) (take len codes)
+    → TracedAny n hi sr ds rank via t (λ _. w) (take (len + 1) (set codes len (getD via v 0)))
+trace-more n hi sr ds rank via codes t v len w l k h e tr =
+    rw (e, add-one len, take-suc-set codes len (getD via v 0) l) (any-step n hi sr ds rank via t v (take len codes) k h tr)
+
+module _ (N : Net) (f : List ℕ) (free : List Bool) (s t from : ℕ) (rank via : List ℕ) (count : ℕ) (r : ReachedOf 64 N f free s from t rank via count) where
+  pub reach-blocked : getD rank t 0 ≡ 0 → Blocked N f free s t from
+  reach-blocked e = record {
+    inside = λ v. ltb 0 (getD rank v 0);
+    has = lt-ltb 0 (getD rank s 0) (omega (arith, r .tree .root));
+    lacks = le-ltb 0 (getD rank t 0) (omega arith);
+    shut = λ c l h g i. lt-ltb 0 (getD rank (dst N c) 0) (r .shut e c l h g (ltb-true 0 (getD rank (src N c) 0) i));
+  }
+
+  pub reach-falls : Searchable 64 N f free → Falls 64 (arcs N + arcs N) (src N) rank via
+  reach-falls ok = tree-falls 64 (from + from) (arcs N + arcs N) (src N) (dst N) (goes N f free) s rank via count (r .tree) (λ c h. src-in 64 N f free ok c h)
+
+  pub reach-path : (cs : List ℕ) → TracedAny 64 (arcs N + arcs N) (src N) (dst N) rank via t (λ s. s) cs → Path N f free s t from cs
+  reach-path cs tr =
+      let d = tr (from + from) (goes N f free) s count (r .tree) in
+      record { trail = d .way; distinct = d .distinct; low = d .low; passes = d .goes }
+
+pub detour-no : (N : Net) (f : List ℕ) (free : List Bool) (s t from : ℕ) (codes : List ℕ) → Blocked N f free s t from → Detoured N f free s t from codes 65
+detour-no N f free s t from codes b = record { found = λ h. absurd (omega arith); blocked = λ _. b }
+
+pub detour-yes : (N : Net) (f : List ℕ) (free : List Bool) (s t from : ℕ) (codes : List ℕ) (r : ℕ) → length codes ≡ 64 → r ≤ length codes → Path N f free s t from (take r codes) → Detoured N f free s t from codes r
+detour-yes N f free s t from codes r e l p = record { found = λ _. (l, p); blocked = λ h. absurd (omega arith) }

@@ -1,0 +1,3 @@
+pub mod Graph
+pub mod Reaching
+pub mod Pushing

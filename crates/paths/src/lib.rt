@@ -1,0 +1,306 @@
+// Searches in the residual network, the paths that they find, and pushing along a path.
+// A residual arc is a code: 2a is arc a forward, 2a + 1 is arc a backward.
+ghost use mathlib.Core.Path.{_≡_};
+ghost use mathlib.Core.Bool.{true, false};
+ghost use Prim.Native.Nat.{ℕ, _+_, _-_, _/_, _%_, _≤_, _<_, min};
+ghost use lib.Dec.{eqb};
+ghost use lib.ListN.{length, getD, take};
+ghost use Rattle.laws.specs.Members.{Every};
+ghost use Rattle.network.specs.Residual.{either, src, dst};
+ghost use Rattle.certificates.specs.Push.{InBounds, roomOf, pushOne, pushAll};
+ghost use Rattle.certificates.specs.Reach.{Spread, Falls, TracedAny};
+ghost use Rattle.paths.specs.Graph.{graph};
+ghost use Rattle.paths.specs.Reaching.{goes, Searchable, TreeOf, RoundedOf, ReachedOf, Detoured};
+ghost use Rattle.paths.specs.Pushing.{SmallBounds, roomAll, Pushable};
+
+// Where code c starts, given tails and heads; given heads and tails, where it ends.
+fn end_of(a: &[u8], b: &[u8], c: usize) -> usize
+    requires { ⌜ (c / 2 < length (now a)) × (c / 2 < length (now b)) ⌝ }
+    ensures { λ r. ⌜ r ≡ either c (getD (now (a .entry)) (c / 2) 0) (getD (now (b .entry)) (c / 2) 0) ⌝ }
+{
+    let h = c / 2;
+    if c % 2 == 0 {
+        return a[h] as usize;
+    }
+    b[h] as usize
+}
+
+// Whether code c can be used and its arc is free.
+fn goes(free: &[bool], lows: &[u32], ups: &[u32], flow: &[u32], c: usize) -> bool
+    requires { ⌜ (c / 2 < length (now free)) × (c / 2 < length (now lows)) × (c / 2 < length (now ups)) × (c / 2 < length (now flow)) ⌝ }
+    ensures { λ r. ⌜ r ≡ goes (graph (now (ups .entry)) (now (ups .entry)) (now (lows .entry)) (now (ups .entry))) (now (flow .entry)) (now (free .entry)) c ⌝ }
+{
+    let h = c / 2;
+    if !free[h] {
+        return false;
+    }
+    let f = flow[h];
+    if c % 2 == 0 {
+        let u = ups[h];
+        return f < u;
+    }
+    let l = lows[h];
+    l < f
+}
+
+// Code c leads from u to v, and goes if `on`: v is reached if u is. How many nodes are reached now.
+fn spread(
+    rank: &mut [usize],
+    via: &mut [usize],
+    count: usize,
+    on: bool,
+    u: usize,
+    v: usize,
+    c: usize,
+) -> usize
+    requires { ⌜ (u < length (now rank)) × (v < length (now rank)) × (v < length (now via)) × (count < 1000) ⌝ }
+    ensures { λ r. ⌜ Spread on (now (rank .entry)) (now (via .entry)) count u v c (now (rank .exit)) (now (via .exit)) r ⌝ }
+{
+    if !on {
+        return count;
+    }
+    let p = rank[u];
+    if p == 0 {
+        return count;
+    }
+    let q = rank[v];
+    if q != 0 {
+        return count;
+    }
+    rank[v] = count + 1;
+    via[v] = c;
+    count + 1
+}
+
+// Every code of the arcs from `from` on, tried once. How many nodes are reached now.
+fn round(
+    tails: &[u8],
+    heads: &[u8],
+    lows: &[u32],
+    ups: &[u32],
+    free: &[bool],
+    flow: &[u32],
+    s: usize,
+    from: usize,
+    rank: &mut [usize],
+    via: &mut [usize],
+    count: usize,
+) -> usize
+    requires { ⌜ Searchable (length (now rank)) (graph (now tails) (now heads) (now lows) (now ups)) (now flow) (now free) × (from ≤ 512) × TreeOf (length (now rank)) (graph (now tails) (now heads) (now lows) (now ups)) (now flow) (now free) s from (now rank) (now via) count ⌝ }
+    ensures { λ r. ⌜ RoundedOf (length (now (rank .entry))) (graph (now (tails .entry)) (now (heads .entry)) (now (lows .entry)) (now (ups .entry))) (now (flow .entry)) (now (free .entry)) s from count (now (rank .exit)) (now (via .exit)) r ⌝ }
+{
+    let hi = tails.len() + tails.len();
+    let mut n = count;
+    let mut c = from + from;
+    while c < hi {
+        let u = end_of(tails, heads, c);
+        let v = end_of(heads, tails, c);
+        let on = goes(free, lows, ups, flow, c);
+        n = spread(rank, via, n, on, u, v, c);
+        c += 1;
+    }
+    n
+}
+
+// 0 at every node.
+fn clear(rank: &mut [usize])
+    ensures { λ _. ⌜ ((v : ℕ) → v < length (now (rank .exit)) → getD (now (rank .exit)) v 0 ≡ 0) ⌝ }
+{
+    let mut i = 0;
+    while i < rank.len() {
+        rank[i] = 0;
+        i += 1;
+    }
+}
+
+// The nodes reached from s over the free arcs from `from` on, until t is among them or there are no more. How many.
+// rank is 0 at a node that is not reached, 1 at s, and grows in the order of reaching; via has the code that led to a node.
+pub fn reach(
+    tails: &[u8],
+    heads: &[u8],
+    lows: &[u32],
+    ups: &[u32],
+    free: &[bool],
+    flow: &[u32],
+    s: usize,
+    t: usize,
+    from: usize,
+    rank: &mut [usize],
+    via: &mut [usize],
+) -> usize
+    requires { ⌜ Searchable (length (now rank)) (graph (now tails) (now heads) (now lows) (now ups)) (now flow) (now free) × (from ≤ 512) × (s < length (now rank)) × (t < length (now rank)) × (length (now via) ≡ length (now rank)) ⌝ }
+    ensures { λ r. ⌜ ReachedOf (length (now (rank .entry))) (graph (now (tails .entry)) (now (heads .entry)) (now (lows .entry)) (now (ups .entry))) (now (flow .entry)) (now (free .entry)) s from t (now (rank .exit)) (now (via .exit)) r ⌝ }
+{
+    clear(rank);
+    rank[s] = 1;
+    let mut count = 1;
+    loop {
+        let next = round(
+            tails,
+            heads,
+            lows,
+            ups,
+            free,
+            flow,
+            s,
+            from,
+            rank,
+            via,
+            count,
+        );
+        if next == count {
+            return count;
+        }
+        let p = rank[t];
+        if p != 0 {
+            return next;
+        }
+        count = next;
+    }
+}
+
+// The codes that led from the root to t, the last first. How many.
+pub fn trace(
+    tails: &[u8],
+    heads: &[u8],
+    rank: &[usize],
+    via: &[usize],
+    t: usize,
+    codes: &mut [usize],
+) -> usize
+    requires { ⌜ (length (now heads) ≡ length (now tails)) × (t < length (now rank)) × (0 < getD (now rank) t 0) × (length (now rank) ≤ length (now codes)) × Falls (length (now rank)) (length (now tails) + length (now tails)) (src (graph (now tails) (now heads) (now tails) (now tails))) (now rank) (now via) ⌝ }
+    ensures { λ r. ⌜ (r ≤ length (now (codes .exit))) × TracedAny (length (now (rank .entry))) (length (now (tails .entry)) + length (now (tails .entry))) (src (graph (now (tails .entry)) (now (heads .entry)) (now (tails .entry)) (now (tails .entry)))) (dst (graph (now (tails .entry)) (now (heads .entry)) (now (tails .entry)) (now (tails .entry)))) (now (rank .entry)) (now (via .entry)) t (λ s. s) (take r (now (codes .exit))) ⌝ }
+{
+    let mut v = t;
+    let mut len = 0;
+    let mut p = rank[v];
+    while 1 < p {
+        let c = via[v];
+        codes[len] = c;
+        len += 1;
+        v = end_of(tails, heads, c);
+        p = rank[v];
+    }
+    len
+}
+
+// What can still go along code c.
+fn room_of(lows: &[u32], ups: &[u32], flow: &[u32], c: usize) -> u32
+    requires { ⌜ (c / 2 < length (now lows)) × (c / 2 < length (now ups)) × (c / 2 < length (now flow)) × (getD (now lows) (c / 2) 0 ≤ getD (now flow) (c / 2) 0) × (getD (now flow) (c / 2) 0 ≤ getD (now ups) (c / 2) 0) ⌝ }
+    ensures { λ r. ⌜ r ≡ roomOf (graph (now (ups .entry)) (now (ups .entry)) (now (lows .entry)) (now (ups .entry))) (now (flow .entry)) c ⌝ }
+{
+    let h = c / 2;
+    let f = flow[h];
+    if c % 2 == 0 {
+        let u = ups[h];
+        return u - f;
+    }
+    let l = lows[h];
+    f - l
+}
+
+// The lesser of two.
+pub fn lesser(a: u32, b: u32) -> u32
+    ensures { λ r. ⌜ r ≡ min a b ⌝ }
+{
+    if b < a {
+        return b;
+    }
+    a
+}
+
+// The least room along the codes, at most cap.
+pub fn room(
+    tails: &[u8],
+    lows: &[u32],
+    ups: &[u32],
+    flow: &[u32],
+    codes: &[usize],
+    len: usize,
+    cap: u32,
+) -> u32
+    requires { ⌜ (len ≤ length (now codes)) × SmallBounds (graph (now tails) (now tails) (now lows) (now ups)) × InBounds (graph (now tails) (now tails) (now lows) (now ups)) (now flow) × Every (λ c. c < length (now tails) + length (now tails)) (take len (now codes)) ⌝ }
+    ensures { λ r. ⌜ r ≡ roomAll (graph (now (tails .entry)) (now (tails .entry)) (now (lows .entry)) (now (ups .entry))) (now (flow .entry)) cap (take len (now (codes .entry))) ⌝ }
+{
+    let mut least = cap;
+    let mut i = 0;
+    while i < len {
+        let c = codes[i];
+        let r = room_of(lows, ups, flow, c);
+        least = lesser(least, r);
+        i += 1;
+    }
+    least
+}
+
+// d more along code c.
+fn push_one(flow: &mut [u32], c: usize, d: u32)
+    requires { ⌜ (c / 2 < length (now flow)) × (eqb (c % 2) 0 ≡ true → getD (now flow) (c / 2) 0 + d ≤ 4000000000) × (eqb (c % 2) 0 ≡ false → d ≤ getD (now flow) (c / 2) 0) ⌝ }
+    ensures { λ _. ⌜ now (flow .exit) ≡ pushOne d c (now (flow .entry)) ⌝ }
+{
+    let h = c / 2;
+    let f = flow[h];
+    if c % 2 == 0 {
+        flow[h] = f + d;
+    } else {
+        flow[h] = f - d;
+    }
+}
+
+// d more along the codes.
+pub fn push(
+    tails: &[u8],
+    lows: &[u32],
+    ups: &[u32],
+    flow: &mut [u32],
+    codes: &[usize],
+    len: usize,
+    d: u32,
+)
+    requires { ⌜ (len ≤ length (now codes)) × SmallBounds (graph (now tails) (now tails) (now lows) (now ups)) × Pushable (graph (now tails) (now tails) (now lows) (now ups)) d (now flow) (take len (now codes)) ⌝ }
+    ensures { λ _. ⌜ now (flow .exit) ≡ pushAll d (take len (now (codes .entry))) (now (flow .entry)) ⌝ }
+{
+    let mut i = 0;
+    while i < len {
+        let c = codes[i];
+        push_one(flow, c, d);
+        i += 1;
+    }
+}
+
+// A path from s to t over the free arcs from `from` on, the last code first: how many codes; or 65 where there is none.
+pub fn detour(
+    tails: &[u8],
+    heads: &[u8],
+    lows: &[u32],
+    ups: &[u32],
+    free: &[bool],
+    flow: &[u32],
+    s: usize,
+    t: usize,
+    from: usize,
+    codes: &mut [usize],
+) -> usize
+    requires { ⌜ Searchable 64 (graph (now tails) (now heads) (now lows) (now ups)) (now flow) (now free) × (from ≤ 512) × (s < 64) × (t < 64) × (length (now codes) ≡ 64) ⌝ }
+    ensures { λ r. ⌜ Detoured (graph (now (tails .entry)) (now (heads .entry)) (now (lows .entry)) (now (ups .entry))) (now (flow .entry)) (now (free .entry)) s t from (now (codes .exit)) r ⌝ }
+{
+    let mut rank = [0usize; 64];
+    let mut via = [0usize; 64];
+    let count = reach(
+        tails,
+        heads,
+        lows,
+        ups,
+        free,
+        flow,
+        s,
+        t,
+        from,
+        &mut rank,
+        &mut via,
+    );
+    if rank[t] == 0 {
+        return 65;
+    }
+    trace(tails, heads, &rank, &via, t, codes)
+}
