@@ -16,7 +16,7 @@ use Rattle.laws.specs.Ascending.{Distinct}
 use Rattle.laws.specs.Pigeonhole.{Twice, pigeon}
 use Rattle.network.specs.Network.{Net, low, up}
 use Rattle.network.specs.Residual.{codes, usable, src, dst, stepCost, Walk, walkCost, Cycle}
-use Rattle.search.specs.Labels.{Graph, roomy, pred}
+use Rattle.search.specs.Labels.{SmallGraph, roomy, pred}
 use Rattle.search.specs.Predecessors.{back, backCost, Backs, Returns, Ends, Period, trail, Labelled}
 use Rattle.search.proofs.Relaxing.{back-in, slope}
 use Rattle.search.proofs.Rounds.{Trip, AtMost}
@@ -51,7 +51,7 @@ module _ (N : Net) (p : List ℕ) where
   alike v i j s e = back-add s i v ∙ ap (back N p s) e ∙ sym (back-add s j v)
 
   -- after 64 steps a way back is on a cycle
-  pub comes-round : Graph N → (v : ℕ) → v < 64 → Backs N p 64 v → Returns N p (back N p 64 v)
+  pub comes-round : SmallGraph N → (v : ℕ) → v < 64 → Backs N p 64 v → Returns N p (back N p 64 v)
   comes-round ok v h b = close (pigeon 64 65 (λ i. back N p i v) (omega arith) (λ i l. back-in N ok p v 64 h b i (omega arith)))
     where
       close : Twice 65 (λ i. back N p i v) → Returns N p (back N p 64 v)
@@ -113,7 +113,7 @@ roomy-usable N f δ c h e = go (eqb (c % 2) 0) refl
     go true q = rw q (lt-ltb (getD f (c / 2) 0) (up N (c / 2)) (omega (arith, leb-true (getD f (c / 2) 0 + δ) (up N (c / 2)) (rw q at e))))
     go false q = rw q (lt-ltb (low N (c / 2)) (getD f (c / 2) 0) (omega (arith, leb-true (low N (c / 2) + δ) (getD f (c / 2) 0) (rw q at e))))
 
-module _ (N : Net) (f : List ℕ) (ok : Graph N) (δ : ℕ) (d : List ℤ) (p : List ℕ) (L : Labelled N f δ d p) where
+module _ (N : Net) (f : List ℕ) (ok : SmallGraph N) (δ : ℕ) (d : List ℤ) (p : List ℕ) (L : Labelled N f δ d p) where
   inside : (x t : ℕ) → x < 64 → Backs N p t x → (i : ℕ) → i < t → back N p i x < 64
   inside x t h b i l = back-in N ok p x t h b i (omega arith)
 

@@ -16,7 +16,7 @@ use Rattle.laws.specs.Store.{set-cases}
 use Rattle.certificates.specs.Optimality.{priced-least}
 use Rattle.network.specs.Network.{Net, WellFormed, IsFlow, LeastCost, nodes, low, up}
 use Rattle.network.specs.Residual.{codes, usable, src, dst, stepCost, Walk, walkCost, Price}
-use Rattle.search.specs.Labels.{graph, Searchable, roomy, State, state, label, offer, better, relaxed, relaxedAll, Sized}
+use Rattle.search.specs.Labels.{costGraph, Relaxable, roomy, State, state, label, offer, better, relaxed, relaxedAll, Sized}
 use Rattle.search.specs.Search.{Quiet}
 use Rattle.search.specs.Prices.{PriceLabels, Settled}
 use Rattle.search.proofs.Codes.{src-in, dst-in, either-is}
@@ -49,7 +49,7 @@ pub record Pricing (N : Net) (f : List ℕ) (d : List ℤ) (p : List ℕ) (k : �
   pub at-most : AtMost N f 1 k d
   pub walked : Walked N f d
 
-module _ (N : Net) (f : List ℕ) (ok : Searchable N f) where
+module _ (N : Net) (f : List ℕ) (ok : Relaxable N f) where
   one-walked : (s : State) (c : ℕ) → c < codes N → length (s .labels) ≡ 64 → Walked N f (s .labels) → Walked N f (relaxed N f 1 c s .labels)
   one-walked s c h len w = go (better N f 1 c s) refl
     where
@@ -121,15 +121,15 @@ module _ (b : List ℤ) (t h l u : List ℕ) (c : List ℤ) (f : List ℕ) where
   abbrev whole : Net
   whole = record { balances = b; tails = t; heads = h; lows = l; ups = u; costs = c }
 
-  walk-whole : (x v : ℕ) (cs : List ℕ) → Walk (graph t h l u c) f x v cs → Walk whole f x v cs
+  walk-whole : (x v : ℕ) (cs : List ℕ) → Walk (costGraph t h l u c) f x v cs → Walk whole f x v cs
   walk-whole x v [] w = w
   walk-whole x v (e ∷ cs) w = (w .0, w .1, w .2, walk-whole x (src whole e) cs (w .3))
 
-  walk-bare : (x v : ℕ) (cs : List ℕ) → Walk whole f x v cs → Walk (graph t h l u c) f x v cs
+  walk-bare : (x v : ℕ) (cs : List ℕ) → Walk whole f x v cs → Walk (costGraph t h l u c) f x v cs
   walk-bare x v [] w = w
   walk-bare x v (e ∷ cs) w = (w .0, w .1, w .2, walk-bare x (src whole e) cs (w .3))
 
-  cost-whole : (cs : List ℕ) → walkCost (graph t h l u c) cs ≡ walkCost whole cs
+  cost-whole : (cs : List ℕ) → walkCost (costGraph t h l u c) cs ≡ walkCost whole cs
   cost-whole [] = refl
   cost-whole (e ∷ cs) = ap (λ z. stepCost whole e +ℤ z) (cost-whole cs)
 
@@ -142,7 +142,7 @@ module _ (b : List ℤ) (t h l u : List ℕ) (c : List ℤ) (f : List ℕ) where
       h′ : List ℕ
       h′ = whole .heads
 
-  pub labels-price : WellFormed whole → nodes whole ≤ 64 → (d : List ℤ) → PriceLabels (graph t h l u c) f d → (v : ℕ) → v < nodes whole → Price whole f v (getD d v (pos 0))
+  pub labels-price : WellFormed whole → nodes whole ≤ 64 → (d : List ℤ) → PriceLabels (costGraph t h l u c) f d → (v : ℕ) → v < nodes whole → Price whole f v (getD d v (pos 0))
   labels-price ok few d P v k =
       let (x, cs, w, e) = P .walked v (omega arith) in
       record {
@@ -155,5 +155,5 @@ module _ (b : List ℤ) (t h l u : List ℕ) (c : List ℤ) (f : List ℕ) where
       }
 
   -- no negative cycle found: the flow is least-cost
-  pub quiet-least : WellFormed whole → IsFlow whole f → (π : ℕ → ℤ) → Quiet (graph t h l u c) f 1 π → LeastCost whole f
-  quiet-least ok flow π q = priced-least whole ok f π flow (λ e k r. given (q .reduced e k (usable-roomy (graph t h l u c) f e r)) (simp lin (omega arith)))
+  pub quiet-least : WellFormed whole → IsFlow whole f → (π : ℕ → ℤ) → Quiet (costGraph t h l u c) f 1 π → LeastCost whole f
+  quiet-least ok flow π q = priced-least whole ok f π flow (λ e k r. given (q .reduced e k (usable-roomy (costGraph t h l u c) f e r)) (simp lin (omega arith)))

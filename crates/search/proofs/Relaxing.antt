@@ -17,12 +17,12 @@ use Rattle.laws.specs.Store.{set-cases}
 use Rattle.laws.specs.Pigeonhole.{Found, find}
 use Rattle.network.specs.Network.{Net}
 use Rattle.network.specs.Residual.{codes, src, dst, stepCost}
-use Rattle.search.specs.Labels.{Graph, Searchable, roomy, State, label, pred, offer, better, relaxed}
+use Rattle.search.specs.Labels.{SmallGraph, Relaxable, roomy, State, label, pred, offer, better, relaxed}
 use Rattle.search.specs.Predecessors.{back, backCost, Backs, Round, Labelled}
 use Rattle.search.proofs.Codes.{src-in, dst-in}
 
 -- a way back along codes stays among the nodes
-pub back-in : (N : Net) → Graph N → (p : List ℕ) (x t : ℕ) → x < 64 → Backs N p t x → (j : ℕ) → j ≤ t → back N p j x < 64
+pub back-in : (N : Net) → SmallGraph N → (p : List ℕ) (x t : ℕ) → x < 64 → Backs N p t x → (j : ℕ) → j ≤ t → back N p j x < 64
 unfolding back
 back-in N ok p x t h b zero l = h
 back-in N ok p x t h b (suc j) l = src-in N ok (pred p (back N p j x)) (b j (omega arith))
@@ -56,7 +56,7 @@ module _ (N : Net) (p : List ℕ) (e : ℕ → ℤ) (x t : ℕ)
       go (no q) deep = later (stepCost N (pred p (back N p j x))) (backCost N p j x) (e (src N (pred p (back N p j x)))) (e (back N p j x)) (e x) (drop j l) (deep (omega arith) (omega arith))
 
 -- code c is better for its end
-module _ (N : Net) (f : List ℕ) (ok : Searchable N f) (δ : ℕ) (d : List ℤ) (p : List ℕ) (L : Labelled N f δ d p) (c : ℕ) (in-range : c < codes N)
+module _ (N : Net) (f : List ℕ) (ok : Relaxable N f) (δ : ℕ) (d : List ℤ) (p : List ℕ) (L : Labelled N f δ d p) (c : ℕ) (in-range : c < codes N)
     (room : roomy N f δ c ≡ true) (lower : (getD d (src N c) (pos 0) +ℤ stepCost N c) <ℤ getD d (dst N c) (pos 0)) where
   abbrev v : ℕ
   v = dst N c
@@ -173,7 +173,7 @@ module _ (N : Net) (f : List ℕ) (ok : Searchable N f) (δ : ℕ) (d : List ℤ
       elsewhere a b s e g h q k = given3 h q k (simp lin (omega arith))
 
 -- one code tried
-pub labelled-relaxed : (N : Net) (f : List ℕ) → Searchable N f → (δ : ℕ) (s : State) → Labelled N f δ (s .labels) (s .preds) → (c : ℕ) → c < codes N
+pub labelled-relaxed : (N : Net) (f : List ℕ) → Relaxable N f → (δ : ℕ) (s : State) → Labelled N f δ (s .labels) (s .preds) → (c : ℕ) → c < codes N
     → Labelled N f δ (relaxed N f δ c s .labels) (relaxed N f δ c s .preds)
 labelled-relaxed N f ok δ s L c h = go (better N f δ c s) refl
   where

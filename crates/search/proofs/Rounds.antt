@@ -16,7 +16,7 @@ use Rattle.laws.specs.Range.{Bounded, bounded-add, bounded-more}
 use Rattle.laws.specs.Store.{set-cases}
 use Rattle.network.specs.Network.{Net}
 use Rattle.network.specs.Residual.{codes, src, dst, stepCost, walkCost}
-use Rattle.search.specs.Labels.{Searchable, roomy, State, state, label, offer, better, relaxed, relaxedAll, Sized}
+use Rattle.search.specs.Labels.{Relaxable, roomy, State, state, label, offer, better, relaxed, relaxedAll, Sized}
 use Rattle.search.specs.Predecessors.{Labelled}
 use Rattle.search.proofs.Codes.{src-in, dst-in, step-small}
 use Rattle.search.proofs.Relaxing.{labelled-relaxed}
@@ -33,7 +33,7 @@ AtMost N f δ k d = (u v : ℕ) (cs : List ℕ) → length cs ≤ k → Trip N f
 pub sized-more : {B C : ℕ} {d : List ℤ} {p : List ℕ} → B ≤ C → Sized B d p → Sized C d p
 sized-more h z = record { labels-len = z .labels-len; preds-len = z .preds-len; small = λ v l. bounded-more h (z .small v l) }
 
-module _ (N : Net) (f : List ℕ) (ok : Searchable N f) (δ : ℕ) where
+module _ (N : Net) (f : List ℕ) (ok : Relaxable N f) (δ : ℕ) where
   -- one code: by whether it is better
   module _ (s : State) (c : ℕ) (h : c < codes N) (len : length (s .labels) ≡ 64) where
     long : dst N c < length (s .labels)

@@ -10,7 +10,7 @@ use lib.Signed.{_<ℤ_}
 use Rattle.laws.specs.Linear.{lin}
 use Rattle.network.specs.Network.{Net}
 use Rattle.network.specs.Residual.{codes, src}
-use Rattle.search.specs.Labels.{graph, Graph, Searchable, State, state, pred, relaxedAll, Sized}
+use Rattle.search.specs.Labels.{costGraph, SmallGraph, Relaxable, State, state, pred, relaxedAll, Sized}
 use Rattle.search.specs.Predecessors.{back, Backs, Round, Returns, trail, Labelled, WentBack, ended, went, Collected}
 use Rattle.search.specs.Search.{Quiet, Searched, found}
 use Rattle.search.proofs.Rounds.{AtMost, Changed, quiet, noisy, all-labelled, round-at-most, round-changed, all-sized, sized-more}
@@ -24,36 +24,36 @@ pub record Searching (N : Net) (f : List ℕ) (δ : ℕ) (d : List ℤ) (p : Lis
 
 -- ways back read no more of a network than tails and heads
 module _ (t h l u l′ u′ : List ℕ) (c c′ : List ℤ) (p : List ℕ) where
-  back-any : (i x : ℕ) → back (graph t h l u c) p i x ≡ back (graph t h l′ u′ c′) p i x
+  back-any : (i x : ℕ) → back (costGraph t h l u c) p i x ≡ back (costGraph t h l′ u′ c′) p i x
   unfolding back
   back-any zero x = refl
-  back-any (suc i) x = ap (λ y. src (graph t h l u c) (pred p y)) (back-any i x)
+  back-any (suc i) x = ap (λ y. src (costGraph t h l u c) (pred p y)) (back-any i x)
 
-  backs-any : (i x : ℕ) → Backs (graph t h l u c) p i x → Backs (graph t h l′ u′ c′) p i x
+  backs-any : (i x : ℕ) → Backs (costGraph t h l u c) p i x → Backs (costGraph t h l′ u′ c′) p i x
   backs-any i x b j k = subst (λ y. pred p y < length t + length t) (back-any j x) (b j k)
 
-  trail-any : (i x : ℕ) → trail (graph t h l u c) p i x ≡ trail (graph t h l′ u′ c′) p i x
+  trail-any : (i x : ℕ) → trail (costGraph t h l u c) p i x ≡ trail (costGraph t h l′ u′ c′) p i x
   trail-any zero x = refl
-  trail-any (suc i) x = ap {B = List ℕ} (λ r. pred p x ∷ r) (trail-any i (src (graph t h l u c) (pred p x)))
+  trail-any (suc i) x = ap {B = List ℕ} (λ r. pred p x ∷ r) (trail-any i (src (costGraph t h l u c) (pred p x)))
 
-  round-any : (x i : ℕ) → Round (graph t h l u c) p x i → Round (graph t h l′ u′ c′) p x i
+  round-any : (x i : ℕ) → Round (costGraph t h l u c) p x i → Round (costGraph t h l′ u′ c′) p x i
   round-any x i r = record { node = r .node; some = r .some; steps = backs-any i x (r .steps); closes = sym (back-any i x) ∙ r .closes }
 
-  pub returns-any : (x : ℕ) → Returns (graph t h l u c) p x → Returns (graph t h l′ u′ c′) p x
+  pub returns-any : (x : ℕ) → Returns (costGraph t h l u c) p x → Returns (costGraph t h l′ u′ c′) p x
   returns-any x r = record { steps = r .steps; few = r .few; round = round-any x (r .steps) (r .round) }
 
-  pub went-any : (v r : ℕ) → WentBack (graph t h l u c) p v r → WentBack (graph t h l′ u′ c′) p v r
+  pub went-any : (v r : ℕ) → WentBack (costGraph t h l u c) p v r → WentBack (costGraph t h l′ u′ c′) p v r
   went-any v r (ended e i n) = ended e i (record { few = n .few; steps = backs-any i v (n .steps); ends = subst (λ y. length t + length t ≤ pred p y) (back-any i v) (n .ends) })
   went-any v r (went e b) = went (e ∙ back-any 64 v) (backs-any 64 v b)
 
-  pub collected-any : (x : ℕ) (out : List ℕ) (r : ℕ) → Collected (graph t h l u c) p x out r → Collected (graph t h l′ u′ c′) p x out r
+  pub collected-any : (x : ℕ) (out : List ℕ) (r : ℕ) → Collected (costGraph t h l u c) p x out r → Collected (costGraph t h l′ u′ c′) p x out r
   collected-any x out r k = record {
     few = k .few;
     period = record { round = round-any x r (k .period .round); first = λ i a b e. k .period .first i a b (back-any i x ∙ e) };
     are = k .are ∙ trail-any r x;
   }
 
-pub graph-any : (t h l u l′ u′ : List ℕ) (c c′ : List ℤ) → Graph (graph t h l u c) → Graph (graph t h l′ u′ c′)
+pub graph-any : (t h l u l′ u′ : List ℕ) (c c′ : List ℤ) → SmallGraph (costGraph t h l u c) → SmallGraph (costGraph t h l′ u′ c′)
 graph-any t h l u l′ u′ c c′ g = record { few = g .few; heads-len = g .heads-len; tail-in = g .tail-in; head-in = g .head-in }
 
 pub zero-at : (n v : ℕ) → getD (replicate n (pos 0)) v (pos 0) ≡ pos 0
@@ -61,7 +61,7 @@ zero-at zero v = refl
 zero-at (suc n) zero = refl
 zero-at (suc n) (suc v) = zero-at n v
 
-module _ (N : Net) (f : List ℕ) (ok : Searchable N f) (δ : ℕ) where
+module _ (N : Net) (f : List ℕ) (ok : Relaxable N f) (δ : ℕ) where
   -- no labels yet
   pub searching-start : (d : List ℤ) (p : List ℕ) → length d ≡ 64 → length p ≡ 64 → ((v : ℕ) → getD d v (pos 0) ≡ pos 0) → ((v : ℕ) → v < 64 → 1024 ≤ pred p v) → Searching N f δ d p 0
   unfolding back

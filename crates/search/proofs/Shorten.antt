@@ -12,7 +12,7 @@ use Rattle.laws.specs.Linear.{lin, given, given2, given3}
 use Rattle.laws.specs.Pigeonhole.{Twice, pigeon}
 use Rattle.network.specs.Network.{Net}
 use Rattle.network.specs.Residual.{src, dst, stepCost, walkCost}
-use Rattle.search.specs.Labels.{Graph}
+use Rattle.search.specs.Labels.{SmallGraph}
 use Rattle.search.specs.Search.{Quiet}
 use Rattle.search.proofs.Codes.{src-in}
 use Rattle.search.proofs.Rounds.{Trip}
@@ -33,7 +33,7 @@ module _ (N : Net) (f : List ℕ) (δ : ℕ) where
   nodeAt v [] (suc i) = v
   nodeAt v (c ∷ cs) (suc i) = nodeAt (src N c) cs i
 
-  node-in : Graph N → (u v : ℕ) (cs : List ℕ) → v < 64 → Trip N f δ u v cs → (i : ℕ) → nodeAt v cs i < 64
+  node-in : SmallGraph N → (u v : ℕ) (cs : List ℕ) → v < 64 → Trip N f δ u v cs → (i : ℕ) → nodeAt v cs i < 64
   node-in ok u v cs h t zero = h
   node-in ok u v [] h t (suc i) = h
   node-in ok u v (c ∷ cs) h (a, b, e, t) (suc i) = node-in ok u (src N c) cs (src-in N ok c a) t i
@@ -56,7 +56,7 @@ module _ (N : Net) (f : List ℕ) (δ : ℕ) where
       more : (i j : ℕ) → suc (i + j) ≡ suc i + j
       more i j = omega arith
 
-  module _ (ok : Graph N) (π : ℕ → ℤ) (q : Quiet N f δ π) where
+  module _ (ok : SmallGraph N) (π : ℕ → ℤ) (q : Quiet N f δ π) where
     -- a walk costs at least what the potential rises
     pub rise : (u v : ℕ) (cs : List ℕ) → Trip N f δ u v cs → (π v -ℤ π u) ≤ℤ walkCost N cs
     rise u v [] e = subst (λ x. (π x -ℤ π u) ≤ℤ pos 0) e (simp lin (omega arith))

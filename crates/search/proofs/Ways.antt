@@ -9,7 +9,7 @@ use lib.ListN.{length, take, set, length-set}
 use lib.Seq.{take-suc-set}
 use Rattle.network.specs.Network.{Net, arcs}
 use Rattle.network.specs.Residual.{codes, src}
-use Rattle.search.specs.Labels.{Graph, pred}
+use Rattle.search.specs.Labels.{SmallGraph, pred}
 use Rattle.search.specs.Predecessors.{back, Backs, Returns, Ends, trail, Collected}
 use Rattle.search.proofs.Codes.{src-in}
 use Rattle.search.proofs.Relaxing.{back-in}
@@ -29,7 +29,7 @@ pub record Going (N : Net) (p : List ℕ) (v i w : ℕ) : Type 0 where
   pub is : w ≡ back N p i v
   pub steps : Backs N p i v
 
-module _ (N : Net) (ok : Graph N) (p : List ℕ) where
+module _ (N : Net) (ok : SmallGraph N) (p : List ℕ) where
   pub arc-of : (c : ℕ) → c < codes N → (c / 2 < arcs N) × (c / 2 < length (N .heads))
   arc-of c h = (omega arith, omega (arith, ok .heads-len))
 
@@ -57,7 +57,7 @@ pub record Collecting (N : Net) (p : List ℕ) (x : ℕ) (out : List ℕ) (w len
   pub long : length out ≡ 64
   pub are : take len out ≡ trail N p len x
 
-module _ (N : Net) (ok : Graph N) (p : List ℕ) (x : ℕ) where
+module _ (N : Net) (ok : SmallGraph N) (p : List ℕ) (x : ℕ) where
   pub collecting-none : (out : List ℕ) → length out ≡ 64 → Returns N p x → Collecting N p x out x 0
   unfolding back
   collecting-none out h r = record { returns = r; early = r .round .some; is = refl; away = λ i l k. absurd (omega arith); long = h; are = refl }

@@ -12,19 +12,19 @@ use Rattle.network.specs.Network.{Net, arcs, tail, head, low, up, cost}
 use Rattle.network.specs.Residual.{either, src, dst, stepCost}
 
 -- the network of the lists that the search reads; it reads no balances
-abbrev pub graph : List ℕ → List ℕ → List ℕ → List ℕ → List ℤ → Net
-graph t h l u c = record { balances = []; tails = t; heads = h; lows = l; ups = u; costs = c }
+abbrev pub costGraph : List ℕ → List ℕ → List ℕ → List ℕ → List ℤ → Net
+costGraph t h l u c = record { balances = []; tails = t; heads = h; lows = l; ups = u; costs = c }
 
 -- at most 512 arcs, with ends below 64
-pub record Graph (N : Net) : Type 0 where
+pub record SmallGraph (N : Net) : Type 0 where
   pub few : arcs N ≤ 512
   pub heads-len : length (N .heads) ≡ arcs N
   pub tail-in : (a : ℕ) → a < arcs N → tail N a < 64
   pub head-in : (a : ℕ) → a < arcs N → head N a < 64
 
 -- and as many bounds, costs and numbers of a flow within the bounds
-pub record Searchable (N : Net) (f : List ℕ) : Type 0 where
-  pub graph : Graph N
+pub record Relaxable (N : Net) (f : List ℕ) : Type 0 where
+  pub graph : SmallGraph N
   pub lows-len : length (N .lows) ≡ arcs N
   pub ups-len : length (N .ups) ≡ arcs N
   pub costs-len : length (N .costs) ≡ arcs N

@@ -9,7 +9,7 @@ ghost use mir.Syntax.{w64};
 ghost use mir.Val.{SFits};
 ghost use mathlib.Core.List.{[]};
 ghost use Rattle.network.specs.Residual.{codes, src};
-ghost use Rattle.search.specs.Labels.{graph, Graph, Searchable, state, setIf, relaxed, relaxedAll, Sized};
+ghost use Rattle.search.specs.Labels.{costGraph, SmallGraph, Relaxable, state, setIf, relaxed, relaxedAll, Sized};
 ghost use Rattle.search.specs.Predecessors.{Returns, WentBack, Collected};
 ghost use Rattle.search.specs.Search.{Searched};
 ghost use Rattle.search.specs.Prices.{PriceLabels, Settled};
@@ -62,8 +62,8 @@ fn relax_arc(
     a: usize,
     last: usize,
 ) -> usize
-    requires { ⌜ Searchable (graph (now tails) (now heads) (now lows) (now ups) (now costs)) (now flow) × Sized 90000000000 (now labels) (now preds) × (a < length (now tails)) × (need ≤ 1000000) ⌝ }
-    ensures { λ r. ⌜ state (now (labels .exit)) (now (preds .exit)) r ≡ relaxed (graph (now (tails .entry)) (now (heads .entry)) (now (lows .entry)) (now (ups .entry)) (now (costs .entry))) (now (flow .entry)) need (suc (a + a)) (relaxed (graph (now (tails .entry)) (now (heads .entry)) (now (lows .entry)) (now (ups .entry)) (now (costs .entry))) (now (flow .entry)) need (a + a) (state (now (labels .entry)) (now (preds .entry)) last)) ⌝ }
+    requires { ⌜ Relaxable (costGraph (now tails) (now heads) (now lows) (now ups) (now costs)) (now flow) × Sized 90000000000 (now labels) (now preds) × (a < length (now tails)) × (need ≤ 1000000) ⌝ }
+    ensures { λ r. ⌜ state (now (labels .exit)) (now (preds .exit)) r ≡ relaxed (costGraph (now (tails .entry)) (now (heads .entry)) (now (lows .entry)) (now (ups .entry)) (now (costs .entry))) (now (flow .entry)) need (suc (a + a)) (relaxed (costGraph (now (tails .entry)) (now (heads .entry)) (now (lows .entry)) (now (ups .entry)) (now (costs .entry))) (now (flow .entry)) need (a + a) (state (now (labels .entry)) (now (preds .entry)) last)) ⌝ }
 {
     let t = tails[a] as usize;
     let h = heads[a] as usize;
@@ -87,8 +87,8 @@ fn round(
     labels: &mut [i64],
     preds: &mut [u16],
 ) -> usize
-    requires { ⌜ Searchable (graph (now tails) (now heads) (now lows) (now ups) (now costs)) (now flow) × Sized 80000000000 (now labels) (now preds) × (need ≤ 1000000) ⌝ }
-    ensures { λ r. ⌜ state (now (labels .exit)) (now (preds .exit)) r ≡ relaxedAll (graph (now (tails .entry)) (now (heads .entry)) (now (lows .entry)) (now (ups .entry)) (now (costs .entry))) (now (flow .entry)) need (codes (graph (now (tails .entry)) (now (heads .entry)) (now (lows .entry)) (now (ups .entry)) (now (costs .entry)))) (state (now (labels .entry)) (now (preds .entry)) 64) ⌝ }
+    requires { ⌜ Relaxable (costGraph (now tails) (now heads) (now lows) (now ups) (now costs)) (now flow) × Sized 80000000000 (now labels) (now preds) × (need ≤ 1000000) ⌝ }
+    ensures { λ r. ⌜ state (now (labels .exit)) (now (preds .exit)) r ≡ relaxedAll (costGraph (now (tails .entry)) (now (heads .entry)) (now (lows .entry)) (now (ups .entry)) (now (costs .entry))) (now (flow .entry)) need (codes (costGraph (now (tails .entry)) (now (heads .entry)) (now (lows .entry)) (now (ups .entry)) (now (costs .entry)))) (state (now (labels .entry)) (now (preds .entry)) 64) ⌝ }
 {
     let mut last = 64;
     for a in 0..tails.len() {
@@ -112,7 +112,7 @@ fn round(
 // Where the residual arc c starts.
 fn source(tails: &[u8], heads: &[u8], c: usize) -> usize
     requires { ⌜ (c / 2 < length (now tails)) × (c / 2 < length (now heads)) ⌝ }
-    ensures { λ r. ⌜ r ≡ src (graph (now (tails .entry)) (now (heads .entry)) [] [] []) c ⌝ }
+    ensures { λ r. ⌜ r ≡ src (costGraph (now (tails .entry)) (now (heads .entry)) [] [] []) c ⌝ }
 {
     let a = c / 2;
     if c % 2 == 0 {
@@ -123,8 +123,8 @@ fn source(tails: &[u8], heads: &[u8], c: usize) -> usize
 
 // 64 predecessors back from v, or 64 where a node without one is met.
 fn go_back(tails: &[u8], heads: &[u8], preds: &[u16], v: usize) -> usize
-    requires { ⌜ Graph (graph (now tails) (now heads) [] [] []) × (length (now preds) ≡ 64) × (v < 64) ⌝ }
-    ensures { λ r. ⌜ WentBack (graph (now (tails .entry)) (now (heads .entry)) [] [] []) (now (preds .entry)) v r ⌝ }
+    requires { ⌜ SmallGraph (costGraph (now tails) (now heads) [] [] []) × (length (now preds) ≡ 64) × (v < 64) ⌝ }
+    ensures { λ r. ⌜ WentBack (costGraph (now (tails .entry)) (now (heads .entry)) [] [] []) (now (preds .entry)) v r ⌝ }
 {
     let m = tails.len() + tails.len();
     let mut w = v;
@@ -140,8 +140,8 @@ fn go_back(tails: &[u8], heads: &[u8], preds: &[u16], v: usize) -> usize
 
 // The codes of the cycle through x, the last first. How many.
 fn collect(tails: &[u8], heads: &[u8], preds: &[u16], x: usize, out: &mut [usize]) -> usize
-    requires { ⌜ Graph (graph (now tails) (now heads) [] [] []) × (length (now preds) ≡ 64) × (length (now out) ≡ 64) × Returns (graph (now tails) (now heads) [] [] []) (now preds) x ⌝ }
-    ensures { λ r. ⌜ Collected (graph (now (tails .entry)) (now (heads .entry)) [] [] []) (now (preds .entry)) x (now (out .exit)) r ⌝ }
+    requires { ⌜ SmallGraph (costGraph (now tails) (now heads) [] [] []) × (length (now preds) ≡ 64) × (length (now out) ≡ 64) × Returns (costGraph (now tails) (now heads) [] [] []) (now preds) x ⌝ }
+    ensures { λ r. ⌜ Collected (costGraph (now (tails .entry)) (now (heads .entry)) [] [] []) (now (preds .entry)) x (now (out .exit)) r ⌝ }
 {
     let mut w = x;
     let mut len = 0;
@@ -167,8 +167,8 @@ pub fn find_cycle(
     need: u32,
     out: &mut [usize],
 ) -> usize
-    requires { ⌜ Searchable (graph (now tails) (now heads) (now lows) (now ups) (now costs)) (now flow) × (0 < need) × (need ≤ 1000000) × (length (now out) ≡ 64) ⌝ }
-    ensures { λ r. ⌜ Searched (graph (now (tails .entry)) (now (heads .entry)) (now (lows .entry)) (now (ups .entry)) (now (costs .entry))) (now (flow .entry)) need (now (out .exit)) r ⌝ }
+    requires { ⌜ Relaxable (costGraph (now tails) (now heads) (now lows) (now ups) (now costs)) (now flow) × (0 < need) × (need ≤ 1000000) × (length (now out) ≡ 64) ⌝ }
+    ensures { λ r. ⌜ Searched (costGraph (now (tails .entry)) (now (heads .entry)) (now (lows .entry)) (now (ups .entry)) (now (costs .entry))) (now (flow .entry)) need (now (out .exit)) r ⌝ }
 {
     let mut labels = [0i64; 64];
     let mut preds = [65535u16; 64];
@@ -209,8 +209,8 @@ pub fn prices(
     costs: &[i32],
     flow: &[u32],
 ) -> [i64; 64]
-    requires { ⌜ Searchable (graph (now tails) (now heads) (now lows) (now ups) (now costs)) (now flow) × Settled (graph (now tails) (now heads) (now lows) (now ups) (now costs)) (now flow) ⌝ }
-    ensures { λ r. ⌜ PriceLabels (graph (now (tails .entry)) (now (heads .entry)) (now (lows .entry)) (now (ups .entry)) (now (costs .entry))) (now (flow .entry)) r ⌝ }
+    requires { ⌜ Relaxable (costGraph (now tails) (now heads) (now lows) (now ups) (now costs)) (now flow) × Settled (costGraph (now tails) (now heads) (now lows) (now ups) (now costs)) (now flow) ⌝ }
+    ensures { λ r. ⌜ PriceLabels (costGraph (now (tails .entry)) (now (heads .entry)) (now (lows .entry)) (now (ups .entry)) (now (costs .entry))) (now (flow .entry)) r ⌝ }
 {
     let mut least = [0i64; 64];
     let mut preds = [65535u16; 64];

@@ -5,19 +5,19 @@ use native.Mathlib.Omega.{arith}
 use lib.ListN.{length-set}
 use Rattle.network.specs.Network.{Net}
 use Rattle.network.specs.Residual.{codes}
-use Rattle.search.specs.Labels.{graph, pred}
+use Rattle.search.specs.Labels.{costGraph, pred}
 use Rattle.search.proofs.Ways.{Collecting, arc-of, collecting-none, here, node, room, collecting-more, collecting-done}
 use Rattle.search.proofs.collect.Statement.{statement}
 use Rattle.search.proofs.collect.Tie as tie
 
 abbrev Inv-loop : tie.InvT-loop
-Inv-loop tails heads preds x out₀ w₀ len₀ out w len = Collecting (graph tails heads [] [] []) preds x out w len
+Inv-loop tails heads preds x out₀ w₀ len₀ out w len = Collecting (costGraph tails heads [] [] []) preds x out w len
 
 abbrev μ-loop : tie.MeasureT-loop
 μ-loop tails heads preds x out₀ w₀ len₀ out w len = 64 - len
 
 abbrev net : tie.Start Inv-loop μ-loop → Net
-net s = graph (s .args .tails .now) (s .args .heads .now) [] [] []
+net s = costGraph (s .args .tails .now) (s .args .heads .now) [] [] []
 
 abbrev entry₀ : tie.After-slice-known Inv-loop μ-loop → tie.Start Inv-loop μ-loop
 entry₀ c = c .before .before .before .before

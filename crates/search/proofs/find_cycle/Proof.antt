@@ -6,7 +6,7 @@ use native.Mathlib.Omega.{arith}
 use lib.ListN.{getD-replicate}
 use lib.IntN.{ℤ}
 use Rattle.network.specs.Network.{Net}
-use Rattle.search.specs.Labels.{graph, Graph}
+use Rattle.search.specs.Labels.{costGraph, SmallGraph}
 use Rattle.search.specs.Predecessors.{Returns, WentBack, Labelled}
 use Rattle.search.specs.Search.{Searched, none}
 use Rattle.search.proofs.Rounds.{sized-more}
@@ -15,13 +15,13 @@ use Rattle.search.proofs.find_cycle.Statement.{statement}
 use Rattle.search.proofs.find_cycle.Tie as tie
 
 abbrev Inv-rounds : tie.InvT-rounds
-Inv-rounds tails heads lows ups costs flow need out labels₀ preds₀ k₀ labels preds k = Searching (graph tails heads lows ups costs) flow need labels preds k
+Inv-rounds tails heads lows ups costs flow need out labels₀ preds₀ k₀ labels preds k = Searching (costGraph tails heads lows ups costs) flow need labels preds k
 
 abbrev μ-rounds : tie.MeasureT-rounds
 μ-rounds tails heads lows ups costs flow need out labels₀ preds₀ k₀ labels preds k = 64 - k
 
 abbrev net : tie.Start Inv-rounds μ-rounds → Net
-net s = graph (s .args .tails .now) (s .args .heads .now) (s .args .lows .now) (s .args .ups .now) (s .args .costs .now)
+net s = costGraph (s .args .tails .now) (s .args .heads .now) (s .args .lows .now) (s .args .ups .now) (s .args .costs .now)
 
 abbrev entry : tie.At-rounds Inv-rounds μ-rounds → tie.Start Inv-rounds μ-rounds
 entry l = l .before .before .before .before .before .before .before
@@ -49,18 +49,18 @@ module _ (r : tie.After-round Inv-rounds μ-rounds) where
   fell-in : ¬ (r .round .result ≡ 64) → r .round .result < 64
   fell-in n = fell (net start) (start .args .flow .now) (start .pre .0) (start .args .need) (before .rounds .labels) (before .rounds .preds) (before .rounds .k) (before .rounds .inv) labels preds (r .round .result) (r .round .ensures) n .0
 
-  bare : Graph (graph (start .args .tails .now) (start .args .heads .now) [] [] [])
+  bare : SmallGraph (costGraph (start .args .tails .now) (start .args .heads .now) [] [] [])
   bare = graph-any (start .args .tails .now) (start .args .heads .now) _ _ [] [] _ [] (start .pre .0 .graph)
 
   -- a way back, told of tails and heads alone
-  module _ (x : ℕ) (n : ¬ (r .round .result ≡ 64)) (w : WentBack (graph (start .args .tails .now) (start .args .heads .now) [] [] []) preds (r .round .result) x) where
+  module _ (x : ℕ) (n : ¬ (r .round .result ≡ 64)) (w : WentBack (costGraph (start .args .tails .now) (start .args .heads .now) [] [] []) preds (r .round .result) x) where
     went-whole : WentBack (net start) preds (r .round .result) x
     went-whole = went-any (start .args .tails .now) (start .args .heads .now) [] [] (start .args .lows .now) (start .args .ups .now) [] (start .args .costs .now) preds (r .round .result) x w
 
     more : x ≡ 64 → Searching (net start) (start .args .flow .now) (start .args .need) labels preds (before .rounds .k + 1)
     more e = searching-more (net start) (start .args .flow .now) (start .pre .0) (start .args .need) (before .rounds .labels) (before .rounds .preds) (before .rounds .k) (before .rounds .inv) labels preds (r .round .result) (r .round .ensures) x n went-whole e
 
-    returning : ¬ (x ≡ 64) → Returns (graph (start .args .tails .now) (start .args .heads .now) [] [] []) preds x
+    returning : ¬ (x ≡ 64) → Returns (costGraph (start .args .tails .now) (start .args .heads .now) [] [] []) preds x
     returning m =
         returns-any (start .args .tails .now) (start .args .heads .now) (start .args .lows .now) (start .args .ups .now) [] [] (start .args .costs .now) [] preds x
         (returns-of (net start) (start .args .flow .now) (start .pre .0) (start .args .need) (before .rounds .labels) (before .rounds .preds) (before .rounds .k) (before .rounds .inv) labels preds (r .round .result) (r .round .ensures) x n went-whole m)
@@ -73,10 +73,10 @@ module _ (c : tie.Joined1 Inv-rounds μ-rounds) where
   out-quiet : c .if1 .node ≡ 64 → Searched (net (start ran)) (start ran .args .flow .now) (start ran .args .need) (start ran .args .out .now) 0
   out-quiet e = ⊎-elim (λ w. quiet-here ran (w .0 .taken)) (λ w. absurd (w .3 .taken (sym (w .4) ∙ e))) (c .if1 .came)
 
-  out-cycle : ¬ (c .if1 .node ≡ 64) → Returns (graph (start ran .args .tails .now) (start ran .args .heads .now) [] [] []) (preds ran) (c .if1 .node)
+  out-cycle : ¬ (c .if1 .node ≡ 64) → Returns (costGraph (start ran .args .tails .now) (start ran .args .heads .now) [] [] []) (preds ran) (c .if1 .node)
   out-cycle n =
       ⊎-elim (λ w. absurd (n (w .1)))
-      (λ w. subst (Returns (graph (start ran .args .tails .now) (start ran .args .heads .now) [] [] []) (preds ran)) (sym (w .4)) (returning ran (w .2 .result) (w .0 .left) (w .2 .ensures) (w .3 .taken)))
+      (λ w. subst (Returns (costGraph (start ran .args .tails .now) (start ran .args .heads .now) [] [] []) (preds ran)) (sym (w .4)) (returning ran (w .2 .result) (w .0 .left) (w .2 .ensures) (w .3 .taken)))
       (c .if1 .came)
 
 rounds-holds : tie.Need-rounds-holds Inv-rounds μ-rounds

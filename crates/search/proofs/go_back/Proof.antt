@@ -3,20 +3,20 @@ use mathlib.Core.List.{[]}
 use Prim.Native.Nat.{_-_}
 use native.Mathlib.Omega.{arith}
 use Rattle.network.specs.Network.{Net}
-use Rattle.search.specs.Labels.{graph}
+use Rattle.search.specs.Labels.{costGraph}
 use Rattle.search.specs.Predecessors.{back, ended, went}
 use Rattle.search.proofs.Ways.{Going, arc-of, going-none, going-more, going-ends}
 use Rattle.search.proofs.go_back.Statement.{statement}
 use Rattle.search.proofs.go_back.Tie as tie
 
 abbrev Inv-loop : tie.InvT-loop
-Inv-loop tails heads preds v m w₀ -i₀ w -i = Going (graph tails heads [] [] []) preds v -i w
+Inv-loop tails heads preds v m w₀ -i₀ w -i = Going (costGraph tails heads [] [] []) preds v -i w
 
 abbrev μ-loop : tie.MeasureT-loop
 μ-loop tails heads preds v m w₀ -i₀ w -i = 64 - -i
 
 abbrev net : tie.Start Inv-loop μ-loop → Net
-net s = graph (s .args .tails .now) (s .args .heads .now) [] [] []
+net s = costGraph (s .args .tails .now) (s .args .heads .now) [] [] []
 
 add-m : tie.Need-add-m Inv-loop μ-loop
 add-m c = omega (arith, c .before .before .before .pre .0 .few)

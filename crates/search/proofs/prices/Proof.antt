@@ -2,7 +2,7 @@ use mathlib.Core.Path.{_≡_, refl, sym, subst}
 use Prim.Native.Nat.{_-_}
 use native.Mathlib.Omega.{arith}
 use Rattle.network.specs.Network.{Net}
-use Rattle.search.specs.Labels.{graph}
+use Rattle.search.specs.Labels.{costGraph}
 use Rattle.search.proofs.Rounds.{sized-more}
 use Rattle.search.proofs.Searching.{zero-at}
 use Rattle.search.proofs.Pricing.{Pricing, pricing-start, pricing-more, prices-quiet, prices-all}
@@ -10,13 +10,13 @@ use Rattle.search.proofs.prices.Statement.{statement}
 use Rattle.search.proofs.prices.Tie as tie
 
 abbrev Inv-loop : tie.InvT-loop
-Inv-loop tails heads lows ups costs flow least₀ preds₀ -k₀ least preds -k = Pricing (graph tails heads lows ups costs) flow least preds -k
+Inv-loop tails heads lows ups costs flow least₀ preds₀ -k₀ least preds -k = Pricing (costGraph tails heads lows ups costs) flow least preds -k
 
 abbrev μ-loop : tie.MeasureT-loop
 μ-loop tails heads lows ups costs flow least₀ preds₀ -k₀ least preds -k = 64 - -k
 
 abbrev net : tie.Start Inv-loop μ-loop → Net
-net s = graph (s .args .tails .now) (s .args .heads .now) (s .args .lows .now) (s .args .ups .now) (s .args .costs .now)
+net s = costGraph (s .args .tails .now) (s .args .heads .now) (s .args .lows .now) (s .args .ups .now) (s .args .costs .now)
 
 abbrev entry : tie.At-loop Inv-loop μ-loop → tie.Start Inv-loop μ-loop
 entry l = l .before .before .before .before .before .before

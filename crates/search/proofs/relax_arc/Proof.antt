@@ -13,7 +13,7 @@ use mir.Facts.{toZ-ofZ}
 use Rattle.laws.specs.Linear.{lin}
 use Rattle.laws.specs.Range.{Bounded, bounded-add, bounded-neg, bounded-fits}
 use Rattle.network.specs.Network.{Net}
-use Rattle.search.specs.Labels.{graph, Searchable, State, state, label, setIf, relaxed, Sized}
+use Rattle.search.specs.Labels.{costGraph, Relaxable, State, state, label, setIf, relaxed, Sized}
 use Rattle.search.proofs.Rounds.{one-sized}
 use Rattle.search.proofs.Arcs.{forward, backward}
 use Rattle.search.proofs.relax_arc.Statement.{statement}
@@ -22,9 +22,9 @@ use Rattle.search.proofs.relax_arc.Tie as tie
 -- the lists that the function reads, and what it is told of them
 module _ (s : tie.Start) where
   abbrev net : Net
-  net = graph (s .args .tails .now) (s .args .heads .now) (s .args .lows .now) (s .args .ups .now) (s .args .costs .now)
+  net = costGraph (s .args .tails .now) (s .args .heads .now) (s .args .lows .now) (s .args .ups .now) (s .args .costs .now)
 
-  ok : Searchable net (s .args .flow .now)
+  ok : Relaxable net (s .args .flow .now)
   ok = s .pre .0
 
   inside : s .args .a < length (s .args .tails .now)

@@ -3,19 +3,19 @@ use Prim.Native.Nat.{suc, _+_, _-_, _≤_}
 use native.Mathlib.Omega.{arith}
 use lib.ListN.{length}
 use Rattle.network.specs.Network.{Net}
-use Rattle.search.specs.Labels.{graph, State, state, relaxed, relaxedAll, Sized}
+use Rattle.search.specs.Labels.{costGraph, State, state, relaxed, relaxedAll, Sized}
 use Rattle.search.proofs.Rounds.{all-sized, sized-more}
 use Rattle.search.proofs.round.Statement.{statement}
 use Rattle.search.proofs.round.Tie as tie
 
 abbrev Inv-loop : tie.InvT-loop
-Inv-loop tails heads lows ups costs flow need labels₀ preds₀ last₀ a₀ a-end labels preds last a = (a ≤ length tails) × (state labels preds last ≡ relaxedAll (graph tails heads lows ups costs) flow need (a + a) (state labels₀ preds₀ 64))
+Inv-loop tails heads lows ups costs flow need labels₀ preds₀ last₀ a₀ a-end labels preds last a = (a ≤ length tails) × (state labels preds last ≡ relaxedAll (costGraph tails heads lows ups costs) flow need (a + a) (state labels₀ preds₀ 64))
 
 abbrev μ-loop : tie.MeasureT-loop
 μ-loop tails heads lows ups costs flow need labels₀ preds₀ last₀ a₀ a-end labels preds last a = a-end - a
 
 abbrev net : tie.Start Inv-loop μ-loop → Net
-net s = graph (s .args .tails .now) (s .args .heads .now) (s .args .lows .now) (s .args .ups .now) (s .args .costs .now)
+net s = costGraph (s .args .tails .now) (s .args .heads .now) (s .args .lows .now) (s .args .ups .now) (s .args .costs .now)
 
 module _ (l : tie.At-loop Inv-loop μ-loop) where
   abbrev entry : tie.Start Inv-loop μ-loop
