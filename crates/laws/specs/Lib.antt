@@ -14,6 +14,9 @@ pub mod Image
 pub mod Lexicographic
 pub mod Equality
 pub mod Within
+pub mod Suffix
+pub mod Snoc
+pub mod Tabulate
 pub mod Padded
 pub mod Store
 pub mod Run

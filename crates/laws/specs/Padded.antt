@@ -1,12 +1,13 @@
 -- An array of k places that holds a list: the list, and d in the places that are left; and an array filled one place after another.
 use mathlib.Core.Path.{_≡_, refl, sym, ap, _∙_}
-use mathlib.Core.List.{List, [], _∷_, _++_, map}
+use mathlib.Core.List.{List, _∷_, _++_, map}
 use Prim.Native.Nat.{ℕ, suc, _+_, _-_, _≤_, _<_}
 use native.Mathlib.Numerals.{add-one}
 use native.Mathlib.Omega.{arith}
 use native.Mathlib.Decide.{ℕ-discrete}
 use lib.ListN.{length, getD, take, set, replicate, length-append, length-map, length-replicate}
-use lib.Seq.{take-suc, take-length, length-take-le, take-at, set-at, getD-set-same, getD-set-other}
+use lib.Seq.{append-snoc, take-suc, take-length, length-take-le, take-at, set-at, getD-set-same, getD-set-other}
+use Rattle.laws.specs.Snoc.{map-more}
 
 abbrev pub padded : {A : Type 0} → ℕ → A → List A → List A
 padded k d l = l ++ replicate (k - length l) d
@@ -17,10 +18,6 @@ length-padded k d l h = rw (length-append, length-replicate) (omega arith)
 -- the first places hold the list
 pub take-padded : {A : Type 0} (k : ℕ) (d : A) (l : List A) → take (length l) (padded k d l) ≡ l
 take-padded k d l = take-at l (replicate (k - length l) d) (length l) refl
-
-map-more : {A B : Type 0} (f : A → B) (x : List A) (a : A) (r : List B) → map f (x ++ (a ∷ [])) ++ r ≡ map f x ++ (f a ∷ r)
-map-more f [] a r = refl
-map-more {B = B} f (b ∷ x) a r = ap {B = List B} (λ t. f b ∷ t) (map-more f x a r)
 
 module _ {A B : Type 0} (f : A → B) (l : List A) (k : ℕ) (d : B) where
   -- f of the first i members of l, and d behind them
@@ -39,7 +36,8 @@ module _ {A B : Type 0} (f : A → B) (l : List A) (k : ℕ) (d : B) where
       ∙ ap (λ n. set (map f (take i l) ++ replicate n d) i b) left
       ∙ set-at (map f (take i l)) d (replicate (k - suc i) d) b i (length-first i (omega arith))
       ∙ ap (λ x. map f (take i l) ++ (x ∷ replicate (k - suc i) d)) q
-      ∙ sym (map-more f (take i l) (getD l i e) (replicate (k - suc i) d))
+      ∙ sym (append-snoc (map f (take i l)) (f (getD l i e)) (replicate (k - suc i) d))
+      ∙ ap (λ t. t ++ replicate (k - suc i) d) (sym (map-more f (take i l) (getD l i e)))
       ∙ ap (λ t. map f t ++ replicate (k - suc i) d) (sym (take-suc l i e h))
       ∙ ap (λ n. map f (take (suc i) l) ++ replicate n d) right
       ∙ ap filled (sym (add-one i))

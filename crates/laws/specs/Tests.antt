@@ -1,4 +1,4 @@
--- Tests, the Bools that code and definitions compute: joined, of a decided fact, of every member of a list, of every number below n.
+-- Tests, the Bools that code and definitions compute: joined, as questions in a row, of a decided fact, of every member of a list, of every number below n.
 use mathlib.Core.Path.{_≡_, refl, sym, ap, _∙_}
 use mathlib.Core.Bool.{Bool, true, false, _&&_}
 use mathlib.Core.List.{List, [], _∷_}
@@ -38,6 +38,11 @@ and-then b₁ b₂ x y p q r = rw (sym p ∙ q) r
 
 pub and-else : (b₁ x y : Bool) → b₁ ≡ x → b₁ ≡ false → false ≡ x && y
 and-else b₁ x y p q = rw (sym p ∙ q)
+
+-- a question of a row of them: the next one's answer where the test holds, and else this one's number
+abbrev pub ask : Bool → ℕ → ℕ → ℕ
+ask true n next = next
+ask false n next = n
 
 -- a decided fact as a test
 abbrev pub test : {P : Type 0} → Dec P → Bool

@@ -11,12 +11,12 @@ use borrow.Author.Tests.{eq-eqb}
 use Rattle.laws.specs.Parts.{le→ℕ}
 use Rattle.laws.specs.Linear.{lin, given2}
 use Rattle.laws.specs.Integers.{leZ-true}
-use Rattle.laws.specs.Tests.{and-true, all, all-at}
+use Rattle.laws.specs.Tests.{and-true, ask, all, all-at}
 use Rattle.laws.specs.Padded.{take-padded}
 use Rattle.bytes32.specs.Words.{ints}
 use Rattle.bytes32.proofs.Words.{length-ints}
 use Rattle.network.specs.Network.{Net, WellFormed, nodes, arcs}
-use Rattle.network.specs.Questions.{rows, netOf, inside, passes, fairBalance, fairNodes, fairArcs, lastNode, ask, refusal}
+use Rattle.network.specs.Questions.{rows, netOf, inside, passes, fairBalance, fairNodes, fairArcs, lastNode, refusal}
 use Rattle.network.specs.Checked.{structOf, netIn, noNet, Checks, AcceptedNet, Sound}
 use Rattle.network.specs.Columns.{noArc, part, Column}
 use Rattle.network.specs.declared.Arc.{Arc}

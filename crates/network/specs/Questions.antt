@@ -1,12 +1,12 @@
 -- Document 01, "Questions", 1 to 6: put to the bytes of a network, "each question ... of the whole input before the next".
-use mathlib.Core.Bool.{Bool, true, false, _&&_}
+use mathlib.Core.Bool.{Bool, _&&_}
 use mathlib.Core.List.{List, [], _∷_, map}
 use Prim.Native.Nat.{ℕ, _-_, _/_, _%_}
 use lib.Dec.{eqb, leb}
 use lib.ListN.{length}
 use lib.IntN.{ℤ, pos, negsuc, natAbs}
 use lib.Signed.{leZ}
-use Rattle.laws.specs.Tests.{all}
+use Rattle.laws.specs.Tests.{ask, all}
 use Rattle.bytes32.specs.Words.{ints}
 use Rattle.network.specs.Network.{Net}
 use Rattle.network.specs.declared.Arc.{Arc}
@@ -56,11 +56,6 @@ passes Cost last r = inside (negsuc 999999) (pos 1000000) (r .cost)
 -- 6. "Is every balance from −1,000,000,000 to 1,000,000,000?"
 abbrev pub fairBalance : ℤ → Bool
 fairBalance b = inside (negsuc 999999999) (pos 1000000000) b
-
--- "A 'no' gives its number."
-abbrev pub ask : Bool → ℕ → ℕ → ℕ
-ask true n next = next
-ask false n next = n
 
 -- n − 1
 abbrev pub lastNode : List ℕ → ℤ

@@ -1,0 +1,67 @@
+-- The first lines of a book, the last one, and the whole. Assumes nothing.
+use Prim.Native.Nat.{ℕ, _+_, _<_, _≤_}
+use mathlib.Core.Path.{_≡_, refl, ap, _∙_}
+use mathlib.Core.Bool.{Bool, true, false, cond}
+use mathlib.Core.Option.{none, some}
+use mathlib.Core.List.{List, [], _∷_}
+use native.Mathlib.Omega.{arith}
+use lib.ListN.{length, length-drop, drop, getD}
+use lib.Seq.{getD-drop}
+use lib.Dec.{eqb}
+use borrow.Author.Tests.{eq-eqb, ne-eqb}
+use Rattle.text.specs.Reader.{_>>=_, give, bytes, text, fails, reads, Right}
+use Rattle.lines.specs.Lines.{Entry}
+use Rattle.lines.proofs.EntryPass.{placed-drop}
+use Rattle.book.specs.Book.{opening, Book, book, whole, parse}
+use Rattle.lines.specs.Passes.{Placed}
+use Rattle.book.specs.Steps.{Closing}
+use Rattle.laws.specs.Suffix.{take-rest}
+use Rattle.text.proofs.Sequence.{From, part, part-part, mapped, ends}
+
+-- the numbers of the first lines stand in the last places of their rows
+pub opening-present : (s ps cs : List ℕ) (used : ℕ) → From (opening s) (give (getD (drop 3 ps) 0 0, getD (drop 3 cs) 0 0)) s used → 0 < used → Right s (opening s) used (getD ps 3 0, getD cs 3 0)
+opening-present s ps cs used f h = rw (← getD-drop 3 ps 0 0, ← getD-drop 3 cs 0 0) (ends f h)
+
+-- the last line
+module _ (s : List ℕ) (n : ℕ) (r : Right s (text (bytes ")\n") s) n tt) where
+  closes : (b : Book) → Right s ((text (bytes ")\n") >>= (λ _. give b)) s) n b
+  closes b = mapped (text (bytes ")\n")) (λ _. b) s r
+
+  pub closing-absent : n ≡ 0 → Closing s false
+  unfolding whole
+  closing-absent z = record { is = λ b. ap whole (closes b .absent z) }
+
+  -- by what is left after it
+  pub closing-is : (n ≡ 0 → ⊥) → Closing s (eqb n (length s))
+  unfolding whole
+  closing-is z = record { is = λ b. ap whole (closes b .stands z) ∙ go b (drop n s) refl }
+    where
+      go : (b : Book) (t : List ℕ) → drop n s ≡ t → whole (reads b t) ≡ cond (eqb n (length s)) (some b) none
+      go b [] e = rw (eq-eqb n (length s) (omega (arith, r .within, length-drop n s, ap length e)))
+      go b (x ∷ t) e = rw (ne-eqb n (length s) (λ q. absurd (omega (arith, q, length-drop n s, ap length e))))
+
+-- the whole
+pub parse-fails : (s : List ℕ) → book s ≡ fails → parse s ≡ none
+unfolding parse whole
+parse-fails s e = rw e
+
+module _ (s : List ℕ) (n : ℕ) (b : Book) (r : Bool) (f : From (book s) (text (bytes ")\n") >>= (λ _. give b)) s n) (c : Closing (part s n) r) where
+  parse-is : parse s ≡ cond r (some b) none
+  unfolding parse
+  parse-is =
+      let e : whole ((text (bytes ")\n") >>= (λ _. give b)) (drop n s)) ≡ cond r (some b) none = rw take-rest at (c .is b) in
+      ap whole (f .is) ∙ e
+
+  pub parse-closed : r ≡ true → parse s ≡ some b
+  parse-closed e = parse-is ∙ rw e
+
+  pub parse-open : r ≡ false → parse s ≡ none
+  parse-open e = parse-is ∙ rw e
+
+-- the rest after three parts
+pub closing-part : (s : List ℕ) (n1 n2 n3 : ℕ) (r : Bool) → Closing (part (part (part s n1) n2) n3) r → Closing (part s (n1 + n2 + n3)) r
+closing-part s n1 n2 n3 r c = rw (part-part s n1 n2, part-part s (n1 + n2) n3) at c
+
+-- a name that lies in the rest of s lies in s
+pub placed-part : (s : List ℕ) (n : ℕ) (e : Entry) → n ≤ length s → Placed (part s n) e → Placed s e
+placed-part s n e h p = placed-drop s n e h (rw take-rest at p)

@@ -1,0 +1,165 @@
+-- `book::check` meets its contract: each part of the book is read where the one before it ended. Assumes nothing.
+use Prim.Native.Nat.{_+_}
+use mathlib.Core.Path.{refl}
+use borrow.Author.Needs.{needs}
+use borrow.Author.Tests.{not-true, not-false}
+use Rattle.book.specs.declared.Answer.the-variants.{TooLong, Malformed}
+use Rattle.text.specs.Reader.{Reader, _>>=_, _>>_, give, bytes, text, many}
+use Rattle.lines.specs.Lines.{move, entry}
+use Rattle.book.specs.Book.{Book, book}
+use Rattle.text.proofs.Sequence.{From, part, part-part, begin, first, first-stops, next}
+use Rattle.book.specs.Steps.{Closing}
+use Rattle.book.proofs.Form.{parse-fails, parse-closed, parse-open, closing-part, placed-part}
+use Rattle.book.proofs.Judging.{long, no-form, refused-right, Found, judged-right}
+use Rattle.book.proofs.check.Statement.{statement}
+use Rattle.book.proofs.check.Tie as tie
+
+refused-requires : tie.Need-refused-requires
+refused-requires c κs = search needs
+
+returns : tie.Need-returns
+returns c = refused-right _ _ TooLong 10 (c .refused .ensures) (long (c .before .before .before .args .book .now) (c .before .if1 .taken)) refl (λ _. tt)
+
+read-opening-requires : tie.Need-read-opening-requires
+read-opening-requires c κs = search needs
+
+-- What is to be read after the first lines, after the moves, and after the entries.
+abbrev Close : Book → Reader Book
+Close b = text (bytes ")\n") >>= (λ _. give b)
+
+opened : (c : tie.Else2)
+    → let s = c .before .before .before .before .args .book .now in
+    let o = c .before .read-opening .result in
+    From (book s) (many move >>= (λ ms. many entry >>= (λ es. Close (record { players = o .players; fee = o .fee; moves = ms; entries = es })))) s (o .used)
+unfolding book _>>_
+opened c = first _ _ (begin book _) (c .before .read-opening .ensures) (c .if2 .left)
+
+moved : (c : tie.After-read-moves)
+    → let s = c .before .before .before .before .before .before .args .book .now in
+    let o = c .before .before .before .read-opening .result in
+    From (book s) (many entry >>= (λ es. Close (record { players = o .players; fee = o .fee; moves = c .read-moves .ensures .list; entries = es }))) s
+    (o .used + c .read-moves .result .used)
+moved c = next _ _ (opened (c .before .before)) (c .read-moves .ensures .is) (c .read-moves .ensures .within)
+
+listed : (c : tie.After-read-entries)
+    → let s = c .before .before .before .before .before .before .before .before .args .book .now in
+    let o = c .before .before .before .before .before .read-opening .result in
+    From (book s) (Close (record { players = o .players; fee = o .fee; moves = c .before .before .read-moves .ensures .list; entries = c .read-entries .ensures .list })) s
+    (o .used + c .before .before .read-moves .result .used + c .read-entries .result .used)
+listed c =
+    let e = c .read-entries .ensures in
+    next _ _ (moved (c .before .before)) (rw part-part at (e .is)) (rw part-part at (e .within))
+
+closed : (c : tie.After-closes)
+    → let s = c .before .before .before .before .before .before .before .before .before .before .args .book .now in
+    let n1 = c .before .before .before .before .before .before .before .read-opening .result .used in
+    let n2 = c .before .before .before .before .read-moves .result .used in
+    let n3 = c .before .before .read-entries .result .used in
+    Closing (part s (n1 + n2 + n3)) (c .closes .result)
+closed c =
+    closing-part (c .before .before .before .before .before .before .before .before .before .before .args .book .now) (c .before .before .before .before .before .before .before .read-opening .result .used) (c .before .before .before .before .read-moves .result .used) (c .before .before .read-entries .result .used) _ (c .closes .ensures)
+
+refused-requires-2 : tie.Need-refused-requires-2
+refused-requires-2 c κs = search needs
+
+returns-2 : tie.Need-returns-2
+unfolding book _>>_
+returns-2 c =
+    let s = c .before .before .before .before .before .args .book .now in
+    let e = parse-fails s (first-stops _ _ (begin book s) (c .before .before .read-opening .ensures) (c .before .if2 .taken)) in
+    refused-right s _ Malformed 11 (c .refused2 .ensures) (no-form s (c .before .before .before .if1 .left) e) refl (λ _. tt)
+
+sub-rest : tie.Need-sub-rest
+sub-rest c = search needs
+
+part-rest-start : tie.Need-part-rest-start
+part-rest-start c = search needs
+
+part-rest-end : tie.Need-part-rest-end
+part-rest-end c = search needs
+
+read-moves-requires : tie.Need-read-moves-requires
+read-moves-requires c κs = search needs
+
+sub-rest-2 : tie.Need-sub-rest-2
+sub-rest-2 c = search needs
+
+part-rest-start-2 : tie.Need-part-rest-start-2
+part-rest-start-2 c = search needs
+
+part-rest-end-2 : tie.Need-part-rest-end-2
+part-rest-end-2 c = search needs
+
+read-entries-requires : tie.Need-read-entries-requires
+read-entries-requires c κs = search needs
+
+sub-closes : tie.Need-sub-closes
+sub-closes c = search needs
+
+part-closes-start : tie.Need-part-closes-start
+part-closes-start c = search needs
+
+part-closes-end : tie.Need-part-closes-end
+part-closes-end c = search needs
+
+closes-requires : tie.Need-closes-requires
+closes-requires c κs = search needs
+
+refused-requires-3 : tie.Need-refused-requires-3
+refused-requires-3 c κs = search needs
+
+returns-3 : tie.Need-returns-3
+returns-3 c =
+    let s = c .before .before .before .before .before .before .before .before .before .before .before .before .args .book .now in
+    let e = parse-open _ _ _ _ (listed (c .before .before .before .before)) (closed (c .before .before)) (not-true _ (c .before .if3 .taken)) in
+    refused-right s _ Malformed 11 (c .refused3 .ensures) (no-form s (c .before .before .before .before .before .before .before .before .before .before .if1 .left) e) refl (λ _. tt)
+
+judge-requires : tie.Need-judge-requires
+judge-requires c κs = search needs
+
+returns-4 : tie.Need-returns-4
+returns-4 c =
+    let s = c .before .before .before .before .before .before .before .before .before .before .before .before .args .book .now in
+    let o = c .before .before .before .before .before .before .before .before .before .read-opening .result in
+    let m = c .before .before .before .before .before .before .read-moves .ensures in
+    let e = c .before .before .before .before .read-entries .ensures in
+    let found : Found s o (c .before .before .before .before .before .before .read-moves .result) (c .before .before .before .before .read-entries .result) =
+    record {
+      move-list = m .list;
+      entry-list = e .list;
+      parsed = parse-closed _ _ _ _ (listed (c .before .before .before .before)) (closed (c .before .before)) (not-false _ (c .before .if3 .left));
+      moves-judged = m .verdict;
+      ticks = m .ticks;
+      costs = m .costs;
+      count = e .count;
+      entries-judged = rw (m .line) at (e .verdict);
+      columns = e .columns;
+      placed = λ n h. placed-part s _ _ (moved (c .before .before .before .before .before .before) .within) (rw part-part at (e .placed n h));
+    } in
+    rw (c .judge .ensures) (judged-right s o _ _ found (c .before .before .before .before .before .before .before .before .before .before .if1 .left))
+
+pub check-spec : {M : Type 1} → statement M
+check-spec =
+    tie.close
+    (tie.spec
+    refused-requires
+    returns
+    read-opening-requires
+    refused-requires-2
+    returns-2
+    sub-rest
+    part-rest-start
+    part-rest-end
+    read-moves-requires
+    sub-rest-2
+    part-rest-start-2
+    part-rest-end-2
+    read-entries-requires
+    sub-closes
+    part-closes-start
+    part-closes-end
+    closes-requires
+    refused-requires-3
+    returns-3
+    judge-requires
+    returns-4)

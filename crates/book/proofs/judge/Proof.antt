@@ -1,0 +1,58 @@
+-- `book::judge` meets its contract. Assumes nothing.
+use mathlib.Core.Path.{_≡_, sym, ap, _∙_}
+use borrow.Author.Needs.{needs}
+use Rattle.book.specs.declared.Answer.{Answer}
+use Rattle.book.specs.Steps.{answerOf, headerBad, judgedOf}
+use Rattle.book.proofs.Judging.{judged-refused, judged-held}
+use Rattle.book.proofs.judge.Statement.{statement}
+use Rattle.book.proofs.judge.Tie as tie
+
+first-bad-requires : tie.Need-first-bad-requires
+first-bad-requires c κs = search needs
+
+first-bad-requires-2 : tie.Need-first-bad-requires-2
+first-bad-requires-2 c κs = search needs
+
+answer-of-requires : tie.Need-answer-of-requires
+answer-of-requires c κs = search needs
+
+question-requires : tie.Need-question-requires
+question-requires c κs = search needs
+
+refused-requires : tie.Need-refused-requires
+refused-requires c κs = search needs
+
+-- the answer, by what the passes found
+answered : (c : tie.After-answer-of)
+    → let start = c .before .before .before .before .before .before in
+    c .answer-of .result ≡ answerOf (headerBad (start .args .o)) (start .args .m .bad) (start .args .e .bad) (start .args .e .count)
+answered c = c .answer-of .ensures ∙ rw (c .before .first-bad2 .ensures, c .before .before .before .first-bad .ensures)
+
+returns : tie.Need-returns
+returns c =
+    let x = c .before .before .before .before .before .before .before .before .before .args in
+    c .refused .ensures
+    ∙ judged-refused _ (x .o) (x .m) (x .e) (λ z. c .before .if1 .taken (c .before .before .question .ensures ∙ z))
+    ∙ ap (λ (a : Answer). judgedOf a (x .o) (x .m) (x .e)) (answered (c .before .before .before))
+
+held-requires : tie.Need-held-requires
+held-requires c κs = search needs
+
+returns-2 : tie.Need-returns-2
+returns-2 c =
+    let x = c .before .before .before .before .before .before .before .before .before .args in
+    judged-held _ (x .o) (x .m) (x .e) (sym (c .before .before .question .ensures) ∙ c .before .if1 .left) _ (c .held .ensures)
+    ∙ ap (λ (a : Answer). judgedOf a (x .o) (x .m) (x .e)) (answered (c .before .before .before))
+
+pub judge-spec : {M : Type 1} → statement M
+judge-spec =
+    tie.close
+    (tie.spec
+    first-bad-requires
+    first-bad-requires-2
+    answer-of-requires
+    question-requires
+    refused-requires
+    returns
+    held-requires
+    returns-2)

@@ -1,0 +1,70 @@
+-- The checked book, by value.
+use Prim.Native.Nat.{ℕ, zero, suc, _+_, _-_, _≤_, _<_}
+use mathlib.Core.Path.{_≡_}
+use mathlib.Core.Option.{Option, none, some}
+use mathlib.Core.List.{List, []}
+use lib.ListN.{length, take, drop, getD, replicate}
+use Rattle.book.specs.declared.CheckedBook.{CheckedBook}
+use Rattle.book.specs.declared.Checked.{Checked}
+use Rattle.lines.specs.Lines.{Entry}
+use Rattle.book.specs.Book.{Book, parse}
+use Rattle.lines.specs.Columns.{table, column, nobody}
+use Rattle.book.specs.Questions.{refusal, questionOf, Told}
+
+-- `ticks` holds one more than the ticks, so that 0 says that there is no move; `total` is the length of the book
+abbrev pub filled : ℕ → Book → CheckedBook
+filled total b =
+    record {
+      players = b .players;
+      fee = b .fee;
+      ticks = table (λ m. m .ticks + 1) (b .moves);
+      costs = table (λ m. m .cost) (b .moves);
+      count = length (b .entries);
+      instruments = column (λ e. e .instrument) (b .entries);
+      starts = column (λ e. e .start) (b .entries);
+      finishes = column (λ e. e .finish) (b .entries);
+      names = column (λ e. total - e .left) (b .entries);
+      lengths = column (λ e. length (e .name)) (b .entries);
+    }
+
+abbrev pub empty : CheckedBook
+empty =
+    record {
+      players = 0;
+      fee = 0;
+      ticks = replicate 256 0;
+      costs = replicate 256 0;
+      count = 0;
+      instruments = replicate 28 0;
+      starts = replicate 28 0;
+      finishes = replicate 28 0;
+      names = replicate 28 0;
+      lengths = replicate 28 0;
+    }
+
+-- "A "no" gives its number. The rest of the result is then zero"
+abbrev pub unlessRefused : ℕ → ℕ → Option Book → CheckedBook
+unlessRefused zero total (some b) = filled total b
+unlessRefused zero total none = empty
+unlessRefused (suc q) total o = empty
+
+abbrev pub checkedBook : List ℕ → CheckedBook
+checkedBook s = unlessRefused (refusal s) (length s) (parse s)
+
+-- the entries of a book that keeps the form
+abbrev pub entriesOf : Option Book → List Entry
+entriesOf none = []
+entriesOf (some b) = b .entries
+
+-- the part of s of that length, from `start` on, is the name, which is not empty
+pub record Lies (s : List ℕ) (start len : ℕ) (name : List ℕ) : Type 0 where
+  pub some : 0 < len
+  pub within : start + len ≤ length s
+  pub is : take len (drop start s) ≡ name
+
+-- what a check of the bytes s promises
+pub record Judged (s : List ℕ) (r : Checked) : Type 0 where
+  pub question : questionOf (r .answer) ≡ refusal s
+  pub line : (b : Book) → parse s ≡ some b → Told b (r .answer)
+  pub book : r .book ≡ checkedBook s
+  pub lies : (n : ℕ) → n < r .book .count → Lies s (getD (r .book .names) n 0) (getD (r .book .lengths) n 0) (getD (entriesOf (parse s)) n nobody .name)

@@ -1,0 +1,5 @@
+pub mod Book
+pub mod Questions
+pub mod Checked
+pub mod Name
+pub mod Steps

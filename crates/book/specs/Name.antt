@@ -1,0 +1,35 @@
+-- The name of an entry.
+use Prim.Native.Nat.{ℕ, zero, suc, _-_, _<_}
+use mathlib.Core.Path.{_≡_}
+use mathlib.Core.Bool.{_&&_}
+use mathlib.Core.List.{List, []}
+use lib.ListN.{length, getD}
+use lib.Dec.{leb}
+use Rattle.lines.specs.Lines.{Entry}
+use Rattle.book.specs.Book.{parse}
+use Rattle.laws.specs.Tests.{ask}
+use Rattle.book.specs.Questions.{refusal}
+use Rattle.book.specs.Checked.{entriesOf}
+use Rattle.lines.specs.Columns.{nobody}
+
+-- "For a name, put straight after 16: is the entry from 1 to E? If not, 19."
+abbrev pub askEntry : ℕ → List Entry → ℕ → ℕ
+askEntry zero es j = ask (leb 1 j && leb j (length es)) 19 0
+askEntry (suc q) es j = suc q
+
+abbrev pub nameRefusal : List ℕ → ℕ → ℕ
+nameRefusal s j = askEntry (refusal s) (entriesOf (parse s)) j
+
+-- "A refused name call gives the empty part"
+abbrev pub unlessRefused : ℕ → List ℕ → List ℕ
+unlessRefused zero name = name
+unlessRefused (suc q) name = []
+
+-- "Entries are numbered 1 to E in book order"
+abbrev pub nameOf : List ℕ → ℕ → List ℕ
+nameOf s j = unlessRefused (nameRefusal s j) (getD (entriesOf (parse s)) (j - 1) nobody .name)
+
+-- what a name call promises: "the empty part, which no name is"
+pub record Given (s : List ℕ) (j : ℕ) (part : List ℕ) : Type 0 where
+  pub is : part ≡ nameOf s j
+  pub some : nameRefusal s j ≡ 0 → 0 < length part

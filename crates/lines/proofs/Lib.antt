@@ -1,0 +1,4 @@
+pub mod Table
+pub mod Verdicts
+pub mod MovePass
+pub mod EntryPass

@@ -1,0 +1,10 @@
+-- `lines::entries::is_fair` meets its contract. Assumes nothing.
+use mathlib.Core.Path.{refl}
+use Rattle.lines.proofs.entries.is_fair.Statement.{statement}
+use Rattle.lines.proofs.entries.is_fair.Tie as tie
+
+returns : tie.Need-returns
+returns c = refl
+
+pub is-fair-spec : {M : Type 1} → statement M
+is-fair-spec = tie.close (tie.spec returns)

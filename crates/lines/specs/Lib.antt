@@ -1,0 +1,4 @@
+pub mod Lines
+pub mod Questions
+pub mod Columns
+pub mod Passes

@@ -1,0 +1,4 @@
+// The lines of moves and of entries, read and judged.
+pub mod entries;
+pub mod moves;
+pub mod verdict;

@@ -1,0 +1,218 @@
+"""The book's questions and names, against the reader in book_reader.py. Deterministic."""
+import random
+import unittest
+
+import book_library as library
+import book_reader as reader
+
+EXAMPLE = b"(book\n(players 2)\n(fee 6)\n(move 1 2 24 3)\n(move 2 1 24 3)\n(entry (name snare) 1 0 96)\n(entry (name xylo) 2 120 200)\n(entry (name snare2) 1 240 300)\n)\n"
+
+
+def made(players=2, fee=6, moves=(), entries=()):
+    lines = [b"(book", b"(players %d)" % players, b"(fee %d)" % fee]
+    lines += [b"(move %d %d %d %d)" % m for m in moves]
+    lines += [b"(entry (name %s) %d %d %d)" % e for e in entries]
+    return b"\n".join(lines) + b"\n)\n"
+
+
+class Run:
+    def __init__(self, tested):
+        self.tested, self.calls, self.wrong, self.seen = tested, 0, 0, {}
+
+    def expect(self, what, got, wanted):
+        self.calls += 1
+        if got != wanted:
+            self.wrong += 1
+            if self.wrong <= 10: print("%s: %r, and not %r" % (what, got, wanted))
+
+    def check(self, text, code=None, line=None):
+        """The library's answer is the reader's, and that of the case where it states one."""
+        wanted, lines, _ = reader.refusal(text)
+        got, told = self.tested.check(text)
+        self.seen[got] = self.seen.get(got, 0) + 1
+        self.expect("refusal of %r" % text[:200], got, wanted)
+        self.expect("line told of %r" % text[:200], told in lines, True)
+        if code is not None: self.expect("stated refusal of %r" % text[:200], got, code)
+        if line is not None: self.expect("stated line of %r" % text[:200], told, line)
+
+    def names(self, text, entries):
+        for j in entries:
+            code, (start, end) = reader.name(text, j)
+            self.expect("name %d of %r" % (j, text[:200]), self.tested.name(text, j), text[start:end])
+            self.expect("refusal of name %d of %r" % (j, text[:200]), self.tested.name_refusal(text, j), code)
+
+    def fields(self, text):
+        head, ticks, costs, columns = reader.fields(reader.refusal(text)[2])
+        for field, wanted in zip(library.FIELDS, [[h] for h in head] + [ticks, costs] + columns):
+            self.expect("%s of %r" % (field, text[:200]), self.tested.field(text, field, len(wanted)), wanted)
+
+
+def near_misses(run):
+    lines = EXAMPLE.split(b"\n")[:-1]
+    run.check(EXAMPLE, 0)
+    run.check(b"", 12)
+    # a space missing, doubled, or a tab, CR, NUL, 127, 128 or 255 for it; the same for every byte 10
+    for i, b in enumerate(EXAMPLE):
+        if b in b" \n":
+            for other in (b"", b"  ", b"\n\n", b"\t", b"\r", b"\r\n", b"\0", b"\x7f", b"\x80", b"\xff"):
+                run.check(EXAMPLE[:i] + other + EXAMPLE[i + 1:], 12)
+    # text after each `)`, before each line, upper case
+    for k, line in enumerate(lines):
+        for other in (line + b" ", line + b"x", line + b")", b" " + line, line.upper() if line != b")" else b"]"):
+            run.check(b"\n".join(lines[:k] + [other] + lines[k + 1:]) + b"\n", 12)
+    # cut at every byte, and at every byte of each head, and more after the end
+    for n in range(len(EXAMPLE)): run.check(EXAMPLE[:n], 12)
+    for head in (b"(book", b"(players ", b"(fee ", b"(move ", b"(entry (name "):
+        for n in range(len(head)):
+            run.check(EXAMPLE.replace(head, head[:n] + head[n + 1:], 1), 12)
+    for more in (b"\n", b" ", b"x", b")", b")\n", EXAMPLE): run.check(EXAMPLE + more, 12)
+    # forms left out, doubled, and out of order
+    for k in range(3): run.check(b"\n".join(lines[:k] + lines[k + 1:]) + b"\n", 12)
+    for k in range(3): run.check(b"\n".join(lines[:k] + [lines[k]] + lines[k:]) + b"\n", 12)
+    for i in range(len(lines)):
+        for j in range(i):
+            swapped = list(lines)
+            swapped[i], swapped[j] = swapped[j], swapped[i]
+            run.check(b"\n".join(swapped) + b"\n")
+    run.check(b"(book\n(players 2)\n(fee 6)\n(entry (name a) 1 0 1)\n(move 1 2 0 0)\n)\n", 12)
+    # words of 0, 1, 16 and 17, and each byte in a word
+    for n, code in ((0, 12), (1, 0), (16, 0), (17, 12)): run.check(made(entries=[(b"z" * n, 1, 0, 1)]), code)
+    for b in range(256): run.check(made(entries=[(bytes([b]), 1, 0, 1)]), 0 if chr(b) in "abcdefghijklmnopqrstuvwxyz0123456789" else 12)
+    # numbers of 0, 1, 7 and 8 digits, 00, 01, signs and other bytes, at every place where a number stands
+    spots = [b"(players 2)", b"(fee 6)", b"24 3)\n(move 2", b"1 0 96)", b"1 2 24 3)"]
+    for spot in spots:
+        for digits, form in ((b"", 12), (b"0", None), (b"7", None), (b"9999999", None), (b"00000000", 12), (b"10000000", 12), (b"00", 12), (b"01", 12), (b"-1", 12), (b"+1", 12), (b"1.", 12), (b"1e3", 12), (b" 1", 12), (b"1 ", 12), (b"\xb2", 12)):
+            at = EXAMPLE.index(spot) + next(i for i, b in enumerate(spot) if chr(b).isdigit())
+            end = at
+            while chr(EXAMPLE[end]).isdigit(): end += 1
+            run.check(EXAMPLE[:at] + digits + EXAMPLE[end:], form)
+    for digits in (b"1000000", b"1000001", b"9999999"): run.check(EXAMPLE.replace(b"(fee 6)", b"(fee %s)" % digits), 0 if digits == b"1000000" else 13)
+
+
+def sized(size):
+    """A book of that many bytes that keeps the form, of moves."""
+    text, line = b"(book\n(players 2)\n(fee 6)\n", b"(move 1 2 3 4)\n"
+    while len(text) + 2 + 2 * len(line) <= size: text += line
+    pad = size - len(text) - 2 - len(line)
+    return text + b"(move 1 2 3 4)\n".replace(b"1 2 3 4", {0: b"1 2 3 4"}.get(pad, b"%d 2 %d %d" % (1, 3 * 10 ** min(pad, 6), 4 * 10 ** max(0, pad - 6)))) + b")\n"
+
+
+def sizes(run):
+    for size, code in ((16384, 14), (16385, 11), (16386, 11), (20000, 11)):
+        text = sized(size)
+        assert len(text) == size, (len(text), size)
+        run.check(text, code)
+    run.check(b"x" * 16384, 12)
+    run.check(b"x" * 16385, 11)
+    for count, code in ((0, 0), (1, 0), (27, 0), (28, 0), (29, 16), (30, 16), (500, 16)):
+        text = made(entries=[(b"e%d" % j, 1, j, j + 1) for j in range(count)])
+        run.check(text, code)
+        run.names(text, range(0, count + 3))
+        run.fields(text)
+
+
+def orders(run):
+    """Every refusal against every other: the lowest decides, and its line is one that fails that question."""
+    faults = {13: "players", 14: "moves", 15: "entries", 16: "count"}
+    for mask in range(16):
+        on = [q for k, q in enumerate(faults) if mask >> k & 1]
+        for broken in (False, True):
+            for long in (False, True):
+                moves = [(1, 2, 0, 0), (3, 3, 0, 0) if 14 in on else (2, 1, 0, 0)]
+                entries = [(b"a", 1, 0, 1), (b"b", 1, 5, 5 if 15 in on else 6)] + [(b"c", 1, 0, 1)] * (27 if 16 in on else 0)
+                text = made(9 if 13 in on else 8, 6, moves, entries)
+                if broken: text = text[:-1]
+                if long: text += b" " * 16384
+                run.check(text, 11 if long else 12 if broken else on[0] if on else 0)
+                run.names(text, (0, 1, 2, 29, 30))
+    # the header
+    for p in (0, 1, 8, 9, 9999999): run.check(made(players=p), 0 if 1 <= p <= 8 else 13, 0 if 1 <= p <= 8 else 2)
+    for c in (0, 1000000, 1000001): run.check(made(fee=c), 0 if c <= 1000000 else 13, 0 if c <= 1000000 else 3)
+    # each part of a move and of an entry, at each of three lines
+    fair = [(1, 2, 0, 0), (2, 1, 5, 5), (16, 15, 1000000, 1000000)]
+    for k in range(3):
+        for bad in ((0, 2, 0, 0), (17, 2, 0, 0), (1, 0, 0, 0), (1, 17, 0, 0), (7, 7, 0, 0), (1, 3, 1000001, 0), (1, 3, 0, 1000001), (9999999, 1, 0, 0)):
+            moves = list(fair)
+            moves[k] = bad
+            run.check(made(moves=moves), 14, 4 + k)
+    run.check(made(moves=fair), 0)
+    run.check(made(moves=fair + [(2, 1, 9, 9)]), 14, 7)
+    run.check(made(moves=[(1, 2, 0, 0), (2, 1, 0, 0), (1, 2, 0, 0)]), 14, 6)
+    run.check(made(moves=[(1, 2, 9999999, 0), (1, 2, 0, 0)]), 14)
+    every = [(a, b, a, b) for a in range(1, 17) for b in range(1, 17) if a != b]
+    run.check(made(moves=every), 0)
+    run.fields(made(moves=every, entries=[(b"same", 16, 0, 1000000), (b"same", 1, 999999, 1000000)]))
+    run.check(made(moves=every + [(3, 4, 0, 0)]), 14, 4 + 240)
+    for k in range(3):
+        for bad in ((b"x", 0, 0, 1), (b"x", 17, 0, 1), (b"x", 1, 1, 1), (b"x", 1, 2, 1), (b"x", 1, 0, 1000001), (b"x", 1, 9999999, 9999999)):
+            entries = [(b"a", 1, 0, 1), (b"a", 16, 999999, 1000000), (b"c", 2, 7, 8)]
+            entries[k] = bad
+            run.check(made(moves=fair, entries=entries), 15, 7 + k)
+    # two entries of one name: each call gives its own part
+    twice = made(entries=[(b"drum", 1, 0, 1), (b"drum", 2, 3, 4)])
+    run.check(twice, 0)
+    run.names(twice, (0, 1, 2, 3, 4294967295))
+
+
+def random_book(rng):
+    number = lambda most: rng.choice([rng.randint(0, most), rng.randint(0, 20), most])
+    word = lambda: bytes(rng.choice(b"abcdefghijklmnopqrstuvwxyz0123456789") for _ in range(rng.randint(1, 16)))
+    pairs = [(a, b) for a in range(1, 17) for b in range(1, 17) if a != b]
+    moves = [(a, b, number(1000000), number(1000000)) for a, b in rng.sample(pairs, rng.randint(0, 6))]
+    entries = []
+    for _ in range(rng.choice([0, 1, 2, 3, 5, 28])):
+        s = number(999999)
+        entries.append((word(), rng.randint(1, 16), min(s, 999999), rng.randint(min(s, 999999) + 1, 1000000)))
+    if rng.random() < 0.2 and moves: moves.insert(rng.randint(0, len(moves)), rng.choice(moves))
+    if rng.random() < 0.1 and entries: entries[rng.randrange(len(entries))] = (b"x", rng.randint(0, 17), rng.randint(0, 3), rng.randint(0, 3))
+    return made(rng.choice([1, 2, 8, 8, 0, 9] if rng.random() < 0.2 else [1, 2, 8]), number(1000000), moves, entries)
+
+
+def damaged(run):
+    rng = random.Random(4)
+    full = [made(entries=[(b"e%d" % j, 1, j, j + 1) for j in range(n)]) for n in (28, 29)]
+    books = [EXAMPLE] + full + [random_book(rng) for _ in range(3000)]
+    for k, text in enumerate(books):
+        run.check(text)
+        if k % 10 == 0:
+            run.names(text, (0, 1, 2, 3, 28, 29))
+            run.fields(text)
+    for text in books[:40]:
+        for i in range(len(text)):
+            run.check(text[:i] + text[i + 1:])
+            run.check(text[:i] + text[i:i + 1] + text[i:])
+            for b in rng.sample(range(256), 2) + [rng.choice(b"0123456789 ()\nabz")]: run.check(text[:i] + bytes([b]) + text[i + 1:])
+    for text in books[40:]:
+        for _ in range(10):
+            i = rng.randrange(len(text))
+            other = rng.choice([text[:i] + text[i + 1:], text[:i] + text[i:i + 1] + text[i:], text[:i] + bytes([rng.randrange(256)]) + text[i + 1:], text[:i] + bytes([rng.choice(b"0123456789")]) + text[i + 1:]])
+            run.check(other)
+            if rng.random() < 0.05: run.names(other, (1, 2))
+
+
+class Books(unittest.TestCase):
+    @classmethod
+    def setUpClass(cls):
+        cls.tested = library.load()
+
+    def compare(self, part, calls, answers):
+        """No call differs; and as many were made, with these answers, as when the test was written."""
+        run = Run(self.tested)
+        part(run)
+        self.assertEqual((run.wrong, run.calls, sorted(run.seen)), (0, calls, answers))
+
+    def test_near_misses(self):
+        self.compare(near_misses, 2835, [0, 12, 13, 14, 15])
+
+    def test_sizes(self):
+        self.compare(sizes, 1381, [0, 11, 12, 14, 16])
+
+    def test_orders(self):
+        self.compare(orders, 1076, [0, 11, 12, 13, 14, 15, 16])
+
+    def test_damaged(self):
+        self.compare(damaged, 185376, [0, 12, 13, 14, 15, 16])
+
+
+if __name__ == "__main__":
+    unittest.main()
