@@ -229,5 +229,14 @@ pub fn feasible(
     let mut excess = [0i64; 64];
     let m = tails.len();
     let n = balances.len();
-    from_lower_bounds(tails, heads, lows, ups, &free[..m], balances, flow, &mut excess[..n])
+    from_lower_bounds(
+        tails,
+        heads,
+        lows,
+        ups,
+        &free[..m],
+        balances,
+        flow,
+        &mut excess[..n],
+    )
 }

@@ -37,11 +37,12 @@ slice-aggregate-from-lower-bounds-2 c = sym (length-take-le (length (start c .ar
 from-lower-bounds-requires : tie.Need-from-lower-bounds-requires
 from-lower-bounds-requires c κs =
     let s = start c in
-    let t = c .before .before .before .before .total in
-    (s .pre,
+    let t = c .before .before .before .before .total in (
+      s .pre,
       all-free (s .args .tails .now) (s .pre .small .few),
       length-take-le (length (s .args .balances .now)) (replicate 64 (pos 0)) (s .pre .nodes),
-      sym (t .ensures) ∙ zero-of (record { sfits = t .ok }) (c .before .before .before .if1 .left))
+      sym (t .ensures) ∙ zero-of (record { sfits = t .ok }) (c .before .before .before .if1 .left),
+    )
 
 same-length : tie.Need-same-length
 same-length c = search needs
