@@ -106,14 +106,16 @@ fn send_to(
         return false;
     }
     let mut codes = [0usize; 64];
-    let len = paths::detour(tails, heads, lows, ups, free, flow, s, t, 0, &mut codes);
-    if 64 < len {
-        return false;
+    let route = paths::detour(tails, heads, lows, ups, free, flow, s, t, 0, &mut codes);
+    match route {
+        paths::Route::Codes(len) => {
+            let cap = paths::lesser(most, capped(-x));
+            let d = paths::room(tails, lows, ups, flow, &codes, len, cap);
+            paths::push(tails, lows, ups, flow, &codes, len, d);
+            true
+        }
+        paths::Route::Cut => false,
     }
-    let cap = paths::lesser(most, capped(-x));
-    let d = paths::room(tails, lows, ups, flow, &codes, len, cap);
-    paths::push(tails, lows, ups, flow, &codes, len, d);
-    true
 }
 
 // Some of the excess of s, sent to the first node that has a deficit and is reached.

@@ -1,8 +1,8 @@
 use mathlib.Core.Path.{sym, _∙_}
-use borrow.Author.Needs.{needs}
 use lib.ListN.{length, replicate}
 use lib.Seq.{length-take-le}
 use lib.IntN.{pos}
+use borrow.Author.Needs.{needs}
 use Rattle.feasible.proofs.Answer.{no-balance, all-free}
 use Rattle.feasible.proofs.Widths.{zero-of, zero-bits}
 use Rattle.feasible.proofs.feasible.Statement.{statement}
