@@ -1,11 +1,12 @@
 -- What the search answers, and why it ends.
-use mathlib.Core.Path.{_≡_, sym, ap, _∙_}
+use mathlib.Core.Path.{_≡_, ap, _∙_}
 use mathlib.Core.Logic.{_⊎_, inl, inr}
 use mathlib.Core.List.{List}
 use mathlib.Core.Bool.{Bool, true, false}
 use Prim.Native.Nat.{ℕ, _/_, _≤_, _<_}
 use native.Mathlib.Omega.{arith}
-use lib.ListN.{length, getD}
+use lib.ListN.{length, getD, take, replicate, length-replicate, getD-replicate}
+use lib.Seq.{length-take-le, getD-take}
 use lib.IntN.{ℤ, pos, _-ℤ_}
 use lib.Signed.{_≤ℤ_, _<ℤ_}
 use Rattle.laws.specs.Integers.{leZ-or-lt, ≤ℤ-trans}
@@ -19,19 +20,18 @@ use Rattle.certificates.specs.Push.{InBounds, all-netOut}
 use Rattle.certificates.specs.Feasible.{lacks as excesses, relieved, all-met}
 use Rattle.paths.specs.Graph.{graph, netWith}
 use Rattle.paths.specs.Pushing.{Ready}
-use Rattle.paths.proofs.Lists.{searchable-again}
 use Rattle.feasible.specs.Excess.{supplies, SmallNumbers, Excesses, FirstExcess}
 use Rattle.feasible.specs.Sending.{SentFrom, CutOff}
-use Rattle.feasible.specs.Answer.{Given, Answer}
+use Rattle.feasible.specs.Answer.{Given, AllFree, Answer}
 
-module _ (b : List ℤ) (t h l u : List ℕ) (free : List Bool) (f₀ : List ℕ) (G : Given b t h l u free f₀) where
+module _ (b : List ℤ) (t h l u : List ℕ) (f₀ : List ℕ) (G : Given b t h l u f₀) where
   pub start-bounds : (f : List ℕ) → f ≡ l → InBounds (graph t h l u) f
   start-bounds f e = rw e (record { all-arcs = G .small .lows-len; above = λ a k. omega arith; below = G .ordered })
 
   pub small-of : (f : List ℕ) → InBounds (graph t h l u) f → SmallNumbers b t h f
   small-of f k = record {
     few = G .small .few;
-    heads-len = G .searchable .heads-len;
+    heads-len = G .heads-len;
     flow-len = k .all-arcs;
     tail-in = G .tail-in;
     head-in = G .head-in;
@@ -39,11 +39,25 @@ module _ (b : List ℤ) (t h l u : List ℕ) (free : List Bool) (f₀ : List ℕ
     balance-small = G .balance-small;
   }
 
-  pub ready-of : (f : List ℕ) → InBounds (graph t h l u) f → Ready (graph t h l u) f free
-  ready-of f k = record { searchable = searchable-again 64 (graph t h l u) f₀ f free (k .all-arcs ∙ sym (G .searchable .flow-len)) (G .searchable); small = G .small; bounds = k }
+  pub ready-of : (free : List Bool) → AllFree t free → (f : List ℕ) → InBounds (graph t h l u) f → Ready (graph t h l u) f free
+  ready-of free F f k = record {
+    searchable = record {
+      few = G .small .few;
+      heads-len = G .heads-len;
+      lows-len = G .small .lows-len;
+      ups-len = G .small .ups-len;
+      flow-len = k .all-arcs;
+      free-len = F .free-len;
+      tail-in = λ a i. omega (arith, G .tail-in a i, G .nodes);
+      head-in = λ a i. omega (arith, G .head-in a i, G .nodes);
+      nodes-few = omega arith;
+    };
+    small = G .small;
+    bounds = k;
+  }
 
   formed : (c : List ℤ) → length c ≡ length t → WellFormed (netWith b t h l u c)
-  formed c e = record { heads-len = G .searchable .heads-len; lows-len = G .small .lows-len; ups-len = G .small .ups-len; costs-len = e; tail-in = G .tail-in; head-in = G .head-in }
+  formed c e = record { heads-len = G .heads-len; lows-len = G .small .lows-len; ups-len = G .small .ups-len; costs-len = e; tail-in = G .tail-in; head-in = G .head-in }
 
   pub no-balance : (g : List ℕ) → ¬ (sum (length b) (λ v. getD b v (pos 0)) ≡ pos 0) → Answer b t h l u g false
   no-balance g ne = record {
@@ -59,11 +73,11 @@ module _ (b : List ℤ) (t h l u : List ℕ) (free : List Bool) (f₀ : List ℕ
       none = λ q. absurd (let w : _≡_ {A = ℕ} 0 1 = cc in omega arith);
     }
 
-    pub no-flow-left : (s : ℕ) → s < length lk → pos 0 <ℤ getD lk s (pos 0) → CutOff (graph t h l u) f free lk s (length lk) → (g : List ℕ) → Answer b t h l u g false
-    no-flow-left s i p C g = record {
+    pub no-flow-left : (free : List Bool) → AllFree t free → (s : ℕ) → s < length lk → pos 0 <ℤ getD lk s (pos 0) → CutOff (graph t h l u) f free lk s (length lk) → (g : List ℕ) → Answer b t h l u g false
+    no-flow-left free F s i p C g = record {
       found = λ q. absurd (let w : _≡_ {A = ℕ} 0 1 = cc in omega arith);
       none = λ _ c d. stuck (netWith b t h l u c) (formed c d) f (C .inside)
-          (closed-steps (netWith b t h l u c) f (λ a. Unit {0}) (C .inside) (λ x y _ v w. C .shut x y (rw (G .all-free (x / 2) (omega arith)) v) w))
+          (closed-steps (netWith b t h l u c) f (λ a. Unit {0}) (C .inside) (λ x y _ v w. C .shut x y (rw (F .marked (x / 2) (omega arith)) v) w))
           s (omega (arith, L .len)) (C .has) (owes (balance (netWith b t h l u c) s) (netOut (netWith b t h l u c) f s) (getD lk s (pos 0)) (L .is s (omega (arith, L .len))) p)
           (λ v j m. fine (netWith b t h l u c) v m (L .is v j) (leZ-or-lt (pos 0) (getD lk v (pos 0))) (λ n. C .none v (omega (arith, L .len)) n));
     }
@@ -87,3 +101,10 @@ module _ (b : List ℤ) (t h l u : List ℕ) (free : List Bool) (f₀ : List ℕ
         (omega (arith, L .len)) (R .some)
         (rw (← (L .is s (omega (arith, L .len)))) (≤ℤ-trans {a = pos (R .amount)} {b = pos (S .most)} {c = getD lk s (pos 0)} (simp lin (omega (arith, R .at-most))) (S .most-ok)))
         (rw (← (L .is (S .to) (omega (arith, L .len, S .to-in)))) (R .at-t))
+
+-- the first m of 512 marks
+pub all-free : (t : List ℕ) → length t ≤ 512 → AllFree t (take (length t) (replicate 512 true))
+all-free t h = record {
+  free-len = length-take-le (length t) (replicate 512 true) (omega (arith, length-replicate 512 true));
+  marked = λ a k. getD-take (length t) (replicate 512 true) a false k ∙ getD-replicate 512 a true false (omega arith);
+}

@@ -5,7 +5,6 @@ use mathlib.Core.Bool.{true, false}
 use Prim.Native.Nat.{ℕ, suc, _+_, _*_, _≤_, _<_}
 use native.Mathlib.Omega.{arith}
 use native.Mathlib.Decide.{ℕ-discrete}
-use lib.Dec.{T}
 use lib.ListN.{length, getD, set, length-set}
 use lib.Seq.{getD-set-same, getD-set-other}
 use lib.IntN.{ℤ, pos, negℤ, _+ℤ_, _-ℤ_}
@@ -73,10 +72,10 @@ module _ (b : List ℤ) (t h f : List ℕ) where
     first-small : (v : ℕ) → Bounded (1000000000 + a * 2000000 + 1000000) (getD first v (pos 0))
     first-small v = rw (set-at l (getD t a 0) v (negℤ (on f a)) t-in) (bounded-add (T .small v) (at-bounded (getD t a 0) v 1000000 (negℤ (on f a)) (bounded-neg x-small)))
 
-    pub fits-first : (getD t a 0 < length l) × SFits w64 (getD l (getD t a 0) (pos 0) +ℤ negℤ (on f a))
+    fits-first : (getD t a 0 < length l) × SFits w64 (getD l (getD t a 0) (pos 0) +ℤ negℤ (on f a))
     fits-first = (t-in, bounded-fits w64 (1000000000 + a * 2000000 + 1000000) (getD l (getD t a 0) (pos 0) +ℤ negℤ (on f a)) (bounded-add (T .small (getD t a 0)) (bounded-neg x-small)) (omega (arith, s .few)))
 
-    pub fits-second : (getD h a 0 < length first) × SFits w64 (getD first (getD h a 0) (pos 0) +ℤ on f a)
+    fits-second : (getD h a 0 < length first) × SFits w64 (getD first (getD h a 0) (pos 0) +ℤ on f a)
     fits-second = (h-in, bounded-fits w64 (1000000000 + a * 2000000 + 1000000 + 1000000) (getD first (getD h a 0) (pos 0) +ℤ on f a) (bounded-add (first-small (getD h a 0)) x-small) (omega (arith, s .few)))
 
     pub turn-step : ExcessTurn (suc a) second

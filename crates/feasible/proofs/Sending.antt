@@ -12,11 +12,9 @@ use lib.Signed.{_≤ℤ_, _<ℤ_, leZ}
 use Rattle.laws.specs.Integers.{leZ-true, leZ-or-lt}
 use Rattle.laws.specs.Linear.{lin, given3}
 use Rattle.laws.specs.Members.{Every, every-map, every-map2}
-use Rattle.laws.specs.Range.{fits}
 use Rattle.laws.specs.Tests.{and-true, and-stops-second}
 use Rattle.network.specs.Network.{Net, arcs}
 use Rattle.network.specs.Residual.{src, dst}
-use Rattle.certificates.specs.Cuts.{stuck}
 use Rattle.certificates.specs.Push.{InBounds, Fits as FitsCode, roomOf, room-fits, pushAll}
 use Rattle.paths.specs.Graph.{graph}
 use Rattle.paths.specs.Reaching.{goes, Path, Blocked}
@@ -38,7 +36,7 @@ module _ (N : Net) (f : List ℕ) (free : List Bool) (s t most : ℕ) (x : ℤ) 
   pub sends-to-blocked : Blocked N f free s t 0 → SendsTo N f f free s t most x false
   sends-to-blocked k = record { bounds = b; done = λ q. absurd (let w : _≡_ {A = ℕ} 0 1 = cc in omega arith); same = λ _. refl; stuck = λ _ _. k }
 
-pub path-able : (N : Net) (f : List ℕ) (free : List Bool) (s t from δ : ℕ) (cs : List ℕ) → InBounds N f → Path N f free s t from cs → Every (λ c. δ ≤ roomOf N f c) cs → Pushable N δ f cs
+path-able : (N : Net) (f : List ℕ) (free : List Bool) (s t from δ : ℕ) (cs : List ℕ) → InBounds N f → Path N f free s t from cs → Every (λ c. δ ≤ roomOf N f c) cs → Pushable N δ f cs
 path-able N f free s t from δ cs b p h = record {
   bounds = b;
   codes-in = way-codes (arcs N + arcs N) (src N) (dst N) s t cs (p .trail);
@@ -46,7 +44,7 @@ path-able N f free s t from δ cs b p h = record {
   fits = every-map2 (λ c. c < arcs N + arcs N) (λ c. δ ≤ roomOf N f c) (FitsCode N δ f) cs (λ c l r. room-fits N f δ c b l r) (way-codes (arcs N + arcs N) (src N) (dst N) s t cs (p .trail)) h;
 }
 
-pub able-flat : (t h l u : List ℕ) (δ : ℕ) (f cs : List ℕ) → Pushable (graph t h l u) δ f cs → Pushable (graph t t l u) δ f cs
+able-flat : (t h l u : List ℕ) (δ : ℕ) (f cs : List ℕ) → Pushable (graph t h l u) δ f cs → Pushable (graph t t l u) δ f cs
 able-flat t h l u δ f cs p = record {
   bounds = record { all-arcs = p .bounds .all-arcs; above = p .bounds .above; below = p .bounds .below };
   codes-in = p .codes-in;

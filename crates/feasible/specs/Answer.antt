@@ -1,25 +1,29 @@
 -- The search for a flow: what it asks, and what it answers.
 use mathlib.Core.Path.{_≡_}
-use mathlib.Core.Bool.{Bool, true, false}
 use mathlib.Core.List.{List}
+use mathlib.Core.Bool.{Bool, true, false}
 use Prim.Native.Nat.{ℕ, _≤_, _<_}
 use lib.ListN.{length, getD}
 use lib.IntN.{ℤ, pos}
 use Rattle.laws.specs.Range.{Bounded}
 use Rattle.network.specs.Network.{IsFlow}
 use Rattle.paths.specs.Graph.{graph, netWith}
-use Rattle.paths.specs.Reaching.{Searchable}
 use Rattle.paths.specs.Pushing.{SmallBounds}
 
-pub record Given (b : List ℤ) (t h l u : List ℕ) (free : List Bool) (f : List ℕ) : Type 0 where
-  pub searchable : Searchable 64 (graph t h l u) f free
+pub record Given (b : List ℤ) (t h l u : List ℕ) (f : List ℕ) : Type 0 where
   pub small : SmallBounds (graph t h l u)
+  pub heads-len : length h ≡ length t
+  pub flow-len : length f ≡ length t
   pub ordered : (a : ℕ) → a < length t → getD l a 0 ≤ getD u a 0
-  pub all-free : (a : ℕ) → a < length t → getD free a false ≡ true
   pub nodes : length b ≤ 64
   pub tail-in : (a : ℕ) → a < length t → getD t a 0 < length b
   pub head-in : (a : ℕ) → a < length t → getD h a 0 < length b
   pub balance-small : (v : ℕ) → Bounded 1000000000 (getD b v (pos 0))
+
+-- every arc is marked free
+pub record AllFree (t : List ℕ) (free : List Bool) : Type 0 where
+  pub free-len : length free ≡ length t
+  pub marked : (a : ℕ) → a < length t → getD free a false ≡ true
 
 -- whatever the costs: a flow, or there is none
 pub record Answer (b : List ℤ) (t h l u : List ℕ) (f : List ℕ) (r : Bool) : Type 0 where

@@ -13,7 +13,7 @@ ghost use Rattle.paths.specs.Graph.{graph};
 ghost use Rattle.paths.specs.Pushing.{Ready};
 ghost use Rattle.feasible.specs.Excess.{SmallNumbers, Excesses, FirstExcess};
 ghost use Rattle.feasible.specs.Sending.{Capped, SendsTo, Sends};
-ghost use Rattle.feasible.specs.Answer.{Given, Answer};
+ghost use Rattle.feasible.specs.Answer.{Given, AllFree, Answer};
 
 // The same number in 64 bits.
 fn wide(c: i32) -> i64
@@ -106,14 +106,16 @@ fn send_to(
         return false;
     }
     let mut codes = [0usize; 64];
-    let len = paths::detour(tails, heads, lows, ups, free, flow, s, t, 0, &mut codes);
-    if 64 < len {
-        return false;
+    let route = paths::detour(tails, heads, lows, ups, free, flow, s, t, 0, &mut codes);
+    match route {
+        paths::Route::Codes(len) => {
+            let cap = paths::lesser(most, capped(-x));
+            let d = paths::room(tails, lows, ups, flow, &codes, len, cap);
+            paths::push(tails, lows, ups, flow, &codes, len, d);
+            true
+        }
+        paths::Route::Cut => false,
     }
-    let cap = paths::lesser(most, capped(-x));
-    let d = paths::room(tails, lows, ups, flow, &codes, len, cap);
-    paths::push(tails, lows, ups, flow, &codes, len, d);
-    true
 }
 
 // Some of the excess of s, sent to the first node that has a deficit and is reached.
@@ -183,7 +185,7 @@ fn total(balances: &[i32]) -> i64
     sum
 }
 
-// A flow, where the balances sum to 0; false if there is none.
+// A flow, where the balances sum to 0; false if there is none. `excess` is room to work in.
 fn from_lower_bounds(
     tails: &[u8],
     heads: &[u8],
@@ -194,7 +196,7 @@ fn from_lower_bounds(
     flow: &mut [u32],
     excess: &mut [i64],
 ) -> bool
-    requires { ⌜ Given (now balances) (now tails) (now heads) (now lows) (now ups) (now free) (now flow) × (length (now excess) ≡ length (now balances)) × (sum (length (now balances)) (λ v. getD (now balances) v (pos 0)) ≡ pos 0) ⌝ }
+    requires { ⌜ Given (now balances) (now tails) (now heads) (now lows) (now ups) (now flow) × AllFree (now tails) (now free) × (length (now excess) ≡ length (now balances)) × (sum (length (now balances)) (λ v. getD (now balances) v (pos 0)) ≡ pos 0) ⌝ }
     ensures { λ r. ⌜ Answer (now (balances .entry)) (now (tails .entry)) (now (heads .entry)) (now (lows .entry)) (now (ups .entry)) (now (flow .exit)) r ⌝ }
 {
     copy(lows, flow);
@@ -210,22 +212,33 @@ fn from_lower_bounds(
     }
 }
 
-// A flow; false if there is none. Every arc is marked free; `excess` is room to work in.
+// A flow; false if there is none.
 pub fn feasible(
     tails: &[u8],
     heads: &[u8],
     lows: &[u32],
     ups: &[u32],
-    free: &[bool],
     balances: &[i32],
     flow: &mut [u32],
-    excess: &mut [i64],
 ) -> bool
-    requires { ⌜ Given (now balances) (now tails) (now heads) (now lows) (now ups) (now free) (now flow) × (length (now excess) ≡ length (now balances)) ⌝ }
+    requires { ⌜ Given (now balances) (now tails) (now heads) (now lows) (now ups) (now flow) ⌝ }
     ensures { λ r. ⌜ Answer (now (balances .entry)) (now (tails .entry)) (now (heads .entry)) (now (lows .entry)) (now (ups .entry)) (now (flow .exit)) r ⌝ }
 {
     if total(balances) != 0 {
         return false;
     }
-    from_lower_bounds(tails, heads, lows, ups, free, balances, flow, excess)
+    let free = [true; 512];
+    let mut excess = [0i64; 64];
+    let m = tails.len();
+    let n = balances.len();
+    from_lower_bounds(
+        tails,
+        heads,
+        lows,
+        ups,
+        &free[..m],
+        balances,
+        flow,
+        &mut excess[..n],
+    )
 }

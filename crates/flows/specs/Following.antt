@@ -1,8 +1,8 @@
 -- The flow that follows a flow.
 use mathlib.Core.Path.{_≡_}
-use mathlib.Core.Bool.{Bool, true, false}
 use mathlib.Core.List.{List}
 use mathlib.Core.Option.{none, some}
+use mathlib.Core.Bool.{Bool, true, false}
 use Prim.Native.Nat.{ℕ, suc, _+_}
 use lib.ListN.{getD, set}
 use Rattle.network.specs.Network.{Net, LeastCost}

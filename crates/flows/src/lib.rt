@@ -77,7 +77,7 @@ fn lower(
             return;
         }
         let mut codes = [0usize; 64];
-        let len = paths::detour(
+        let route = paths::detour(
             tails,
             heads,
             lows,
@@ -89,10 +89,10 @@ fn lower(
             a + 1,
             &mut codes,
         );
-        if 64 < len {
-            return;
+        match route {
+            paths::Route::Codes(len) => take_off(tails, lows, ups, flow, &codes, len, a),
+            paths::Route::Cut => return,
         }
-        take_off(tails, lows, ups, flow, &codes, len, a);
     }
 }
 
@@ -140,7 +140,7 @@ fn raise(
     let s = tails[a] as usize;
     let t = heads[a] as usize;
     let mut codes = [0usize; 64];
-    let len = paths::detour(
+    let route = paths::detour(
         tails,
         heads,
         lows,
@@ -152,11 +152,13 @@ fn raise(
         a + 1,
         &mut codes,
     );
-    if 64 < len {
-        return false;
+    match route {
+        paths::Route::Codes(len) => {
+            put_on(tails, lows, ups, flow, &codes, len, a);
+            true
+        }
+        paths::Route::Cut => false,
     }
-    put_on(tails, lows, ups, flow, &codes, len, a);
-    true
 }
 
 // The least-cost flow after this one; false, and the same flow, if it is the last.

@@ -1,7 +1,7 @@
 -- Pushing along a path, code by code.
 use mathlib.Core.Path.{_≡_}
-use mathlib.Core.List.{List, [], _∷_}
 use mathlib.Core.Logic.{_≢_}
+use mathlib.Core.List.{List, [], _∷_}
 use mathlib.Core.Bool.{true, false}
 use Prim.Native.Nat.{ℕ, _+_, _/_, _%_, _≤_, _<_}
 use native.Mathlib.Omega.{arith}
@@ -17,7 +17,7 @@ pub record PushTurn (N : Net) (δ : ℕ) (goal cur rest : List ℕ) : Type 0 whe
   pub same : pushAll δ rest cur ≡ goal
   pub able : Pushable N δ cur rest
 
-pub pushable-rest : (N : Net) (δ : ℕ) (f : List ℕ) (c : ℕ) (rest : List ℕ) → Pushable N δ f (c ∷ rest) → Pushable N δ (pushOne δ c f) rest
+pushable-rest : (N : Net) (δ : ℕ) (f : List ℕ) (c : ℕ) (rest : List ℕ) → Pushable N δ f (c ∷ rest) → Pushable N δ (pushOne δ c f) rest
 pushable-rest N δ f c rest a = record {
   bounds = one-bounds N δ f c (a .bounds) (a .codes-in .0) (a .fits .0);
   codes-in = a .codes-in .1;

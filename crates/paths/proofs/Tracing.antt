@@ -2,7 +2,7 @@
 use mathlib.Core.Path.{_≡_}
 use mathlib.Core.List.{List}
 use mathlib.Core.Bool.{Bool}
-use Prim.Native.Nat.{ℕ, _+_, _≤_, _<_}
+use Prim.Native.Nat.{ℕ, _+_, _<_}
 use native.Mathlib.Omega.{arith}
 use native.Mathlib.Numerals.{add-one}
 use lib.Dec.{ltb}
@@ -12,7 +12,7 @@ use borrow.Author.Tests.{ltb-true, lt-ltb, le-ltb}
 use Rattle.network.specs.Network.{Net, arcs}
 use Rattle.network.specs.Residual.{src, dst}
 use Rattle.certificates.specs.Reach.{Falls, TracedAny, any-step, tree-falls}
-use Rattle.paths.specs.Reaching.{goes, Searchable, ReachedOf, Path, Blocked, Detoured}
+use Rattle.paths.specs.Reaching.{goes, Searchable, ReachedOf, Path, Blocked}
 use Rattle.paths.proofs.Codes.{src-in}
 
 pub trace-more : (n hi : ℕ) (sr ds : ℕ → ℕ) (rank via codes : List ℕ) (t v len w : ℕ) → len < length codes → v < n → 1 < getD rank v 0 → w ≡ sr (getD via v 0)
@@ -37,9 +37,3 @@ module _ (N : Net) (f : List ℕ) (free : List Bool) (s t from : ℕ) (rank via 
   reach-path cs tr =
       let d = tr (from + from) (goes N f free) s count (r .tree) in
       record { trail = d .way; distinct = d .distinct; low = d .low; passes = d .goes }
-
-pub detour-no : (N : Net) (f : List ℕ) (free : List Bool) (s t from : ℕ) (codes : List ℕ) → Blocked N f free s t from → Detoured N f free s t from codes 65
-detour-no N f free s t from codes b = record { found = λ h. absurd (omega arith); blocked = λ _. b }
-
-pub detour-yes : (N : Net) (f : List ℕ) (free : List Bool) (s t from : ℕ) (codes : List ℕ) (r : ℕ) → length codes ≡ 64 → r ≤ length codes → Path N f free s t from (take r codes) → Detoured N f free s t from codes r
-detour-yes N f free s t from codes r e l p = record { found = λ _. (l, p); blocked = λ h. absurd (omega arith) }

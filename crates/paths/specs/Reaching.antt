@@ -1,7 +1,7 @@
 -- Searches over the residual arcs of the arcs marked free, and the paths that they find.
 use mathlib.Core.Path.{_≡_}
-use mathlib.Core.Bool.{Bool, true, false, _&&_}
 use mathlib.Core.List.{List}
+use mathlib.Core.Bool.{Bool, true, false, _&&_}
 use Prim.Native.Nat.{ℕ, _+_, _/_, _≤_, _<_}
 use lib.ListN.{length, getD, take}
 use Rattle.laws.specs.Members.{Every}
@@ -10,6 +10,8 @@ use Rattle.network.specs.Network.{Net, arcs, tail, head}
 use Rattle.network.specs.Residual.{usable, src, dst}
 use Rattle.certificates.specs.Push.{Trail}
 use Rattle.certificates.specs.Reach.{Tree, Reached, Rounded}
+use Rattle.paths.specs.declared.Route.{Route}
+use Rattle.paths.specs.declared.Route.the-variants.{Codes, Cut}
 
 -- code c can be used and its arc is free
 abbrev pub goes : Net → List ℕ → List Bool → ℕ → Bool
@@ -51,7 +53,7 @@ pub record Blocked (N : Net) (f : List ℕ) (free : List Bool) (s t from : ℕ) 
   pub lacks : inside t ≡ false
   pub shut : (c : ℕ) → from + from ≤ c → c < arcs N + arcs N → goes N f free c ≡ true → inside (src N c) ≡ true → inside (dst N c) ≡ true
 
--- the first r codes are a path from s to t; or r is above 64 and there is none
-pub record Detoured (N : Net) (f : List ℕ) (free : List Bool) (s t from : ℕ) (codes : List ℕ) (r : ℕ) : Type 0 where
-  pub found : r ≤ 64 → (r ≤ length codes) × Path N f free s t from (take r codes)
-  pub blocked : 64 < r → Blocked N f free s t from
+-- the first r codes are a path from s to t, or there is none
+abbrev pub Detoured : Net → List ℕ → List Bool → ℕ → ℕ → ℕ → List ℕ → Route → Type 0
+Detoured N f free s t from codes (Codes r) = (r ≤ length codes) × Path N f free s t from (take r codes)
+Detoured N f free s t from codes Cut = Blocked N f free s t from

@@ -13,6 +13,12 @@ ghost use Rattle.paths.specs.Graph.{graph};
 ghost use Rattle.paths.specs.Reaching.{goes, Searchable, TreeOf, RoundedOf, ReachedOf, Detoured};
 ghost use Rattle.paths.specs.Pushing.{SmallBounds, roomAll, Pushable};
 
+// Whether a path was found: how many codes it has, or that there is none.
+pub enum Route {
+    Codes(usize),
+    Cut,
+}
+
 // Where code c starts, given tails and heads; given heads and tails, where it ends.
 fn end_of(a: &[u8], b: &[u8], c: usize) -> usize
     requires { ⌜ (c / 2 < length (now a)) × (c / 2 < length (now b)) ⌝ }
@@ -268,7 +274,7 @@ pub fn push(
     }
 }
 
-// A path from s to t over the free arcs from `from` on, the last code first: how many codes; or 65 where there is none.
+// A path from s to t over the free arcs from `from` on, the last code first.
 pub fn detour(
     tails: &[u8],
     heads: &[u8],
@@ -280,7 +286,7 @@ pub fn detour(
     t: usize,
     from: usize,
     codes: &mut [usize],
-) -> usize
+) -> Route
     requires { ⌜ Searchable 64 (graph (now tails) (now heads) (now lows) (now ups)) (now flow) (now free) × (from ≤ 512) × (s < 64) × (t < 64) × (length (now codes) ≡ 64) ⌝ }
     ensures { λ r. ⌜ Detoured (graph (now (tails .entry)) (now (heads .entry)) (now (lows .entry)) (now (ups .entry))) (now (flow .entry)) (now (free .entry)) s t from (now (codes .exit)) r ⌝ }
 {
@@ -300,7 +306,8 @@ pub fn detour(
         &mut via,
     );
     if rank[t] == 0 {
-        return 65;
+        return Route::Cut;
     }
-    trace(tails, heads, &rank, &via, t, codes)
+    let len = trace(tails, heads, &rank, &via, t, codes);
+    Route::Codes(len)
 }

@@ -1,9 +1,9 @@
-use Prim.Native.Nat.{ℕ, _-_, _≤_, _<_}
 use mathlib.Core.Path.{_≡_, refl, _∙_}
+use Prim.Native.Nat.{ℕ, _-_, _≤_, _<_}
 use native.Mathlib.Omega.{arith}
-use borrow.Author.Needs.{needs}
 use lib.ListN.{length, getD, length-set}
 use lib.Seq.{ext-getD}
+use borrow.Author.Needs.{needs}
 use Rattle.laws.specs.Padded.{set-more}
 use Rattle.feasible.proofs.copy.Statement.{statement}
 use Rattle.feasible.proofs.copy.Tie as tie

@@ -1,13 +1,13 @@
-use Prim.Native.Nat.{ℕ, _-_, _≤_, _<_}
 use mathlib.Core.Path.{_≡_, refl, _∙_}
+use Prim.Native.Nat.{ℕ, _-_, _≤_, _<_}
 use native.Mathlib.Omega.{arith}
-use borrow.Author.Needs.{needs}
 use lib.ListN.{length, getD, length-set}
+use lib.Seq.{ext-getD}
 use lib.IntN.{pos}
 use mir.Syntax.{w32, w64}
 use mir.Val.{toZ, ofZ}
 use mir.Facts.{toZ-ofZ}
-use lib.Seq.{ext-getD}
+use borrow.Author.Needs.{needs}
 use Rattle.laws.specs.Padded.{set-more}
 use Rattle.feasible.proofs.copy_balances.Statement.{statement}
 use Rattle.feasible.proofs.copy_balances.Tie as tie

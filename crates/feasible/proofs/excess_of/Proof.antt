@@ -1,6 +1,6 @@
-use Prim.Native.Nat.{_-_, _≤_}
 use mathlib.Core.Path.{sym, subst, _∙_}
 use mathlib.Core.List.{List}
+use Prim.Native.Nat.{_-_, _≤_}
 use native.Mathlib.Omega.{arith}
 use native.Mathlib.Numerals.{add-one}
 use lib.ListN.{length}

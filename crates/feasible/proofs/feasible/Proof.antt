@@ -1,31 +1,51 @@
 use mathlib.Core.Path.{sym, _∙_}
+use lib.ListN.{length, replicate}
+use lib.Seq.{length-take-le}
+use lib.IntN.{pos}
 use borrow.Author.Needs.{needs}
-use Rattle.feasible.proofs.Answer.{no-balance}
+use Rattle.feasible.proofs.Answer.{no-balance, all-free}
 use Rattle.feasible.proofs.Widths.{zero-of, zero-bits}
 use Rattle.feasible.proofs.feasible.Statement.{statement}
 use Rattle.feasible.proofs.feasible.Tie as tie
 
+-- where the search is called
+abbrev start : tie.After-excess → tie.Start
+start c = c .before .before .before .before .before .before .before .before .before .before
+
 total-requires : tie.Need-total-requires
-total-requires c κs = let s = c .before .before .before .before .before .before in (s .pre .0 .nodes, s .pre .0 .balance-small)
+total-requires c κs = let s = c .before .before .before .before .before in (s .pre .nodes, s .pre .balance-small)
 
 returns : tie.Need-returns
 returns c =
-    let s = c .before .before .before .before .before .before .before .before in
+    let s = c .before .before .before .before .before .before .before in
     let t = c .before .total in
-    no-balance (s .args .balances .now) (s .args .tails .now) (s .args .heads .now) (s .args .lows .now) (s .args .ups .now) (s .args .free .now) (s .args .flow .now) (s .pre .0) (s .args .flow .now)
+    no-balance (s .args .balances .now) (s .args .tails .now) (s .args .heads .now) (s .args .lows .now) (s .args .ups .now) (s .args .flow .now) (s .pre) (s .args .flow .now)
     (λ e. c .if1 .taken (zero-bits (t .result) (t .ensures ∙ e)))
+
+array-share-prefix-free : tie.Need-array-share-prefix-free
+array-share-prefix-free c = search needs
+
+slice-aggregate-from-lower-bounds : tie.Need-slice-aggregate-from-lower-bounds
+slice-aggregate-from-lower-bounds c = let s = c .before .before .before .before .before .before .before .before in sym (all-free (s .args .tails .now) (s .pre .small .few) .free-len)
+
+array-borrow-prefix-excess : tie.Need-array-borrow-prefix-excess
+array-borrow-prefix-excess c = search needs
+
+slice-aggregate-from-lower-bounds-2 : tie.Need-slice-aggregate-from-lower-bounds-2
+slice-aggregate-from-lower-bounds-2 c = sym (length-take-le (length (start c .args .balances .now)) (replicate 64 (pos 0)) (start c .pre .nodes))
 
 from-lower-bounds-requires : tie.Need-from-lower-bounds-requires
 from-lower-bounds-requires c κs =
-    let s = c .before .before .before .before .before .before .before .before .before .before in
-    let t = c .before .before .before .total in
-    (s .pre .0, s .pre .1, sym (t .ensures) ∙ zero-of (record { sfits = t .ok }) (c .before .before .if1 .left))
+    let s = start c in
+    let t = c .before .before .before .before .total in (
+      s .pre,
+      all-free (s .args .tails .now) (s .pre .small .few),
+      length-take-le (length (s .args .balances .now)) (replicate 64 (pos 0)) (s .pre .nodes),
+      sym (t .ensures) ∙ zero-of (record { sfits = t .ok }) (c .before .before .before .if1 .left),
+    )
 
 same-length : tie.Need-same-length
 same-length c = search needs
-
-same-length-2 : tie.Need-same-length-2
-same-length-2 c = search needs
 
 returns-2 : tie.Need-returns-2
 returns-2 c = c .before .before .before .from-lower-bounds .ensures
@@ -36,7 +56,10 @@ feasible-spec =
     (tie.spec
     total-requires
     returns
+    array-share-prefix-free
+    slice-aggregate-from-lower-bounds
+    array-borrow-prefix-excess
+    slice-aggregate-from-lower-bounds-2
     from-lower-bounds-requires
     same-length
-    same-length-2
     returns-2)

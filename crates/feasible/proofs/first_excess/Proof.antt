@@ -1,11 +1,11 @@
 use Prim.Native.Nat.{ℕ, _-_, _≤_, _<_}
 use native.Mathlib.Omega.{arith}
-use borrow.Author.Needs.{needs}
 use lib.ListN.{length, getD}
 use lib.IntN.{pos}
+use lib.Signed.{_≤ℤ_}
 use mir.Syntax.{w64}
 use mir.Facts.{toZ-ofZ}
-use lib.Signed.{_≤ℤ_}
+use borrow.Author.Needs.{needs}
 use Rattle.feasible.proofs.Excess.{first-yes, first-more, first-none}
 use Rattle.feasible.proofs.first_excess.Statement.{statement}
 use Rattle.feasible.proofs.first_excess.Tie as tie

@@ -1,18 +1,18 @@
-use Prim.Native.Nat.{ℕ, _-_, _≤_}
 use mathlib.Core.Path.{_≡_, refl, sym, ap, subst, _∙_}
 use mathlib.Core.List.{List}
+use mathlib.Core.Bool.{false}
+use Prim.Native.Nat.{ℕ, _-_, _≤_}
 use native.Mathlib.Omega.{arith}
 use lib.ListN.{length, getD}
 use lib.IntN.{pos}
 use mir.Syntax.{w64}
 use mir.Val.{toZ, ofZ}
 use mir.Facts.{toZ-ofZ}
-use mathlib.Core.Bool.{false}
 use Rattle.laws.specs.Range.{bounded-fits}
 use Rattle.paths.specs.Graph.{graph}
 use Rattle.paths.specs.Pushing.{Ready}
-use Rattle.feasible.proofs.Sending.{cut-start, cut-step, sends-yes, sends-no}
 use Rattle.feasible.specs.Sending.{CutOff, SendsTo, Sends}
+use Rattle.feasible.proofs.Sending.{cut-start, cut-step, sends-yes, sends-no}
 use Rattle.feasible.proofs.send.Statement.{statement}
 use Rattle.feasible.proofs.send.Tie as tie
 

@@ -1,19 +1,19 @@
-use Prim.Native.Nat.{suc, _-_, _≤_}
 use mathlib.Core.Path.{_≡_, refl, _∙_}
 use mathlib.Core.List.{List}
+use mathlib.Core.Option.{some}
+use Prim.Native.Nat.{suc, _-_, _≤_}
 use native.Mathlib.Omega.{arith}
-use borrow.Author.Tests.{not-true, not-false}
 use lib.ListN.{length}
 use lib.IntN.{ℤ}
-use mathlib.Core.Option.{some}
+use borrow.Author.Tests.{not-true, not-false}
 use Rattle.network.specs.FullList.{firstFlow}
 use Rattle.network.specs.Network.{Net}
 use Rattle.certificates.specs.Push.{InBounds}
-use Rattle.paths.proofs.Lists.{ready-again}
 use Rattle.paths.specs.Graph.{graph, netWith}
+use Rattle.paths.proofs.Lists.{ready-again}
+use Rattle.flows.specs.Tight.{Tight, ForAll}
 use Rattle.flows.proofs.Certified.{tight-any}
 use Rattle.flows.proofs.Counting.{Line, line-first, line-next, line-last, line-beyond}
-use Rattle.flows.specs.Tight.{Tight, ForAll}
 use Rattle.flows.proofs.count.Statement.{statement}
 use Rattle.flows.proofs.count.Tie as tie
 

@@ -1,21 +1,21 @@
-use Prim.Native.Nat.{ℕ, suc}
 use mathlib.Core.Path.{_≡_, refl, _∙_}
 use mathlib.Core.List.{List}
+use Prim.Native.Nat.{_≤_, _+_, ℕ, suc}
 use native.Mathlib.Omega.{arith}
 use native.Mathlib.Numerals.{add-one}
-use borrow.Author.Needs.{needs}
-use borrow.Author.Tests.{not-true, not-false}
 use lib.ListN.{length, getD, take}
 use lib.IntN.{ℤ}
+use borrow.Author.Needs.{needs}
+use borrow.Author.Tests.{not-true, not-false}
 use Rattle.network.specs.Network.{Net}
 use Rattle.certificates.specs.Push.{InBounds}
-use Rattle.paths.proofs.Lists.{blocked-net, path-net, bounds-flat, bounds-full, small-flat, searchable-again}
 use Rattle.paths.specs.Graph.{graph, netWith}
 use Rattle.paths.specs.Reaching.{Path}
+use Rattle.paths.proofs.Lists.{blocked-net, path-net, bounds-flat, bounds-full, small-flat, searchable-again}
+use Rattle.flows.specs.Tight.{Tight, ForAll}
 use Rattle.flows.proofs.Certified.{unmarked-less, bottom-less, blocked-less}
 use Rattle.flows.proofs.Detours.{path-room}
 use Rattle.flows.proofs.Minimising.{LowTurn, low-start, low-step, low-done, room-flat, exact-net}
-use Rattle.flows.specs.Tight.{Tight, ForAll}
 use Rattle.flows.proofs.lower.Statement.{statement}
 use Rattle.flows.proofs.lower.Tie as tie
 
@@ -33,13 +33,20 @@ whole s b c = netWith b (s .args .tails .now) (s .args .heads .now) (s .args .lo
 
 -- where the codes are used
 abbrev start : tie.After-codes3 Inv-loop μ-loop → tie.Start Inv-loop μ-loop
-start d = d .before .before .before .before .before .before .before .before .before .before .before .before .before .before .before .before .before .before .before .before .before
+start d = d .before .before .before .before .before .before .before .before .before .before .before .before .before .before .before .before .before .before .before .before .before .before .before
+
+-- how many there are, and the codes
+abbrev len-of : tie.After-codes3 Inv-loop μ-loop → ℕ
+len-of d = d .before .before .before .route .given .0 .0
 
 abbrev codes-of : tie.After-codes3 Inv-loop μ-loop → List ℕ
-codes-of d = take (d .before .before .before .before .detour .result) (d .before .before .before .before .detour .last .1 .1 .1 .1 .1 .1 .1 .1 .1 .0)
+codes-of d = take (len-of d) (d .before .before .before .before .before .before .detour .last .1 .1 .1 .1 .1 .1 .1 .1 .1 .0)
 
-path-of : (d : tie.After-codes3 Inv-loop μ-loop) → Path (part (start d)) (d .before .before .before .before .before .before .before .before .before .loop .flow) (start d .args .tight .now) (getD (start d .args .tails .now) (start d .args .a) 0) (getD (start d .args .heads .now) (start d .args .a) 0) (suc (start d .args .a)) (codes-of d)
-path-of d = rw add-one at (d .before .before .before .before .detour .ensures .found (d .before .before .if3 .left) .1)
+told : (d : tie.After-codes3 Inv-loop μ-loop) → (len-of d ≤ length (d .before .before .before .before .before .before .detour .last .1 .1 .1 .1 .1 .1 .1 .1 .1 .0)) × Path (part (start d)) (d .before .before .before .before .before .before .before .before .before .before .before .loop .flow) (start d .args .tight .now) (getD (start d .args .tails .now) (start d .args .a) 0) (getD (start d .args .heads .now) (start d .args .a) 0) (start d .args .a + 1) (codes-of d)
+told d = rw (d .before .before .before .route .given .1) at (d .before .before .before .before .before .before .detour .ensures)
+
+path-of : (d : tie.After-codes3 Inv-loop μ-loop) → Path (part (start d)) (d .before .before .before .before .before .before .before .before .before .before .before .loop .flow) (start d .args .tight .now) (getD (start d .args .tails .now) (start d .args .a) 0) (getD (start d .args .heads .now) (start d .args .a) 0) (suc (start d .args .a)) (codes-of d)
+path-of d = rw add-one at (told d .1)
 
 shared-slice-read-if1 : tie.Need-shared-slice-read-if1 Inv-loop μ-loop
 shared-slice-read-if1 c = let s = c .before .before .before .before .before .before .before in omega (arith, s .pre .1, s .pre .0 .searchable .free-len)
@@ -90,25 +97,25 @@ detour-requires : tie.Need-detour-requires Inv-loop μ-loop
 detour-requires c κs = let s = c .before .before .before .before .before .before .before .before .before .before .before .before .before .before .before .before in let a = c .before .before .before .before .loop in (searchable-again 64 (part s) (s .args .flow .now) (a .flow) (s .args .tight .now) (a .inv .0) (s .pre .0 .searchable), omega (arith, s .pre .1, s .pre .0 .searchable .few), s .pre .0 .searchable .tail-in (s .args .a) (s .pre .1), s .pre .0 .searchable .head-in (s .args .a) (s .pre .1), refl)
 
 same-length-2 : tie.Need-same-length-2 Inv-loop μ-loop
-same-length-2 c = c .before .before .before .before .before .before .before .loop .inv .0
+same-length-2 c = c .before .before .before .before .before .before .before .before .loop .inv .0
 
 returns-3 : tie.Need-returns-3 Inv-loop μ-loop
-returns-3 c = let s = c .before .before .before .before .before .before .before .before .before .before .before .before .before .before .before .before .before .before .before in let a = c .before .before .before .before .before .before .before .loop in (
+returns-3 c = let s = c .before .before .before .before .before .before .before .before .before .before .before .before .before .before .before .before .before .before .before .before in let a = c .before .before .before .before .before .before .before .before .loop in (
   a .inv .1,
   λ b d π ti. low-done (whole s b d) π (s .args .tight .now) (s .args .flow .now) (s .args .a) (s .pre .1) (a .flow) (a .inv .2 b d π ti)
-      (blocked-less (whole s b d) (a .flow) (s .args .tight .now) (s .args .a) π (a .inv .2 b d π ti .tight-still) (s .pre .1) (blocked-net (s .args .tails .now) (s .args .heads .now) (s .args .lows .now) (s .args .ups .now) (a .flow) b d (s .args .tight .now) (getD (s .args .tails .now) (s .args .a) 0) (getD (s .args .heads .now) (s .args .a) 0) (suc (s .args .a)) (rw add-one at (c .before .before .detour .ensures .blocked (c .if3 .taken))))),
+      (blocked-less (whole s b d) (a .flow) (s .args .tight .now) (s .args .a) π (a .inv .2 b d π ti .tight-still) (s .pre .1) (blocked-net (s .args .tails .now) (s .args .heads .now) (s .args .lows .now) (s .args .ups .now) (a .flow) b d (s .args .tight .now) (getD (s .args .tails .now) (s .args .a) 0) (getD (s .args .heads .now) (s .args .a) 0) (suc (s .args .a)) (rw add-one at (rw (c .enum-told .given .1) at (c .before .before .before .detour .ensures))))),
 )
 
 slice-aggregate-take-off : tie.Need-slice-aggregate-take-off Inv-loop μ-loop
 slice-aggregate-take-off c = search needs
 
 take-off-requires : tie.Need-take-off-requires Inv-loop μ-loop
-take-off-requires c κs = let s = c .before .before .before .before .before .before .before .before .before .before .before .before .before .before .before .before .before .before .before .before .before in let a = c .before .before .before .before .before .before .before .before .before .loop in (
-  c .before .before .before .before .detour .ensures .found (c .before .before .if3 .left) .0,
+take-off-requires c κs = let s = c .before .before .before .before .before .before .before .before .before .before .before .before .before .before .before .before .before .before .before .before .before .before .before in let a = c .before .before .before .before .before .before .before .before .before .before .before .loop in (
+  told c .0,
   small-flat (s .args .tails .now) (s .args .heads .now) (s .args .lows .now) (s .args .ups .now) (a .flow) (s .pre .0 .small),
   bounds-flat (s .args .tails .now) (s .args .heads .now) (s .args .lows .now) (s .args .ups .now) (a .flow) (a .inv .1),
   s .pre .1,
-  c .before .before .before .before .before .before .before .if2 .left,
+  c .before .before .before .before .before .before .before .before .before .if2 .left,
   room-flat (s .args .tails .now) (s .args .heads .now) (s .args .lows .now) (s .args .ups .now) (a .flow) (s .args .a) (codes-of c) (path-room (part s) (a .flow) (s .args .tight .now) (getD (s .args .tails .now) (s .args .a) 0) (getD (s .args .heads .now) (s .args .a) 0) (s .args .a) (codes-of c) (path-of c)),
 )
 
@@ -116,12 +123,18 @@ loop-less : tie.Need-loop-less Inv-loop μ-loop
 loop-less c = c .before .before .take-off .ensures .less
 
 loop-again : tie.Need-loop-again Inv-loop μ-loop
-loop-again c = let d = c .before .before .before in let s = start d in let a = d .before .before .before .before .before .before .before .before .before .loop in let o = c .before .before .take-off in (
+loop-again c = let d = c .before .before .before in let s = start d in let a = d .before .before .before .before .before .before .before .before .before .before .before .loop in let o = c .before .before .take-off in (
   o .kept .1 .1 .1 .0 ∙ a .inv .0,
   bounds-full (s .args .tails .now) (s .args .heads .now) (s .args .lows .now) (s .args .ups .now) _ (o .ensures .bounds),
-  λ b x π ti. low-step (whole s b x) π (s .args .tight .now) (s .args .flow .now) (s .args .a) (s .pre .1) (a .flow) _ (codes-of d) (a .inv .2 b x π ti) (not-false _ (d .before .before .before .before .before .before .before .before .before .before .before .before .before .if1 .left)) (d .before .before .before .before .before .before .before .if2 .left)
+  λ b x π ti. low-step (whole s b x) π (s .args .tight .now) (s .args .flow .now) (s .args .a) (s .pre .1) (a .flow) _ (codes-of d) (a .inv .2 b x π ti) (not-false _ (d .before .before .before .before .before .before .before .before .before .before .before .before .before .before .before .if1 .left)) (d .before .before .before .before .before .before .before .before .before .if2 .left)
       (path-net (s .args .tails .now) (s .args .heads .now) (s .args .lows .now) (s .args .ups .now) (a .flow) b x (s .args .tight .now) (getD (s .args .tails .now) (s .args .a) 0) (getD (s .args .heads .now) (s .args .a) 0) (suc (s .args .a)) (codes-of d) (path-of d)) (exact-net (s .args .tails .now) (s .args .heads .now) (s .args .lows .now) (s .args .ups .now) (a .flow) b x _ (s .args .a) (codes-of d) (o .ensures .exact)),
 )
+
+enum-known-route : tie.Need-enum-known-route Inv-loop μ-loop
+enum-known-route c = search needs
+
+enum-told : tie.Need-enum-told Inv-loop μ-loop
+enum-told c = search needs
 
 pub lower-spec : {M : Type 1} → statement M
 lower-spec =
@@ -145,9 +158,11 @@ lower-spec =
     add-detour
     slice-aggregate-detour
     detour-requires
-    same-length-2
-    returns-3
+    enum-known-route
     slice-aggregate-take-off
     take-off-requires
     loop-less
-    loop-again)
+    loop-again
+    enum-told
+    same-length-2
+    returns-3)

@@ -1,17 +1,17 @@
-use Prim.Native.Nat.{_-_, _≤_}
 use mathlib.Core.Path.{_≡_, refl, _∙_}
 use mathlib.Core.List.{List}
+use Prim.Native.Nat.{_-_, _≤_}
 use native.Mathlib.Omega.{arith}
 use native.Mathlib.Numerals.{add-one}
 use lib.ListN.{length}
 use lib.IntN.{ℤ}
 use Rattle.network.specs.Network.{Net}
 use Rattle.certificates.specs.Push.{InBounds}
-use Rattle.paths.proofs.Lists.{ready-again}
 use Rattle.paths.specs.Graph.{graph, netWith}
+use Rattle.paths.proofs.Lists.{ready-again}
+use Rattle.flows.specs.Tight.{Tight, ForAll}
 use Rattle.flows.proofs.Certified.{tight-any}
 use Rattle.flows.proofs.Minimising.{MinTurn, min-start, min-step, min-done}
-use Rattle.flows.specs.Tight.{Tight, ForAll}
 use Rattle.flows.proofs.minimise.Statement.{statement}
 use Rattle.flows.proofs.minimise.Tie as tie
 

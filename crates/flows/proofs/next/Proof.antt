@@ -1,16 +1,16 @@
-use Prim.Native.Nat.{ℕ, _≤_}
 use mathlib.Core.Path.{_≡_, refl, sym, ap, subst, _∙_}
 use mathlib.Core.List.{List}
+use Prim.Native.Nat.{ℕ, _≤_}
 use native.Mathlib.Omega.{arith}
 use lib.ListN.{length}
 use lib.IntN.{ℤ}
 use Rattle.network.specs.Network.{Net}
 use Rattle.certificates.specs.Push.{InBounds}
-use Rattle.paths.proofs.Lists.{ready-again}
 use Rattle.paths.specs.Graph.{graph, netWith}
 use Rattle.paths.specs.Pushing.{Ready}
-use Rattle.flows.proofs.Following.{Topped, next-more, next-done, next-no}
+use Rattle.paths.proofs.Lists.{ready-again}
 use Rattle.flows.specs.Tight.{Tight, ForAll}
+use Rattle.flows.proofs.Following.{Topped, next-more, next-done, next-no}
 use Rattle.flows.proofs.next.Statement.{statement}
 use Rattle.flows.proofs.next.Tie as tie
 

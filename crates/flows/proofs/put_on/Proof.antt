@@ -1,5 +1,5 @@
-use Prim.Native.Nat.{_+_}
 use mathlib.Core.Path.{_∙_}
+use Prim.Native.Nat.{_+_}
 use native.Mathlib.Omega.{arith}
 use lib.ListN.{getD, take, length-set}
 use borrow.Author.Needs.{needs}

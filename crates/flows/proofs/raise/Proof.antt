@@ -1,16 +1,16 @@
-use Prim.Native.Nat.{ℕ, suc}
 use mathlib.Core.Path.{_≡_, refl}
 use mathlib.Core.List.{List}
+use Prim.Native.Nat.{_≤_, _+_, ℕ, suc}
 use native.Mathlib.Omega.{arith}
 use native.Mathlib.Numerals.{add-one}
-use borrow.Author.Tests.{not-true, not-false}
-use lib.ListN.{getD, take}
+use lib.ListN.{length, getD, take}
 use lib.IntN.{ℤ}
+use borrow.Author.Tests.{not-true, not-false}
 use borrow.Author.Needs.{needs}
 use Rattle.network.specs.Network.{Net}
-use Rattle.paths.proofs.Lists.{blocked-net, path-net, bounds-flat, bounds-full, small-flat}
 use Rattle.paths.specs.Graph.{graph, netWith}
 use Rattle.paths.specs.Reaching.{Path}
+use Rattle.paths.proofs.Lists.{blocked-net, path-net, bounds-flat, bounds-full, small-flat}
 use Rattle.flows.proofs.Certified.{unmarked-more, top-more, blocked-more}
 use Rattle.flows.proofs.Detours.{path-room}
 use Rattle.flows.proofs.Following.{raise-no, raise-yes}
@@ -26,13 +26,20 @@ whole s b c = netWith b (s .args .tails .now) (s .args .heads .now) (s .args .lo
 
 -- where the codes are used
 abbrev start : tie.After-codes3 → tie.Start
-start d = d .before .before .before .before .before .before .before .before .before .before .before .before .before .before .before .before .before .before .before .before
+start d = d .before .before .before .before .before .before .before .before .before .before .before .before .before .before .before .before .before .before .before .before .before .before
+
+-- how many there are, and the codes
+abbrev len-of : tie.After-codes3 → ℕ
+len-of d = d .before .before .before .route .given .0 .0
 
 abbrev codes-of : tie.After-codes3 → List ℕ
-codes-of d = take (d .before .before .before .before .detour .result) (d .before .before .before .before .detour .last .1 .1 .1 .1 .1 .1 .1 .1 .1 .0)
+codes-of d = take (len-of d) (d .before .before .before .before .before .before .detour .last .1 .1 .1 .1 .1 .1 .1 .1 .1 .0)
+
+told : (d : tie.After-codes3) → (len-of d ≤ length (d .before .before .before .before .before .before .detour .last .1 .1 .1 .1 .1 .1 .1 .1 .1 .0)) × Path (part (start d)) (start d .args .flow .now) (start d .args .tight .now) (getD (start d .args .heads .now) (start d .args .a) 0) (getD (start d .args .tails .now) (start d .args .a) 0) (start d .args .a + 1) (codes-of d)
+told d = rw (d .before .before .before .route .given .1) at (d .before .before .before .before .before .before .detour .ensures)
 
 path-of : (d : tie.After-codes3) → Path (part (start d)) (start d .args .flow .now) (start d .args .tight .now) (getD (start d .args .heads .now) (start d .args .a) 0) (getD (start d .args .tails .now) (start d .args .a) 0) (suc (start d .args .a)) (codes-of d)
-path-of d = rw add-one at (d .before .before .before .before .detour .ensures .found (d .before .before .if3 .left) .1)
+path-of d = rw add-one at (told d .1)
 
 shared-slice-read-if1 : tie.Need-shared-slice-read-if1
 shared-slice-read-if1 c = search needs
@@ -76,40 +83,46 @@ slice-aggregate-detour c = search needs
 detour-requires : tie.Need-detour-requires
 detour-requires c κs = let s = c .before .before .before .before .before .before .before .before .before .before .before .before .before .before .before in (s .pre .0 .searchable, omega (arith, s .pre .1, s .pre .0 .searchable .few), s .pre .0 .searchable .head-in (s .args .a) (s .pre .1), s .pre .0 .searchable .tail-in (s .args .a) (s .pre .1), refl)
 
-same-length : tie.Need-same-length
-same-length c = search needs
+same-length-2 : tie.Need-same-length-2
+same-length-2 c = search needs
 
-returns-3 : tie.Need-returns-3
-returns-3 c = let s = c .before .before .before .before .before .before .before .before .before .before .before .before .before .before .before .before .before .before in (
+returns-4 : tie.Need-returns-4
+returns-4 c = let s = c .before .before .before .before .before .before .before .before .before .before .before .before .before .before .before .before .before .before .before in (
   s .pre .0 .bounds,
   λ _. refl,
   λ b d π ti. raise-no (whole s b d) π (s .args .tight .now) (s .args .flow .now) (s .args .a) (s .pre .1) ti (s .args .flow .now)
-      (blocked-more (whole s b d) (s .args .flow .now) (s .args .tight .now) (s .args .a) π ti (s .pre .1) (blocked-net (s .args .tails .now) (s .args .heads .now) (s .args .lows .now) (s .args .ups .now) (s .args .flow .now) b d (s .args .tight .now) (getD (s .args .heads .now) (s .args .a) 0) (getD (s .args .tails .now) (s .args .a) 0) (suc (s .args .a)) (rw add-one at (c .before .before .detour .ensures .blocked (c .if3 .taken))))),
+      (blocked-more (whole s b d) (s .args .flow .now) (s .args .tight .now) (s .args .a) π ti (s .pre .1) (blocked-net (s .args .tails .now) (s .args .heads .now) (s .args .lows .now) (s .args .ups .now) (s .args .flow .now) b d (s .args .tight .now) (getD (s .args .heads .now) (s .args .a) 0) (getD (s .args .tails .now) (s .args .a) 0) (suc (s .args .a)) (rw add-one at (rw (c .enum-told .given .1) at (c .before .before .before .detour .ensures))))),
 )
 
 slice-aggregate-put-on : tie.Need-slice-aggregate-put-on
 slice-aggregate-put-on c = search needs
 
 put-on-requires : tie.Need-put-on-requires
-put-on-requires c κs = let s = c .before .before .before .before .before .before .before .before .before .before .before .before .before .before .before .before .before .before .before .before in (
-  c .before .before .before .before .detour .ensures .found (c .before .before .if3 .left) .0,
+put-on-requires c κs = let s = c .before .before .before .before .before .before .before .before .before .before .before .before .before .before .before .before .before .before .before .before .before .before in (
+  told c .0,
   small-flat (s .args .tails .now) (s .args .heads .now) (s .args .lows .now) (s .args .ups .now) (s .args .flow .now) (s .pre .0 .small),
   bounds-flat (s .args .tails .now) (s .args .heads .now) (s .args .lows .now) (s .args .ups .now) (s .args .flow .now) (s .pre .0 .bounds),
   s .pre .1,
-  c .before .before .before .before .before .before .before .before .before .if2 .left,
+  c .before .before .before .before .before .before .before .before .before .before .before .if2 .left,
   room-flat (s .args .tails .now) (s .args .heads .now) (s .args .lows .now) (s .args .ups .now) (s .args .flow .now) (s .args .a) (codes-of c) (path-room (part s) (s .args .flow .now) (s .args .tight .now) (getD (s .args .heads .now) (s .args .a) 0) (getD (s .args .tails .now) (s .args .a) 0) (s .args .a) (codes-of c) (path-of c)),
 )
 
-same-length-2 : tie.Need-same-length-2
-same-length-2 c = search needs
+same-length : tie.Need-same-length
+same-length c = search needs
 
-returns-4 : tie.Need-returns-4
-returns-4 c = let d = c .before .before .before in let s = start d in let o = c .before .before .put-on in (
+returns-3 : tie.Need-returns-3
+returns-3 c = let d = c .before .before .before in let s = start d in let o = c .before .before .put-on in (
   bounds-full (s .args .tails .now) (s .args .heads .now) (s .args .lows .now) (s .args .ups .now) _ (o .ensures .bounds),
   λ e. absurd (let z : _≡_ {A = ℕ} 0 1 = cc in omega arith),
-  λ b x π ti. raise-yes (whole s b x) π (s .args .tight .now) (s .args .flow .now) (s .args .a) (s .pre .1) ti _ (codes-of d) (not-false _ (d .before .before .before .before .before .before .before .before .before .before .before .before .if1 .left)) (d .before .before .before .before .before .before .before .before .before .if2 .left)
+  λ b x π ti. raise-yes (whole s b x) π (s .args .tight .now) (s .args .flow .now) (s .args .a) (s .pre .1) ti _ (codes-of d) (not-false _ (d .before .before .before .before .before .before .before .before .before .before .before .before .before .before .if1 .left)) (d .before .before .before .before .before .before .before .before .before .before .before .if2 .left)
       (path-net (s .args .tails .now) (s .args .heads .now) (s .args .lows .now) (s .args .ups .now) (s .args .flow .now) b x (s .args .tight .now) (getD (s .args .heads .now) (s .args .a) 0) (getD (s .args .tails .now) (s .args .a) 0) (suc (s .args .a)) (codes-of d) (path-of d)) (o .ensures .exact),
 )
+
+enum-known-route : tie.Need-enum-known-route
+enum-known-route c = search needs
+
+enum-told : tie.Need-enum-told
+enum-told c = search needs
 
 pub raise-spec : {M : Type 1} → statement M
 raise-spec =
@@ -129,9 +142,11 @@ raise-spec =
     add-detour
     slice-aggregate-detour
     detour-requires
-    same-length
-    returns-3
+    enum-known-route
     slice-aggregate-put-on
     put-on-requires
+    enum-told
+    same-length
+    returns-3
     same-length-2
     returns-4)

@@ -1,5 +1,5 @@
-use Prim.Native.Nat.{ℕ, _-_}
 use mathlib.Core.Path.{sym, ap, subst, _∙_}
+use Prim.Native.Nat.{ℕ, _-_}
 use native.Mathlib.Omega.{arith}
 use lib.ListN.{getD, take, set, length-set}
 use borrow.Author.Needs.{needs}

@@ -1,8 +1,8 @@
-use Prim.Native.Nat.{ℕ, _-_, _≤_, _<_}
 use mathlib.Core.Path.{_≡_, refl}
+use Prim.Native.Nat.{ℕ, _-_, _≤_, _<_}
 use native.Mathlib.Omega.{arith}
-use borrow.Author.Needs.{needs}
 use lib.ListN.{length, getD, length-set}
+use borrow.Author.Needs.{needs}
 use Rattle.laws.specs.Padded.{set-more}
 use Rattle.paths.proofs.clear.Statement.{statement}
 use Rattle.paths.proofs.clear.Tie as tie

@@ -1,14 +1,14 @@
+use mathlib.Core.Path.{_≡_, sym, subst}
 use mathlib.Core.List.{List}
 use Prim.Native.Nat.{ℕ, _+_}
-use mathlib.Core.Path.{_≡_, sym, subst, _∙_}
 use native.Mathlib.Omega.{arith}
 use lib.ListN.{length, take}
 use borrow.Author.Needs.{needs}
 use Rattle.network.specs.Network.{Net}
 use Rattle.network.specs.Residual.{src, dst}
 use Rattle.certificates.specs.Reach.{Falls, TracedAny}
-use Rattle.paths.proofs.Tracing.{detour-no, detour-yes, reach-blocked, reach-falls, reach-path}
 use Rattle.paths.specs.Graph.{graph}
+use Rattle.paths.proofs.Tracing.{reach-blocked, reach-falls, reach-path}
 use Rattle.paths.proofs.detour.Statement.{statement}
 use Rattle.paths.proofs.detour.Tie as tie
 
@@ -37,7 +37,7 @@ array-read-if1 : tie.Need-array-read-if1
 array-read-if1 c = search needs
 
 returns : tie.Need-returns
-returns c = let s = c .before .before .before .before .before .before .before .before .before .before .before .before .before in let k = c .before .before .before .reach in detour-no (net s) (s .args .flow .now) (s .args .free .now) (s .args .s) (s .args .t) (s .args .from) (s .args .codes .now) (reach-blocked (net s) (s .args .flow .now) (s .args .free .now) (s .args .s) (s .args .t) (s .args .from) _ _ (k .result) (k .ensures) (c .if1 .taken))
+returns c = let s = c .before .before .before .before .before .before .before .before .before .before .before .before .before in let k = c .before .before .before .reach in reach-blocked (net s) (s .args .flow .now) (s .args .free .now) (s .args .s) (s .args .t) (s .args .from) _ _ (k .result) (k .ensures) (c .if1 .taken)
 
 slice-aggregate-trace : tie.Need-slice-aggregate-trace
 slice-aggregate-trace c = search needs
@@ -59,10 +59,11 @@ same-length c = search needs
 
 returns-2 : tie.Need-returns-2
 returns-2 c = let s = c .before .before .before .before .before .before .before .before .before .before .before .before .before .before .before .before .before .before .before in let d = c .before .before .before .before .before .before .before .before .before in let k = c .before .before .trace in
-    let e : length (rank-of d) ≡ 64 = d .reach .ensures .tree .rank-len in
-    detour-yes (net s) (s .args .flow .now) (s .args .free .now) (s .args .s) (s .args .t) (s .args .from) (k .last .1 .1 .1 .1 .1 .0) (k .result) (k .kept .1 .1 .1 .1 .1 .0 ∙ s .pre .4) (k .ensures .0)
-    (reach-path (net s) (s .args .flow .now) (s .args .free .now) (s .args .s) (s .args .t) (s .args .from) (rank-of d) (via-of d) (d .reach .result) (d .reach .ensures) (take (k .result) (k .last .1 .1 .1 .1 .1 .0))
-    (subst (λ (n : ℕ). TracedAny n (length (s .args .tails .now) + length (s .args .tails .now)) (src (net s)) (dst (net s)) (rank-of d) (via-of d) (s .args .t) (λ s. s) (take (k .result) (k .last .1 .1 .1 .1 .1 .0))) e (k .ensures .1)))
+    let e : length (rank-of d) ≡ 64 = d .reach .ensures .tree .rank-len in (
+      k .ensures .0,
+      reach-path (net s) (s .args .flow .now) (s .args .free .now) (s .args .s) (s .args .t) (s .args .from) (rank-of d) (via-of d) (d .reach .result) (d .reach .ensures) (take (k .result) (k .last .1 .1 .1 .1 .1 .0))
+          (subst (λ (n : ℕ). TracedAny n (length (s .args .tails .now) + length (s .args .tails .now)) (src (net s)) (dst (net s)) (rank-of d) (via-of d) (s .args .t) (λ s. s) (take (k .result) (k .last .1 .1 .1 .1 .1 .0))) e (k .ensures .1)),
+    )
 
 pub detour-spec : {M : Type 1} → statement M
 detour-spec =

@@ -1,6 +1,6 @@
 use mathlib.Core.Path.{sym}
-use native.Mathlib.Omega.{arith}
 use Prim.Native.Nat.{_/_}
+use native.Mathlib.Omega.{arith}
 use borrow.Author.Needs.{needs}
 use Rattle.paths.proofs.Codes.{either-even, either-odd}
 use Rattle.paths.proofs.end_of.Statement.{statement}

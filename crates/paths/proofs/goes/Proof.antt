@@ -1,7 +1,7 @@
 use borrow.Author.Tests.{not-true, not-false}
 use borrow.Author.Needs.{needs}
-use Rattle.paths.proofs.Reaching.{goes-shut, goes-even, goes-odd}
 use Rattle.paths.specs.Graph.{graph}
+use Rattle.paths.proofs.Reaching.{goes-shut, goes-even, goes-odd}
 use Rattle.paths.proofs.goes.Statement.{statement}
 use Rattle.paths.proofs.goes.Tie as tie
 

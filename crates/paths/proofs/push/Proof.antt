@@ -1,13 +1,13 @@
-use Prim.Native.Nat.{suc, _-_, _≤_}
 use mathlib.Core.Path.{_≡_, refl, sym, ap, _∙_}
+use Prim.Native.Nat.{suc, _-_, _≤_}
 use native.Mathlib.Omega.{arith}
 use native.Mathlib.Numerals.{add-one}
-use borrow.Author.Needs.{needs}
 use lib.ListN.{length, getD, take, drop}
+use borrow.Author.Needs.{needs}
 use Rattle.certificates.specs.Push.{pushAll}
+use Rattle.paths.specs.Graph.{graph}
 use Rattle.paths.proofs.Prefix.{rest-cons, rest-done}
 use Rattle.paths.proofs.Pushing.{PushTurn, push-step, push-asks}
-use Rattle.paths.specs.Graph.{graph}
 use Rattle.paths.proofs.push.Statement.{statement}
 use Rattle.paths.proofs.push.Tie as tie
 

@@ -1,8 +1,8 @@
-use Prim.Native.Nat.{_/_}
 use mathlib.Core.Path.{sym, ap}
+use Prim.Native.Nat.{_/_}
 use native.Mathlib.Omega.{arith}
-use borrow.Author.Tests.{eq-eqb, ne-eqb}
 use lib.ListN.{set}
+use borrow.Author.Tests.{eq-eqb, ne-eqb}
 use borrow.Author.Needs.{needs}
 use Rattle.paths.proofs.Codes.{either-even, either-odd}
 use Rattle.paths.proofs.push_one.Statement.{statement}

@@ -1,9 +1,9 @@
-use Prim.Native.Nat.{ℕ, _-_, _<_}
 use mathlib.Core.Path.{_≡_, refl, sym, subst, _∙_}
 use mathlib.Core.List.{List}
+use Prim.Native.Nat.{ℕ, _-_, _<_}
 use native.Mathlib.Omega.{arith}
-use borrow.Author.Needs.{needs}
 use lib.ListN.{length, set, length-set}
+use borrow.Author.Needs.{needs}
 use Rattle.network.specs.Network.{Net}
 use Rattle.certificates.specs.Reach.{tree-start, count-le}
 use Rattle.paths.specs.Graph.{graph}

@@ -1,13 +1,13 @@
-use Prim.Native.Nat.{suc, _-_, _/_, _≤_, _<_}
 use mathlib.Core.Path.{refl, sym, ap, _∙_}
+use Prim.Native.Nat.{suc, _-_, _/_, _≤_, _<_}
 use native.Mathlib.Omega.{arith}
 use native.Mathlib.Numerals.{add-one}
-use borrow.Author.Needs.{needs}
 use lib.ListN.{length, getD, take, drop}
-use Rattle.paths.proofs.LeastRoom.{RoomTurn, room-step, first-in}
-use Rattle.paths.proofs.Prefix.{rest-cons, rest-done}
+use borrow.Author.Needs.{needs}
 use Rattle.paths.specs.Graph.{graph}
 use Rattle.paths.specs.Pushing.{roomAll}
+use Rattle.paths.proofs.LeastRoom.{RoomTurn, room-step, first-in}
+use Rattle.paths.proofs.Prefix.{rest-cons, rest-done}
 use Rattle.paths.proofs.room.Statement.{statement}
 use Rattle.paths.proofs.room.Tie as tie
 

@@ -1,15 +1,15 @@
-use Prim.Native.Nat.{ℕ, _+_, _-_, _/_, _≤_, _<_}
 use mathlib.Core.Path.{_≡_, sym, _∙_}
+use Prim.Native.Nat.{ℕ, _+_, _-_, _/_, _≤_, _<_}
 use native.Mathlib.Omega.{arith}
 use native.Mathlib.Numerals.{add-one}
 use lib.ListN.{length}
 use Rattle.network.specs.Network.{Net}
 use Rattle.network.specs.Residual.{src, dst}
 use Rattle.certificates.specs.Reach.{turn-start, turn-step, round-done, count-le}
-use Rattle.paths.proofs.Codes.{src-in, dst-in}
-use Rattle.paths.proofs.Reaching.{spread-at, TurnOf}
 use Rattle.paths.specs.Graph.{graph}
 use Rattle.paths.specs.Reaching.{goes}
+use Rattle.paths.proofs.Codes.{src-in, dst-in}
+use Rattle.paths.proofs.Reaching.{spread-at, TurnOf}
 use Rattle.paths.proofs.round.Statement.{statement}
 use Rattle.paths.proofs.round.Tie as tie
 

@@ -1,13 +1,13 @@
-use Prim.Native.Nat.{ℕ, _+_, _≤_, _<_}
 use mathlib.Core.Path.{_≡_, refl, ap}
+use Prim.Native.Nat.{ℕ, _+_, _≤_, _<_}
 use native.Mathlib.Omega.{arith}
-use borrow.Author.Needs.{needs}
 use lib.ListN.{length, getD, take, length-set}
+use borrow.Author.Needs.{needs}
 use Rattle.network.specs.Network.{Net}
 use Rattle.network.specs.Residual.{src, dst}
 use Rattle.certificates.specs.Reach.{TracedAny, any-start, any-done}
-use Rattle.paths.proofs.Tracing.{trace-more}
 use Rattle.paths.specs.Graph.{graph}
+use Rattle.paths.proofs.Tracing.{trace-more}
 use Rattle.paths.proofs.trace.Statement.{statement}
 use Rattle.paths.proofs.trace.Tie as tie
 
