@@ -12,7 +12,6 @@ use lib.Signed.{_≤ℤ_, _<ℤ_}
 use Rattle.laws.specs.Integers.{leZ-or-lt, ≤ℤ-trans}
 use Rattle.laws.specs.Linear.{lin, given2}
 use Rattle.laws.specs.Parts.{plus}
-use Rattle.laws.specs.Range.{fits}
 use Rattle.laws.specs.Sum.{sum}
 use Rattle.network.specs.Network.{Net, WellFormed, netOut, balance}
 use Rattle.certificates.specs.Cuts.{stuck, closed-steps, balances-sum}
@@ -65,41 +64,41 @@ module _ (b : List ℤ) (t h l u : List ℕ) (f₀ : List ℕ) (G : Given b t h 
     none = λ _ c d x F. ne (balances-sum (netWith b t h l u c) (formed c d) x F);
   }
 
-  module _ (f : List ℕ) (k : InBounds (graph t h l u) f) (lk : List ℤ) (L : Excesses b t h f lk) where
-    pub all-sent : sum (length b) (λ v. getD b v (pos 0)) ≡ pos 0 → (r : ℕ) → FirstExcess lk r → length lk ≤ r → Answer b t h l u f true
+  module _ (f : List ℕ) (k : InBounds (graph t h l u) f) (ex : List ℤ) (L : Excesses b t h f ex) where
+    pub all-sent : sum (length b) (λ v. getD b v (pos 0)) ≡ pos 0 → (r : ℕ) → FirstExcess ex r → length ex ≤ r → Answer b t h l u f true
     all-sent e r F z = record {
       found = λ _ c d. all-met (netWith b t h l u c) (formed c d) f (record { all-arcs = k .all-arcs; above = k .above; below = k .below }) e
           (λ v i. rw (← (L .is v i)) (F .none z v (omega (arith, L .len))));
       none = λ q. absurd (let w : _≡_ {A = ℕ} 0 1 = cc in omega arith);
     }
 
-    pub no-flow-left : (free : List Bool) → AllFree t free → (s : ℕ) → s < length lk → pos 0 <ℤ getD lk s (pos 0) → CutOff (graph t h l u) f free lk s (length lk) → (g : List ℕ) → Answer b t h l u g false
+    pub no-flow-left : (free : List Bool) → AllFree t free → (s : ℕ) → s < length ex → pos 0 <ℤ getD ex s (pos 0) → CutOff (graph t h l u) f free ex s (length ex) → (g : List ℕ) → Answer b t h l u g false
     no-flow-left free F s i p C g = record {
       found = λ q. absurd (let w : _≡_ {A = ℕ} 0 1 = cc in omega arith);
       none = λ _ c d. stuck (netWith b t h l u c) (formed c d) f (C .inside)
           (closed-steps (netWith b t h l u c) f (λ a. Unit {0}) (C .inside) (λ x y _ v w. C .shut x y (rw (F .marked (x / 2) (omega arith)) v) w))
-          s (omega (arith, L .len)) (C .has) (owes (balance (netWith b t h l u c) s) (netOut (netWith b t h l u c) f s) (getD lk s (pos 0)) (L .is s (omega (arith, L .len))) p)
-          (λ v j m. fine (netWith b t h l u c) v m (L .is v j) (leZ-or-lt (pos 0) (getD lk v (pos 0))) (λ n. C .none v (omega (arith, L .len)) n));
+          s (omega (arith, L .len)) (C .has) (too-little-out (balance (netWith b t h l u c) s) (netOut (netWith b t h l u c) f s) (getD ex s (pos 0)) (L .is s (omega (arith, L .len))) p)
+          (λ v j m. no-deficit (netWith b t h l u c) v m (L .is v j) (leZ-or-lt (pos 0) (getD ex v (pos 0))) (λ n. C .none v (omega (arith, L .len)) n));
     }
       where
-        owes : (b o x : ℤ) → x ≡ b -ℤ o → pos 0 <ℤ x → o <ℤ b
-        owes b o x e p = given2 e p (simp lin (omega arith))
+        too-little-out : (b o x : ℤ) → x ≡ b -ℤ o → pos 0 <ℤ x → o <ℤ b
+        too-little-out b o x e p = given2 e p (simp lin (omega arith))
 
-        even : (b o x : ℤ) → x ≡ b -ℤ o → pos 0 ≤ℤ x → o ≤ℤ b
-        even b o x e p = given2 e p (simp lin (omega arith))
+        no-more-out : (b o x : ℤ) → x ≡ b -ℤ o → pos 0 ≤ℤ x → o ≤ℤ b
+        no-more-out b o x e p = given2 e p (simp lin (omega arith))
 
-        fine : (N : Net) (v : ℕ) → C .inside v ≡ true → getD lk v (pos 0) ≡ balance N v -ℤ netOut N f v → (pos 0 ≤ℤ getD lk v (pos 0)) ⊎ (getD lk v (pos 0) <ℤ pos 0) → (getD lk v (pos 0) <ℤ pos 0 → C .inside v ≡ false) → netOut N f v ≤ℤ balance N v
-        fine N v m e (inl p) n = even (balance N v) (netOut N f v) (getD lk v (pos 0)) e p
-        fine N v m e (inr p) n = absurd (let w : _≡_ {A = ℕ} 0 1 = cc (m, n p) in omega arith)
+        no-deficit : (N : Net) (v : ℕ) → C .inside v ≡ true → getD ex v (pos 0) ≡ balance N v -ℤ netOut N f v → (pos 0 ≤ℤ getD ex v (pos 0)) ⊎ (getD ex v (pos 0) <ℤ pos 0) → (getD ex v (pos 0) <ℤ pos 0 → C .inside v ≡ false) → netOut N f v ≤ℤ balance N v
+        no-deficit N v m e (inl p) n = no-more-out (balance N v) (netOut N f v) (getD ex v (pos 0)) e p
+        no-deficit N v m e (inr p) n = absurd (let w : _≡_ {A = ℕ} 0 1 = cc (m, n p) in omega arith)
 
     -- the sum of the excesses above 0 falls
-    pub falls : (g : List ℕ) (s : ℕ) → s < length lk → SentFrom (graph t h l u) f g lk s → plus (excesses (supplies b t h) g) < plus (excesses (supplies b t h) f)
+    pub falls : (g : List ℕ) (s : ℕ) → s < length ex → SentFrom (graph t h l u) f g ex s → plus (excesses (supplies b t h) g) < plus (excesses (supplies b t h) f)
     falls g s i S =
         let R = S .sent in
         relieved (supplies b t h) f g s (S .to) (R .amount)
         (λ w. ap (λ x. netOut (supplies b t h) x w) (R .exact) ∙ all-netOut (graph t h l u) (R .amount) (R .codes) f s (S .to) w k (R .trail) (R .able .distinct) (R .able .fits))
         (omega (arith, L .len)) (R .some)
-        (rw (← (L .is s (omega (arith, L .len)))) (≤ℤ-trans {a = pos (R .amount)} {b = pos (S .most)} {c = getD lk s (pos 0)} (simp lin (omega (arith, R .at-most))) (S .most-ok)))
+        (rw (← (L .is s (omega (arith, L .len)))) (≤ℤ-trans {a = pos (R .amount)} {b = pos (S .most)} {c = getD ex s (pos 0)} (simp lin (omega (arith, R .at-most))) (S .most-ok)))
         (rw (← (L .is (S .to) (omega (arith, L .len, S .to-in)))) (R .at-t))
 
 -- the first m of 512 marks

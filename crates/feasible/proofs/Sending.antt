@@ -44,8 +44,8 @@ path-able N f free s t from δ cs b p h = record {
   fits = every-map2 (λ c. c < arcs N + arcs N) (λ c. δ ≤ roomOf N f c) (FitsCode N δ f) cs (λ c l r. room-fits N f δ c b l r) (way-codes (arcs N + arcs N) (src N) (dst N) s t cs (p .trail)) h;
 }
 
-able-flat : (t h l u : List ℕ) (δ : ℕ) (f cs : List ℕ) → Pushable (graph t h l u) δ f cs → Pushable (graph t t l u) δ f cs
-able-flat t h l u δ f cs p = record {
+able-without-heads : (t h l u : List ℕ) (δ : ℕ) (f cs : List ℕ) → Pushable (graph t h l u) δ f cs → Pushable (graph t t l u) δ f cs
+able-without-heads t h l u δ f cs p = record {
   bounds = record { all-arcs = p .bounds .all-arcs; above = p .bounds .above; below = p .bounds .below };
   codes-in = p .codes-in;
   distinct = p .distinct;
@@ -56,20 +56,20 @@ module _ (t h l u : List ℕ) (f : List ℕ) (free : List Bool) (x y most : ℕ)
   room-here : Every (λ c. d ≤ roomOf (graph t h l u) f c) cs
   room-here = rw d-is (room-each (graph t t l u) f cap cs)
 
-  able-full : Pushable (graph t h l u) d f cs
-  able-full = path-able (graph t h l u) f free x y 0 d cs b p room-here
+  able-with-heads : Pushable (graph t h l u) d f cs
+  able-with-heads = path-able (graph t h l u) f free x y 0 d cs b p room-here
 
   pub able-here : Pushable (graph t t l u) d f cs
-  able-here = able-flat t h l u d f cs able-full
+  able-here = able-without-heads t h l u d f cs able-with-heads
 
   pub sends-to-yes : (f′ : List ℕ) (k : ℕ) (z : ℤ) (v : ℤ) → f′ ≡ pushAll d cs f → cap ≡ min most k → Capped z k → z ≡ negℤ v → 0 < most → SendsTo (graph t h l u) f f′ free x y most v true
   sends-to-yes f′ k z v e c q r m = record {
-    bounds = rw e (pushable-bounds (graph t h l u) d cs f able-full);
+    bounds = rw e (pushable-bounds (graph t h l u) d cs f able-with-heads);
     done = λ _. record {
       amount = d;
       codes = cs;
       trail = p .trail;
-      able = able-full;
+      able = able-with-heads;
       exact = e;
       some = rw d-is (room-pos (graph t t l u) f cap cs (rw c (omega (arith, q .some))) (every-map (λ c. goes (graph t h l u) f free c ≡ true) (λ c. 0 < roomOf (graph t h l u) f c) cs (goes-room (graph t h l u) f free) (p .passes)));
       at-most = omega (arith, d-is, room-cap (graph t t l u) f cap cs, c);

@@ -42,6 +42,7 @@ pub cap-no : (x z : ℤ) → z ≡ x → pos 0 <ℤ x → Capped x (natAbs z)
 cap-no x (pos n) e p = record { at-most = given e (simp lin (omega arith)); some = given2 e p (simp lin (omega arith)) }
 cap-no x (negsuc n) e p = absurd (given2 e p (simp lin (omega arith)))
 
+-- ---- a number below 0, turned
 pub below : (z x : ℤ) → z ≡ x → leZ (pos 0) z ≡ false → pos 0 <ℤ (pos 0 -ℤ z)
 below z x e h = given (leZ-false (pos 0) z h) (simp lin (omega arith))
 

@@ -51,8 +51,8 @@ pub exact-net : (t h l u : List ℕ) (f : List ℕ) (b c : List ℤ) (f′ : Lis
     → f′ ≡ pushAll (takes (netWith b t h l u c) f k cs) cs (set f k (getD f k 0 - takes (netWith b t h l u c) f k cs))
 exact-net t h l u f b c f′ k cs e = e ∙ ap (λ d. pushAll d cs (set f k (getD f k 0 - d))) (room-net t h l u f b c (getD f k 0 - getD l k 0) cs)
 
-pub room-flat : (t h l u f : List ℕ) (k : ℕ) (cs : List ℕ) → RoomAbove (graph t h l u) f k cs → RoomAbove (graph t t l u) f k cs
-room-flat t h l u f k cs p = record { codes-in = p .codes-in; distinct = p .distinct; above = p .above; room = p .room }
+pub room-without-heads : (t h l u f : List ℕ) (k : ℕ) (cs : List ℕ) → RoomAbove (graph t h l u) f k cs → RoomAbove (graph t t l u) f k cs
+room-without-heads t h l u f k cs p = record { codes-in = p .codes-in; distinct = p .distinct; above = p .above; room = p .room }
 
 -- ---- minimise: f is minimised from k up to a
 pub record MinTurn (N : Net) (f cur : List ℕ) (k a : ℕ) : Type 0 where

@@ -19,14 +19,14 @@ module _ (t h l u : List ℕ) (f : List ℕ) where
   blocked-net b c free x y from p = record { inside = p .inside; has = p .has; lacks = p .lacks; shut = p .shut }
 
   -- heads do not matter to bounds
-  pub bounds-flat : InBounds (graph t h l u) f → InBounds (graph t t l u) f
-  bounds-flat b = record { all-arcs = b .all-arcs; above = b .above; below = b .below }
+  pub bounds-without-heads : InBounds (graph t h l u) f → InBounds (graph t t l u) f
+  bounds-without-heads b = record { all-arcs = b .all-arcs; above = b .above; below = b .below }
 
-  pub bounds-full : InBounds (graph t t l u) f → InBounds (graph t h l u) f
-  bounds-full b = record { all-arcs = b .all-arcs; above = b .above; below = b .below }
+  pub bounds-with-heads : InBounds (graph t t l u) f → InBounds (graph t h l u) f
+  bounds-with-heads b = record { all-arcs = b .all-arcs; above = b .above; below = b .below }
 
-  pub small-flat : SmallBounds (graph t h l u) → SmallBounds (graph t t l u)
-  small-flat z = record { few = z .few; lows-len = z .lows-len; ups-len = z .ups-len; ups-small = z .ups-small }
+  pub small-without-heads : SmallBounds (graph t h l u) → SmallBounds (graph t t l u)
+  small-without-heads z = record { few = z .few; lows-len = z .lows-len; ups-len = z .ups-len; ups-small = z .ups-small }
 
   pub room-net : (b c : List ℤ) (cap : ℕ) (cs : List ℕ) → roomAll (graph t t l u) f cap cs ≡ roomAll (netWith b t h l u c) f cap cs
   room-net b c cap [] = refl

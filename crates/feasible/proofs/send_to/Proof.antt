@@ -12,7 +12,7 @@ use Rattle.network.specs.Residual.{src, dst}
 use Rattle.paths.specs.Reaching.{Path}
 use Rattle.paths.specs.Graph.{graph}
 use Rattle.paths.proofs.LeastRoom.{way-codes}
-use Rattle.paths.proofs.Lists.{small-flat, bounds-flat}
+use Rattle.paths.proofs.Lists.{small-without-heads, bounds-without-heads}
 use Rattle.feasible.proofs.Sending.{sends-to-none, sends-to-blocked, sends-to-yes, able-here}
 use Rattle.feasible.proofs.Widths.{below, turned-fits, zero-sub}
 use Rattle.feasible.proofs.send_to.Statement.{statement}
@@ -72,13 +72,13 @@ slice-aggregate-room c = search needs
 
 room-requires : tie.Need-room-requires
 room-requires c κs = let s = c .before .before .before .before .before .before .before .before .before .before .before .before .before .before .before .before .before .before in let k = c .before .before .before .before in let p = told k in
-    (p .0, small-flat (s .args .tails .now) (s .args .heads .now) (s .args .lows .now) (s .args .ups .now) (s .args .flow .now) (s .pre .0 .small), bounds-flat (s .args .tails .now) (s .args .heads .now) (s .args .lows .now) (s .args .ups .now) (s .args .flow .now) (s .pre .0 .bounds), way-codes (length (s .args .tails .now) + length (s .args .tails .now)) (src (net s)) (dst (net s)) (s .args .s) (s .args .t) (codes-of k) (p .1 .trail))
+    (p .0, small-without-heads (s .args .tails .now) (s .args .heads .now) (s .args .lows .now) (s .args .ups .now) (s .args .flow .now) (s .pre .0 .small), bounds-without-heads (s .args .tails .now) (s .args .heads .now) (s .args .lows .now) (s .args .ups .now) (s .args .flow .now) (s .pre .0 .bounds), way-codes (length (s .args .tails .now) + length (s .args .tails .now)) (src (net s)) (dst (net s)) (s .args .s) (s .args .t) (codes-of k) (p .1 .trail))
 
 slice-aggregate-push : tie.Need-slice-aggregate-push
 slice-aggregate-push c = search needs
 
 push-requires : tie.Need-push-requires
-push-requires c κs = let s = c .before .before .before .before .before .before .before .before .before .before .before .before .before .before .before .before .before .before .before .before .before in let k = c .before .before .before .before .before .before .before in (told k .0, small-flat (s .args .tails .now) (s .args .heads .now) (s .args .lows .now) (s .args .ups .now) (s .args .flow .now) (s .pre .0 .small), able-here (s .args .tails .now) (s .args .heads .now) (s .args .lows .now) (s .args .ups .now) (s .args .flow .now) (s .args .free .now) (s .args .s) (s .args .t) (s .args .most) (s .pre .0 .bounds) (codes-of k) (told k .1) (c .before .before .before .before .before .lesser .result) (c .before .before .room .result) (c .before .before .room .ensures))
+push-requires c κs = let s = c .before .before .before .before .before .before .before .before .before .before .before .before .before .before .before .before .before .before .before .before .before in let k = c .before .before .before .before .before .before .before in (told k .0, small-without-heads (s .args .tails .now) (s .args .heads .now) (s .args .lows .now) (s .args .ups .now) (s .args .flow .now) (s .pre .0 .small), able-here (s .args .tails .now) (s .args .heads .now) (s .args .lows .now) (s .args .ups .now) (s .args .flow .now) (s .args .free .now) (s .args .s) (s .args .t) (s .args .most) (s .pre .0 .bounds) (codes-of k) (told k .1) (c .before .before .before .before .before .lesser .result) (c .before .before .room .result) (c .before .before .room .ensures))
 
 same-length : tie.Need-same-length
 same-length c = search needs

@@ -11,11 +11,11 @@ use Rattle.network.specs.Network.{Net}
 use Rattle.certificates.specs.Push.{InBounds}
 use Rattle.paths.specs.Graph.{graph, netWith}
 use Rattle.paths.specs.Reaching.{Path}
-use Rattle.paths.proofs.Lists.{blocked-net, path-net, bounds-flat, bounds-full, small-flat, searchable-again}
+use Rattle.paths.proofs.Lists.{blocked-net, path-net, bounds-without-heads, bounds-with-heads, small-without-heads, searchable-again}
 use Rattle.flows.specs.Tight.{Tight, ForAll}
 use Rattle.flows.proofs.Certified.{unmarked-less, bottom-less, blocked-less}
 use Rattle.flows.proofs.Detours.{path-room}
-use Rattle.flows.proofs.Minimising.{LowTurn, low-start, low-step, low-done, room-flat, exact-net}
+use Rattle.flows.proofs.Minimising.{LowTurn, low-start, low-step, low-done, room-without-heads, exact-net}
 use Rattle.flows.proofs.lower.Statement.{statement}
 use Rattle.flows.proofs.lower.Tie as tie
 
@@ -112,11 +112,11 @@ slice-aggregate-take-off c = search needs
 take-off-requires : tie.Need-take-off-requires Inv-loop μ-loop
 take-off-requires c κs = let s = c .before .before .before .before .before .before .before .before .before .before .before .before .before .before .before .before .before .before .before .before .before .before .before in let a = c .before .before .before .before .before .before .before .before .before .before .before .loop in (
   told c .0,
-  small-flat (s .args .tails .now) (s .args .heads .now) (s .args .lows .now) (s .args .ups .now) (a .flow) (s .pre .0 .small),
-  bounds-flat (s .args .tails .now) (s .args .heads .now) (s .args .lows .now) (s .args .ups .now) (a .flow) (a .inv .1),
+  small-without-heads (s .args .tails .now) (s .args .heads .now) (s .args .lows .now) (s .args .ups .now) (a .flow) (s .pre .0 .small),
+  bounds-without-heads (s .args .tails .now) (s .args .heads .now) (s .args .lows .now) (s .args .ups .now) (a .flow) (a .inv .1),
   s .pre .1,
   c .before .before .before .before .before .before .before .before .before .if2 .left,
-  room-flat (s .args .tails .now) (s .args .heads .now) (s .args .lows .now) (s .args .ups .now) (a .flow) (s .args .a) (codes-of c) (path-room (part s) (a .flow) (s .args .tight .now) (getD (s .args .tails .now) (s .args .a) 0) (getD (s .args .heads .now) (s .args .a) 0) (s .args .a) (codes-of c) (path-of c)),
+  room-without-heads (s .args .tails .now) (s .args .heads .now) (s .args .lows .now) (s .args .ups .now) (a .flow) (s .args .a) (codes-of c) (path-room (part s) (a .flow) (s .args .tight .now) (getD (s .args .tails .now) (s .args .a) 0) (getD (s .args .heads .now) (s .args .a) 0) (s .args .a) (codes-of c) (path-of c)),
 )
 
 loop-less : tie.Need-loop-less Inv-loop μ-loop
@@ -125,7 +125,7 @@ loop-less c = c .before .before .take-off .ensures .less
 loop-again : tie.Need-loop-again Inv-loop μ-loop
 loop-again c = let d = c .before .before .before in let s = start d in let a = d .before .before .before .before .before .before .before .before .before .before .before .loop in let o = c .before .before .take-off in (
   o .kept .1 .1 .1 .0 ∙ a .inv .0,
-  bounds-full (s .args .tails .now) (s .args .heads .now) (s .args .lows .now) (s .args .ups .now) _ (o .ensures .bounds),
+  bounds-with-heads (s .args .tails .now) (s .args .heads .now) (s .args .lows .now) (s .args .ups .now) _ (o .ensures .bounds),
   λ b x π ti. low-step (whole s b x) π (s .args .tight .now) (s .args .flow .now) (s .args .a) (s .pre .1) (a .flow) _ (codes-of d) (a .inv .2 b x π ti) (not-false _ (d .before .before .before .before .before .before .before .before .before .before .before .before .before .before .before .if1 .left)) (d .before .before .before .before .before .before .before .before .before .if2 .left)
       (path-net (s .args .tails .now) (s .args .heads .now) (s .args .lows .now) (s .args .ups .now) (a .flow) b x (s .args .tight .now) (getD (s .args .tails .now) (s .args .a) 0) (getD (s .args .heads .now) (s .args .a) 0) (suc (s .args .a)) (codes-of d) (path-of d)) (exact-net (s .args .tails .now) (s .args .heads .now) (s .args .lows .now) (s .args .ups .now) (a .flow) b x _ (s .args .a) (codes-of d) (o .ensures .exact)),
 )

@@ -10,11 +10,11 @@ use borrow.Author.Needs.{needs}
 use Rattle.network.specs.Network.{Net}
 use Rattle.paths.specs.Graph.{graph, netWith}
 use Rattle.paths.specs.Reaching.{Path}
-use Rattle.paths.proofs.Lists.{blocked-net, path-net, bounds-flat, bounds-full, small-flat}
+use Rattle.paths.proofs.Lists.{blocked-net, path-net, bounds-without-heads, bounds-with-heads, small-without-heads}
 use Rattle.flows.proofs.Certified.{unmarked-more, top-more, blocked-more}
 use Rattle.flows.proofs.Detours.{path-room}
 use Rattle.flows.proofs.Following.{raise-no, raise-yes}
-use Rattle.flows.proofs.Minimising.{room-flat}
+use Rattle.flows.proofs.Minimising.{room-without-heads}
 use Rattle.flows.proofs.raise.Statement.{statement}
 use Rattle.flows.proofs.raise.Tie as tie
 
@@ -100,11 +100,11 @@ slice-aggregate-put-on c = search needs
 put-on-requires : tie.Need-put-on-requires
 put-on-requires c κs = let s = c .before .before .before .before .before .before .before .before .before .before .before .before .before .before .before .before .before .before .before .before .before .before in (
   told c .0,
-  small-flat (s .args .tails .now) (s .args .heads .now) (s .args .lows .now) (s .args .ups .now) (s .args .flow .now) (s .pre .0 .small),
-  bounds-flat (s .args .tails .now) (s .args .heads .now) (s .args .lows .now) (s .args .ups .now) (s .args .flow .now) (s .pre .0 .bounds),
+  small-without-heads (s .args .tails .now) (s .args .heads .now) (s .args .lows .now) (s .args .ups .now) (s .args .flow .now) (s .pre .0 .small),
+  bounds-without-heads (s .args .tails .now) (s .args .heads .now) (s .args .lows .now) (s .args .ups .now) (s .args .flow .now) (s .pre .0 .bounds),
   s .pre .1,
   c .before .before .before .before .before .before .before .before .before .before .before .if2 .left,
-  room-flat (s .args .tails .now) (s .args .heads .now) (s .args .lows .now) (s .args .ups .now) (s .args .flow .now) (s .args .a) (codes-of c) (path-room (part s) (s .args .flow .now) (s .args .tight .now) (getD (s .args .heads .now) (s .args .a) 0) (getD (s .args .tails .now) (s .args .a) 0) (s .args .a) (codes-of c) (path-of c)),
+  room-without-heads (s .args .tails .now) (s .args .heads .now) (s .args .lows .now) (s .args .ups .now) (s .args .flow .now) (s .args .a) (codes-of c) (path-room (part s) (s .args .flow .now) (s .args .tight .now) (getD (s .args .heads .now) (s .args .a) 0) (getD (s .args .tails .now) (s .args .a) 0) (s .args .a) (codes-of c) (path-of c)),
 )
 
 same-length : tie.Need-same-length
@@ -112,7 +112,7 @@ same-length c = search needs
 
 returns-3 : tie.Need-returns-3
 returns-3 c = let d = c .before .before .before in let s = start d in let o = c .before .before .put-on in (
-  bounds-full (s .args .tails .now) (s .args .heads .now) (s .args .lows .now) (s .args .ups .now) _ (o .ensures .bounds),
+  bounds-with-heads (s .args .tails .now) (s .args .heads .now) (s .args .lows .now) (s .args .ups .now) _ (o .ensures .bounds),
   λ e. absurd (let z : _≡_ {A = ℕ} 0 1 = cc in omega arith),
   λ b x π ti. raise-yes (whole s b x) π (s .args .tight .now) (s .args .flow .now) (s .args .a) (s .pre .1) ti _ (codes-of d) (not-false _ (d .before .before .before .before .before .before .before .before .before .before .before .before .before .before .if1 .left)) (d .before .before .before .before .before .before .before .before .before .before .before .if2 .left)
       (path-net (s .args .tails .now) (s .args .heads .now) (s .args .lows .now) (s .args .ups .now) (s .args .flow .now) b x (s .args .tight .now) (getD (s .args .heads .now) (s .args .a) 0) (getD (s .args .tails .now) (s .args .a) 0) (suc (s .args .a)) (codes-of d) (path-of d)) (o .ensures .exact),
