@@ -17,8 +17,8 @@ use Rattle.certificates.specs.Optimality.{priced-least}
 use Rattle.network.specs.Network.{Net, WellFormed, IsFlow, LeastCost, nodes, low, up}
 use Rattle.network.specs.Residual.{codes, usable, src, dst, stepCost, Walk, walkCost, Price}
 use Rattle.search.specs.Labels.{costGraph, Relaxable, roomy, State, state, label, offer, better, relaxed, relaxedAll, Sized}
-use Rattle.search.specs.Search.{Quiet}
-use Rattle.search.specs.Prices.{PriceLabels, Settled}
+use Rattle.search.specs.Search.{Quiet, Settled}
+use Rattle.search.specs.Prices.{PriceLabels}
 use Rattle.search.proofs.Codes.{src-in, dst-in, either-is}
 use Rattle.search.proofs.Rounds.{Trip, AtMost, Changed, quiet, noisy, all-length, round-at-most, round-changed, all-sized, sized-more}
 use Rattle.search.proofs.Cycles.{roomy-usable}
@@ -108,7 +108,7 @@ module _ (N : Net) (f : List ℕ) (ok : Relaxable N f) where
         go (noisy a b) = absurd (omega arith)
 
   -- after 64 rounds no walk costs less, however long
-  pub prices-all : (d : List ℤ) (p : List ℕ) → Pricing N f d p 64 → Settled N f → PriceLabels N f d
+  pub prices-all : (d : List ℤ) (p : List ℕ) → Pricing N f d p 64 → Settled N f 1 → PriceLabels N f d
   prices-all d p S q = record {
     len = S .sized .labels-len;
     walked = λ v h. (let (u, cs, t, e) = S .walked v h in (u, cs, trip-walk N f u v cs t, e));

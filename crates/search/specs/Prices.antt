@@ -7,14 +7,8 @@ use lib.IntN.{ℤ, pos}
 use lib.Signed.{_≤ℤ_}
 use Rattle.network.specs.Network.{Net}
 use Rattle.network.specs.Residual.{Walk, walkCost}
-use Rattle.search.specs.Search.{Quiet}
 
 pub record PriceLabels (N : Net) (f : List ℕ) (d : List ℤ) : Type 0 where
   pub len : length d ≡ 64
   pub walked : (v : ℕ) → v < 64 → (u : ℕ) × (cs : List ℕ) × Walk N f u v cs × (walkCost N cs ≡ getD d v (pos 0))
   pub least : (u v : ℕ) (cs : List ℕ) → v < 64 → Walk N f u v cs → getD d v (pos 0) ≤ℤ walkCost N cs
-
--- some potential: what a search without a cycle shows
-pub record Settled (N : Net) (f : List ℕ) : Type 0 where
-  pub potential : ℕ → ℤ
-  pub quiet : Quiet N f 1 potential

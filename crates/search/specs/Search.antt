@@ -16,6 +16,11 @@ pub record Quiet (N : Net) (f : List ℕ) (δ : ℕ) (π : ℕ → ℤ) : Type 0
   pub low : (v : ℕ) → π v ≤ℤ pos 0
   pub reduced : (c : ℕ) → c < codes N → roomy N f δ c ≡ true → π (dst N c) ≤ℤ (π (src N c) +ℤ stepCost N c)
 
+-- under some potential: no negative cycle has room for δ
+pub record Settled (N : Net) (f : List ℕ) (δ : ℕ) : Type 0 where
+  pub potential : ℕ → ℤ
+  pub quiet : Quiet N f δ potential
+
 -- a residual cycle of cost below 0, each of its arcs with room for δ
 pub record NegativeCycle (N : Net) (f : List ℕ) (δ : ℕ) (cs : List ℕ) : Type 0 where
   pub cycle : Cycle N f cs

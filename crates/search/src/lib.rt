@@ -11,8 +11,8 @@ ghost use mathlib.Core.List.{[]};
 ghost use Rattle.network.specs.Residual.{codes, src};
 ghost use Rattle.search.specs.Labels.{costGraph, SmallGraph, Relaxable, state, setIf, relaxed, relaxedAll, Sized};
 ghost use Rattle.search.specs.Predecessors.{Returns, WentBack, Collected};
-ghost use Rattle.search.specs.Search.{Searched};
-ghost use Rattle.search.specs.Prices.{PriceLabels, Settled};
+ghost use Rattle.search.specs.Search.{Searched, Settled};
+ghost use Rattle.search.specs.Prices.{PriceLabels};
 
 fn wide(c: i32) -> i64
     ensures { λ r. ⌜ r ≡ c ⌝ }
@@ -209,7 +209,7 @@ pub fn prices(
     costs: &[i32],
     flow: &[u32],
 ) -> [i64; 64]
-    requires { ⌜ Relaxable (costGraph (now tails) (now heads) (now lows) (now ups) (now costs)) (now flow) × Settled (costGraph (now tails) (now heads) (now lows) (now ups) (now costs)) (now flow) ⌝ }
+    requires { ⌜ Relaxable (costGraph (now tails) (now heads) (now lows) (now ups) (now costs)) (now flow) × Settled (costGraph (now tails) (now heads) (now lows) (now ups) (now costs)) (now flow) 1 ⌝ }
     ensures { λ r. ⌜ PriceLabels (costGraph (now (tails .entry)) (now (heads .entry)) (now (lows .entry)) (now (ups .entry)) (now (costs .entry))) (now (flow .entry)) r ⌝ }
 {
     let mut least = [0i64; 64];

@@ -1,0 +1,70 @@
+// Cancelling negative cycles (Klein), those with much room first (capacity scaling), until there is none.
+ghost use Prim.Native.Nat.{_≤_, _<_};
+ghost use Rattle.search.specs.Labels.{costGraph, Relaxable};
+ghost use Rattle.search.specs.Search.{Settled};
+ghost use Rattle.cancelling.specs.Cancelling.{Rerouted, Cancels};
+
+// As much as there is room for, sent along a negative cycle that has room for `need`; false, and the same flow, if there is none.
+fn cancel(
+    tails: &[u8],
+    heads: &[u8],
+    lows: &[u32],
+    ups: &[u32],
+    costs: &[i32],
+    flow: &mut [u32],
+    need: u32,
+) -> bool
+    requires { ⌜ Relaxable (costGraph (now tails) (now heads) (now lows) (now ups) (now costs)) (now flow) × (0 < need) × (need ≤ 1000000) ⌝ }
+    ensures { λ r. ⌜ Cancels (costGraph (now (tails .entry)) (now (heads .entry)) (now (lows .entry)) (now (ups .entry)) (now (costs .entry))) (now (flow .entry)) (now (flow .exit)) need r ⌝ }
+{
+    let mut codes = [0usize; 64];
+    let len = search::find_cycle(tails, heads, lows, ups, costs, flow, need, &mut codes);
+    if len == 0 {
+        return false;
+    }
+    let d = paths::room(tails, lows, ups, flow, &codes, len, 1000000);
+    paths::push(tails, lows, ups, flow, &codes, len, d);
+    true
+}
+
+// Every negative cycle that has room for `need`, cancelled.
+fn cancel_all(
+    tails: &[u8],
+    heads: &[u8],
+    lows: &[u32],
+    ups: &[u32],
+    costs: &[i32],
+    flow: &mut [u32],
+    need: u32,
+)
+    requires { ⌜ Relaxable (costGraph (now tails) (now heads) (now lows) (now ups) (now costs)) (now flow) × (0 < need) × (need ≤ 1000000) ⌝ }
+    ensures { λ _. ⌜ Rerouted (costGraph (now (tails .entry)) (now (heads .entry)) (now (lows .entry)) (now (ups .entry)) (now (costs .entry))) (now (flow .entry)) (now (flow .exit)) × Settled (costGraph (now (tails .entry)) (now (heads .entry)) (now (lows .entry)) (now (ups .entry)) (now (costs .entry))) (now (flow .exit)) need ⌝ }
+{
+    loop {
+        if !cancel(tails, heads, lows, ups, costs, flow, need) {
+            return;
+        }
+    }
+}
+
+// A flow without a negative cycle, from any flow: those with room for 524,288 are cancelled first, then for half as much, down to 1.
+pub fn cheapen(
+    tails: &[u8],
+    heads: &[u8],
+    lows: &[u32],
+    ups: &[u32],
+    costs: &[i32],
+    flow: &mut [u32],
+)
+    requires { ⌜ Relaxable (costGraph (now tails) (now heads) (now lows) (now ups) (now costs)) (now flow) ⌝ }
+    ensures { λ _. ⌜ Rerouted (costGraph (now (tails .entry)) (now (heads .entry)) (now (lows .entry)) (now (ups .entry)) (now (costs .entry))) (now (flow .entry)) (now (flow .exit)) × Settled (costGraph (now (tails .entry)) (now (heads .entry)) (now (lows .entry)) (now (ups .entry)) (now (costs .entry))) (now (flow .exit)) 1 ⌝ }
+{
+    let mut need: u32 = 524288;
+    loop {
+        cancel_all(tails, heads, lows, ups, costs, flow, need);
+        if need == 1 {
+            return;
+        }
+        need = need / 2;
+    }
+}
