@@ -1,13 +1,14 @@
 -- Ranges of ℤ: |z| ≤ B, and the range of a width of the language.
-use mathlib.Core.Path.{_≡_}
+use mathlib.Core.Path.{_≡_, sym, ap, subst, _∙_}
 use mathlib.Core.Logic.{_↔_, _⊎_, inl, inr, ⊎-elim}
 use Prim.Native.Nat.{ℕ, _+_, _*_, _^_, _≤_, _<_, suc}
 use native.Mathlib.Omega.{arith}
 use native.Mathlib.Nat.{mul-le-mul-left, mul-le-mul-right}
 use lib.IntN.{ℤ, pos, negsuc, negℤ, _+ℤ_, _*ℤ_}
 use lib.Signed.{mag, _≤ℤ_, _<ℤ_}
-use mir.Syntax.{Width}
-use mir.Val.{SFits, hbits}
+use mir.Syntax.{Width, w32, w64}
+use mir.Val.{SFits, hbits, toZ, ofZ}
+use mir.Facts.{toZ-ofZ, toZ-pos, sfits-widen}
 use Rattle.laws.specs.Parts.{plus, minus, le→ℕ, ℕ→le, lt→ℕ, ℕ→lt, neg-plus, neg-minus, add-parts}
 use Rattle.laws.specs.Linear.{lin}
 use Rattle.laws.specs.Integers.{apart}
@@ -66,3 +67,14 @@ fits-iff w z = (
 
 -- `simp fits (omega arith)`: a statement on ranges, as a linear one
 pub ruleset fits = (fits-iff, bounded-iff, lin)
+
+-- a number of 32 bits in 64
+pub widens : {z : ℤ} → SFits w32 z → SFits w64 (toZ w32 (ofZ w32 z))
+widens f = subst (SFits w64) (sym (toZ-ofZ f)) (sfits-widen tt f)
+
+-- the test against 0 reads bits
+pub zero-of : {z : ℤ} → SFits w64 z → ofZ w64 z ≡ 0 → z ≡ pos 0
+zero-of f e = sym (toZ-ofZ f) ∙ ap (toZ w64) e ∙ toZ-pos w64 (omega arith)
+
+pub zero-bits : (z : ℤ) → z ≡ pos 0 → ofZ w64 z ≡ 0
+zero-bits z e = ap (ofZ w64) e

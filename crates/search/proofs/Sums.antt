@@ -1,9 +1,9 @@
 -- Sums of signed numbers as the code makes them.
 use mathlib.Core.Path.{_≡_, ap₂, sym, subst, _∙_}
 use lib.IntN.{ℤ, _+ℤ_}
-use mir.Syntax.{w32, w64}
+use mir.Syntax.{w64}
 use mir.Val.{SFits, toZ, ofZ}
-use mir.Facts.{toZ-ofZ, sfits-widen}
+use mir.Facts.{toZ-ofZ}
 
 module _ (a c : ℤ) (fa : SFits w64 a) (fc : SFits w64 c) where
   pub parts : toZ w64 (ofZ w64 a) +ℤ toZ w64 (ofZ w64 c) ≡ a +ℤ c
@@ -14,6 +14,3 @@ module _ (a c : ℤ) (fa : SFits w64 a) (fc : SFits w64 c) where
 
   pub sum-is : SFits w64 (a +ℤ c) → toZ w64 (ofZ w64 (toZ w64 (ofZ w64 a) +ℤ toZ w64 (ofZ w64 c))) ≡ a +ℤ c
   sum-is f = toZ-ofZ (sum-fits f) ∙ parts
-
-pub widens : {z : ℤ} → SFits w32 z → SFits w64 (toZ w32 (ofZ w32 z))
-widens f = subst (SFits w64) (sym (toZ-ofZ f)) (sfits-widen tt f)

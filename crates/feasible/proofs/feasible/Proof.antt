@@ -4,7 +4,7 @@ use lib.Seq.{length-take-le}
 use lib.IntN.{pos}
 use borrow.Author.Needs.{needs}
 use Rattle.feasible.proofs.Answer.{no-balance, all-free}
-use Rattle.feasible.proofs.Widths.{zero-of, zero-bits}
+use Rattle.laws.specs.Range.{zero-of, zero-bits}
 use Rattle.feasible.proofs.feasible.Statement.{statement}
 use Rattle.feasible.proofs.feasible.Tie as tie
 

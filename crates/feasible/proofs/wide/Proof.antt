@@ -1,7 +1,7 @@
 use mathlib.Core.Path.{_∙_}
 use mir.Syntax.{w64}
 use mir.Facts.{toZ-ofZ}
-use Rattle.feasible.proofs.Widths.{widens}
+use Rattle.laws.specs.Range.{widens}
 use Rattle.feasible.proofs.wide.Statement.{statement}
 use Rattle.feasible.proofs.wide.Tie as tie
 

@@ -1,6 +1,6 @@
 use mathlib.Core.Path.{_∙_}
 use mir.Facts.{toZ-ofZ}
-use Rattle.search.proofs.Sums.{widens}
+use Rattle.laws.specs.Range.{widens}
 use Rattle.search.proofs.wide.Statement.{statement}
 use Rattle.search.proofs.wide.Tie as tie
 

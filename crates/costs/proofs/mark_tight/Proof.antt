@@ -1,0 +1,125 @@
+use mathlib.Core.Path.{_≡_, sym, _∙_}
+use Prim.Native.Nat.{_-_, _≤_}
+use native.Mathlib.Omega.{arith}
+use lib.Dec.{eqb}
+use lib.ListN.{length, getD, length-set}
+use lib.IntN.{pos}
+use mir.Syntax.{w32, w64}
+use mir.Val.{toZ, ofZ}
+use mir.Facts.{toZ-ofZ}
+use borrow.Author.Needs.{needs}
+use borrow.Author.Tests.{eqb-true, eqb-false}
+use Rattle.laws.specs.Range.{zero-of, zero-bits}
+use Rattle.certificates.specs.Optimality.{reduced}
+use Rattle.costs.specs.Costs.{endsAndCosts, MarkedBelow}
+use Rattle.costs.proofs.Sizes.{marked-more, marked-all}
+use Rattle.costs.proofs.mark_tight.Statement.{statement}
+use Rattle.costs.proofs.mark_tight.Tie as tie
+
+abbrev Inv-loop : tie.InvT-loop
+Inv-loop tails heads costs prices marks₀ a₀ marks a = (a ≤ length tails) × (length marks ≡ length tails) × MarkedBelow (endsAndCosts tails heads costs) (λ v. getD prices v (pos 0)) marks a
+
+abbrev μ-loop : tie.MeasureT-loop
+μ-loop tails heads costs prices marks₀ a₀ marks a = length tails - a
+
+loop-holds : tie.Need-loop-holds Inv-loop μ-loop
+loop-holds c = (omega arith, c .before .before .before .pre .marks-len, record { marked = λ a h. absurd (omega arith); unmarked = λ a h. absurd (omega arith) })
+
+shared-slice-read-t : tie.Need-shared-slice-read-t Inv-loop μ-loop
+shared-slice-read-t c = search needs
+
+cast-t : tie.Need-cast-t Inv-loop μ-loop
+cast-t c = omega (arith, c .shared-slice-known3 .given (c .before .before .loop .a))
+
+shared-slice-read-h : tie.Need-shared-slice-read-h Inv-loop μ-loop
+shared-slice-read-h c = omega (arith, c .before .before .loop-test .taken, c .before .before .before .before .before .before .before .pre .heads-len)
+
+cast-h : tie.Need-cast-h Inv-loop μ-loop
+cast-h c = omega (arith, c .shared-slice-known4 .given (c .before .before .before .loop .a))
+
+mul-reduced : tie.Need-mul-reduced Inv-loop μ-loop
+mul-reduced c = search needs
+
+shared-slice-copy-out-reduced : tie.Need-shared-slice-copy-out-reduced Inv-loop μ-loop
+shared-slice-copy-out-reduced c = omega (arith, c .before .before .loop-test .taken, c .before .before .before .before .before .before .before .pre .costs-len)
+
+mul-reduced-2 : tie.Need-mul-reduced-2 Inv-loop μ-loop
+mul-reduced-2 c = record { fits = omega (arith, c .before .before .shared-slice-known3 .given (c .before .before .before .before .loop .a)) }
+
+shared-slice-copy-out-reduced-2 : tie.Need-shared-slice-copy-out-reduced-2 Inv-loop μ-loop
+shared-slice-copy-out-reduced-2 c = c .before .before .before .before .before .before .before .before .pre .tail-in (c .before .before .before .before .loop .a) (c .before .before .before .loop-test .taken)
+
+mul-reduced-3 : tie.Need-mul-reduced-3 Inv-loop μ-loop
+mul-reduced-3 c = record { fits = omega (arith, c .before .before .shared-slice-known4 .given (c .before .before .before .before .before .loop .a)) }
+
+shared-slice-copy-out-reduced-3 : tie.Need-shared-slice-copy-out-reduced-3 Inv-loop μ-loop
+shared-slice-copy-out-reduced-3 c = c .before .before .before .before .before .before .before .before .before .pre .head-in (c .before .before .before .before .before .loop .a) (c .before .before .before .before .loop-test .taken)
+
+cost-is : (c : tie.After-reduced-arg3 Inv-loop μ-loop) → toZ w32 (ofZ w32 (getD (c .before .before .before .before .before .before .before .before .before .before .args .costs .now) (c .before .before .before .before .before .before .loop .a) (pos 0))) ≡ getD (c .before .before .before .before .before .before .before .before .before .before .args .costs .now) (c .before .before .before .before .before .before .loop .a) (pos 0)
+cost-is c = toZ-ofZ (search needs)
+
+tail-price : (c : tie.After-reduced-arg3 Inv-loop μ-loop) → toZ w64 (ofZ w64 (getD (c .before .before .before .before .before .before .before .before .before .before .args .prices .now) (getD (c .before .before .before .before .before .before .before .before .before .before .args .tails .now) (c .before .before .before .before .before .before .loop .a) 0) (pos 0))) ≡ getD (c .before .before .before .before .before .before .before .before .before .before .args .prices .now) (getD (c .before .before .before .before .before .before .before .before .before .before .args .tails .now) (c .before .before .before .before .before .before .loop .a) 0) (pos 0)
+tail-price c = toZ-ofZ (search needs)
+
+head-price : (c : tie.After-reduced-arg3 Inv-loop μ-loop) → toZ w64 (ofZ w64 (getD (c .before .before .before .before .before .before .before .before .before .before .args .prices .now) (getD (c .before .before .before .before .before .before .before .before .before .before .args .heads .now) (c .before .before .before .before .before .before .loop .a) 0) (pos 0))) ≡ getD (c .before .before .before .before .before .before .before .before .before .before .args .prices .now) (getD (c .before .before .before .before .before .before .before .before .before .before .args .heads .now) (c .before .before .before .before .before .before .loop .a) 0) (pos 0)
+head-price c = toZ-ofZ (search needs)
+
+reduced-requires : tie.Need-reduced-requires Inv-loop μ-loop
+reduced-requires c κs =
+    let s = c .before .before .before .before .before .before .before .before .before .before .pre in
+    let a = c .before .before .before .before .before .before .loop .a in
+    let l = c .before .before .before .before .before .loop-test .taken in
+    rw (cost-is c, tail-price c, head-price c) (s .cost-small a l, s .price-small _ (s .tail-in a l), s .price-small _ (s .head-in a l))
+
+-- what the function answers is the reduced cost
+is : (c : tie.After-reduced Inv-loop μ-loop) → c .reduced .result ≡ reduced (endsAndCosts (c .before .before .before .before .before .before .before .before .before .before .before .args .tails .now) (c .before .before .before .before .before .before .before .before .before .before .before .args .heads .now) (c .before .before .before .before .before .before .before .before .before .before .before .args .costs .now)) (λ v. getD (c .before .before .before .before .before .before .before .before .before .before .before .args .prices .now) v (pos 0)) (c .before .before .before .before .before .before .before .loop .a)
+is c = c .reduced .ensures ∙ rw (cost-is (c .before), tail-price (c .before), head-price (c .before))
+
+slice-write-marks : tie.Need-slice-write-marks Inv-loop μ-loop
+slice-write-marks c = omega (arith, c .before .before .before .before .before .before .loop-test .taken, c .before .before .before .before .before .before .before .loop .inv .1)
+
+add-a : tie.Need-add-a Inv-loop μ-loop
+add-a c = search needs
+
+loop-less : tie.Need-loop-less Inv-loop μ-loop
+loop-less c = omega (arith, c .before .before .before .before .before .before .loop-test .taken)
+
+loop-again : tie.Need-loop-again Inv-loop μ-loop
+loop-again c = (
+  omega (arith, c .before .before .before .before .before .before .loop-test .taken),
+  length-set (c .before .before .before .before .before .before .before .loop .marks) (c .before .before .before .before .before .before .before .loop .a) (eqb (ofZ w64 (c .reduced .result)) 0) ∙ c .before .before .before .before .before .before .before .loop .inv .1,
+  marked-more _ _ (c .before .before .before .before .before .before .before .loop .marks) (c .before .before .before .before .before .before .before .loop .a) _ (omega (arith, c .before .before .before .before .before .before .loop-test .taken, c .before .before .before .before .before .before .before .loop .inv .1)) (c .before .before .before .before .before .before .before .loop .inv .2)
+      (λ e. sym (is c) ∙ zero-of (record { sfits = c .reduced .ok }) (eqb-true _ 0 e))
+      (λ e z. eqb-false _ 0 e (zero-bits _ (is c ∙ z))),
+)
+
+same-length : tie.Need-same-length Inv-loop μ-loop
+same-length c = c .before .loop .inv .1 ∙ sym (c .before .before .before .before .before .pre .marks-len)
+
+returns : tie.Need-returns Inv-loop μ-loop
+returns c = let e : c .before .loop .a ≡ length (c .before .before .before .before .before .args .tails .now) = omega (arith, c .before .loop .inv .0, c .loop-test .left) in marked-all e (c .before .loop .inv .2)
+
+pub mark-tight-spec : {M : Type 1} → statement M
+mark-tight-spec =
+    tie.close
+    (tie.spec
+    Inv-loop
+    μ-loop
+    loop-holds
+    shared-slice-read-t
+    cast-t
+    shared-slice-read-h
+    cast-h
+    mul-reduced
+    shared-slice-copy-out-reduced
+    mul-reduced-2
+    shared-slice-copy-out-reduced-2
+    mul-reduced-3
+    shared-slice-copy-out-reduced-3
+    reduced-requires
+    slice-write-marks
+    add-a
+    loop-less
+    loop-again
+    same-length
+    returns)

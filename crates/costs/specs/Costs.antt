@@ -1,0 +1,41 @@
+-- What a flow costs, and the tight arcs: those of reduced cost 0.
+use mathlib.Core.Path.{_≡_}
+use mathlib.Core.Logic.{_≢_}
+use mathlib.Core.Bool.{Bool, true, false}
+use mathlib.Core.List.{List, []}
+use Prim.Native.Nat.{ℕ, _≤_, _<_}
+use lib.ListN.{length, getD}
+use lib.IntN.{ℤ, pos, _*ℤ_}
+use Rattle.laws.specs.Range.{Bounded}
+use Rattle.network.specs.Network.{Net}
+use Rattle.certificates.specs.Optimality.{reduced}
+
+-- cost and number of each arc, small enough for their sum
+pub record SmallCosts (c : List ℤ) (f : List ℕ) : Type 0 where
+  pub few : length c ≤ 512
+  pub flow-len : length f ≡ length c
+  pub cost-small : (a : ℕ) → a < length c → Bounded 1000000 (getD c a (pos 0))
+  pub flow-small : (a : ℕ) → a < length c → getD f a 0 ≤ 1000000
+
+-- what one arc adds to the cost
+abbrev pub term : List ℤ → List ℕ → ℕ → ℤ
+term c f a = getD c a (pos 0) *ℤ pos (getD f a 0)
+
+-- the network of which the marks read ends and costs
+abbrev pub endsAndCosts : List ℕ → List ℕ → List ℤ → Net
+endsAndCosts t h c = record { balances = []; tails = t; heads = h; lows = []; ups = []; costs = c }
+
+-- a price for each node that an arc joins, and small numbers
+pub record SmallPrices (t h : List ℕ) (c p : List ℤ) (marks : List Bool) : Type 0 where
+  pub heads-len : length h ≡ length t
+  pub costs-len : length c ≡ length t
+  pub marks-len : length marks ≡ length t
+  pub tail-in : (a : ℕ) → a < length t → getD t a 0 < length p
+  pub head-in : (a : ℕ) → a < length t → getD h a 0 < length p
+  pub cost-small : (a : ℕ) → a < length t → Bounded 1000000 (getD c a (pos 0))
+  pub price-small : (v : ℕ) → v < length p → Bounded 1000000000000 (getD p v (pos 0))
+
+-- the arcs below k are marked as they are: tight, or not
+pub record MarkedBelow (N : Net) (π : ℕ → ℤ) (marks : List Bool) (k : ℕ) : Type 0 where
+  pub marked : (a : ℕ) → a < k → getD marks a false ≡ true → reduced N π a ≡ pos 0
+  pub unmarked : (a : ℕ) → a < k → getD marks a false ≡ false → reduced N π a ≢ pos 0

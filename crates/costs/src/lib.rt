@@ -1,0 +1,54 @@
+// What a flow costs, and the tight arcs: those of reduced cost 0.
+ghost use mathlib.Core.Path.{_≡_};
+ghost use Prim.Native.Nat.{_≤_};
+ghost use lib.ListN.{length, getD};
+ghost use lib.IntN.{pos, _*ℤ_, _+ℤ_, _-ℤ_};
+ghost use Rattle.laws.specs.Range.{Bounded};
+ghost use Rattle.laws.specs.Sum.{sum};
+ghost use Rattle.costs.specs.Costs.{SmallCosts, term, endsAndCosts, SmallPrices, MarkedBelow};
+
+// c for each of x units.
+fn product(c: i32, x: u32) -> i64
+    requires { ⌜ Bounded 1000000 c × (x ≤ 1000000) ⌝ }
+    ensures { λ r. ⌜ r ≡ c *ℤ pos x ⌝ }
+{
+    (c as i64) * (x as i64)
+}
+
+// The cost of a flow.
+pub fn cost_of(costs: &[i32], flow: &[u32]) -> i64
+    requires { ⌜ SmallCosts (now costs) (now flow) ⌝ }
+    ensures { λ r. ⌜ r ≡ sum (length (now (costs .entry))) (term (now (costs .entry)) (now (flow .entry))) ⌝ }
+{
+    let mut sum: i64 = 0;
+    let mut a = 0;
+    while a < costs.len() {
+        let x = flow[a];
+        sum += product(costs[a], x);
+        a += 1;
+    }
+    sum
+}
+
+// Cost c and prices p at the tail and q at the head: the reduced cost.
+fn reduced(c: i32, p: i64, q: i64) -> i64
+    requires { ⌜ Bounded 1000000 c × Bounded 1000000000000 p × Bounded 1000000000000 q ⌝ }
+    ensures { λ r. ⌜ r ≡ (c +ℤ p) -ℤ q ⌝ }
+{
+    (c as i64) + p - q
+}
+
+// Marks the arcs of reduced cost 0.
+pub fn mark_tight(tails: &[u8], heads: &[u8], costs: &[i32], prices: &[i64], marks: &mut [bool])
+    requires { ⌜ SmallPrices (now tails) (now heads) (now costs) (now prices) (now marks) ⌝ }
+    ensures { λ _. ⌜ MarkedBelow (endsAndCosts (now (tails .entry)) (now (heads .entry)) (now (costs .entry))) (λ v. getD (now (prices .entry)) v (pos 0)) (now (marks .exit)) (length (now (tails .entry))) ⌝ }
+{
+    let mut a = 0;
+    while a < tails.len() {
+        let t = tails[a] as usize;
+        let h = heads[a] as usize;
+        let r = reduced(costs[a], prices[t], prices[h]);
+        marks[a] = r == 0;
+        a += 1;
+    }
+}
