@@ -2,15 +2,13 @@
 use mathlib.Core.Path.{_≡_, refl, sym, ap, subst, _∙_}
 use mathlib.Core.Logic.{_≢_}
 use mathlib.Core.Bool.{Bool, true, false}
-use mathlib.Core.List.{List, [], _∷_, map}
-use Prim.Native.Nat.{ℕ, _+_, _/_, _%_, _≤_, _<_}
+use mathlib.Core.List.{List, [], _∷_}
+use Prim.Native.Nat.{ℕ, _+_, _≤_, _<_}
 use native.Mathlib.Omega.{arith}
-use lib.Dec.{eqb}
-use lib.ListN.{length, getD, take}
+use lib.ListN.{length, take}
 use lib.IntN.{ℤ, pos, negℤ, _+ℤ_, _-ℤ_, _*ℤ_}
 use lib.Signed.{_<ℤ_}
-use borrow.Author.Tests.{ltb-true}
-use Rattle.laws.specs.Ascending.{Distinct}
+use Rattle.laws.specs.Ascending.{Distinct, distinct-of}
 use Rattle.laws.specs.Divergence.{at}
 use Rattle.laws.specs.Integers.{*-nonneg, plus-lt}
 use Rattle.laws.specs.Linear.{lin, ring, given, given3}
@@ -18,14 +16,14 @@ use Rattle.laws.specs.Members.{Every, every-map2}
 use Rattle.laws.specs.Parts.{plus}
 use Rattle.laws.specs.Range.{Bounded, bounded-mul, bounded-more, fits}
 use Rattle.laws.specs.Sum.{sum-within}
-use Rattle.network.specs.Network.{Net, arcs, low, up, cost, on, netOut, costOf}
-use Rattle.network.specs.Residual.{codes, usable, src, dst, stepCost, Walk, walkCost}
+use Rattle.network.specs.Network.{Net, arcs, up, cost, on, netOut, costOf}
+use Rattle.network.specs.Residual.{codes, src, dst, stepCost, Walk, walkCost}
 use Rattle.certificates.specs.Push.{pushAll, Fits, roomOf, InBounds, room-fits, Trail, trailCost, all-bounds, all-netOut, all-cost}
 use Rattle.search.specs.Labels.{costGraph, Relaxable}
 use Rattle.search.specs.Search.{Settled, NegativeCycle, Searched, found, none}
 use Rattle.paths.specs.Graph.{graph}
 use Rattle.paths.specs.Pushing.{SmallBounds, roomAll, Pushable}
-use Rattle.paths.proofs.LeastRoom.{room-each, room-pos, way-codes}
+use Rattle.paths.proofs.LeastRoom.{room-each, room-pos, way-codes, usable-room}
 use Rattle.cancelling.specs.Cancelling.{Rerouted, Cancels}
 
 -- ---- a residual cycle is a closed trail of codes that differ
@@ -36,23 +34,6 @@ walk-trail N f u v (c ∷ cs) w = (w .0, w .2, walk-trail N f u (src N c) cs (w 
 walk-cost : (N : Net) (cs : List ℕ) → walkCost N cs ≡ trailCost N cs
 walk-cost N [] = refl
 walk-cost N (c ∷ cs) = ap (λ z. stepCost N c +ℤ z) (walk-cost N cs)
-
--- codes that come to different nodes differ
-apart-codes : (d : ℕ → ℕ) (c : ℕ) (cs : List ℕ) → Every (λ y. ¬ (y ≡ d c)) (map d cs) → Every (λ x. ¬ (x ≡ c)) cs
-apart-codes d c [] e = tt
-apart-codes d c (x ∷ cs) e = ((λ q. e .0 (ap d q)), apart-codes d c cs (e .1))
-
-distinct-codes : (d : ℕ → ℕ) (cs : List ℕ) → Distinct (map d cs) → Distinct cs
-distinct-codes d [] h = tt
-distinct-codes d (c ∷ cs) h = (apart-codes d c cs (h .0), distinct-codes d cs (h .1))
-
--- a usable code has room
-usable-room : (N : Net) (f : List ℕ) (c : ℕ) → usable N f c ≡ true → 0 < roomOf N f c
-usable-room N f c u = go (eqb (c % 2) 0) refl
-  where
-    go : (b : Bool) → eqb (c % 2) 0 ≡ b → 0 < roomOf N f c
-    go true e = rw e (let h = ltb-true (getD f (c / 2) 0) (up N (c / 2)) (rw e at u) in omega arith)
-    go false e = rw e (let h = ltb-true (low N (c / 2)) (getD f (c / 2) 0) (rw e at u) in omega arith)
 
 walk-room : (N : Net) (f : List ℕ) (u v : ℕ) (cs : List ℕ) → Walk N f u v cs → Every (λ c. 0 < roomOf N f c) cs
 walk-room N f u v [] w = tt
@@ -68,7 +49,7 @@ module _ (N : Net) (f : List ℕ) (b : InBounds N f) (δ : ℕ) (cs : List ℕ) 
   trail = walk-trail N f (C .cycle .node) (C .cycle .node) cs (C .cycle .closed)
 
   differ : Distinct cs
-  differ = distinct-codes (dst N) cs (C .cycle .simple)
+  differ = distinct-of (dst N) cs (C .cycle .simple)
 
   all-fit : Every (Fits N d f) cs
   all-fit =
@@ -115,7 +96,7 @@ module _ (t h l u : List ℕ) (k : List ℤ) (f : List ℕ) (ok : Relaxable (cos
   able δ cs C d e = record {
     bounds = bounds-of;
     codes-in = codes-of δ cs C;
-    distinct = distinct-codes (dst (costGraph t h l u k)) cs (C .cycle .simple);
+    distinct = distinct-of (dst (costGraph t h l u k)) cs (C .cycle .simple);
     fits = every-map2 (λ c. c < length t + length t) (λ c. d ≤ roomOf (graph t t l u) f c) (Fits (graph t t l u) d f) cs (λ c i r. room-fits (graph t t l u) f d c bounds-of i r)
         (codes-of δ cs C) (rw e (room-each (graph t t l u) f 1000000 cs));
   }

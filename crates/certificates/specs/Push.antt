@@ -11,11 +11,11 @@ use lib.ListN.{length, getD, set, length-set}
 use lib.Seq.{getD-set-same, getD-set-other}
 use lib.IntN.{ℤ, pos, negℤ, _+ℤ_, _-ℤ_, _*ℤ_}
 use lib.Signed.{_≤ℤ_}
-use Rattle.laws.specs.Ascending.{Ascending}
+use Rattle.laws.specs.Ascending.{Distinct}
 use Rattle.laws.specs.Divergence.{at, at-same, at-other, ends}
 use Rattle.laws.specs.Equality.{test-same, test-differ}
 use Rattle.laws.specs.Linear.{lin, ring, given, given2, given3}
-use Rattle.laws.specs.Members.{Every}
+use Rattle.laws.specs.Members.{Every, every-map2}
 use Rattle.laws.specs.Sum.{sum-change}
 use Rattle.network.specs.Network.{Net, arcs, tail, head, low, up, cost, balance, on, netOut, IsFlow, costOf, LeastCost}
 use Rattle.network.specs.Residual.{either, src, dst, stepCost}
@@ -197,24 +197,16 @@ Way hi sr ds u v (c ∷ cs) = (c < hi) × (ds c ≡ v) × Way hi sr ds u (sr c) 
 abbrev pub Trail : Net → ℕ → ℕ → List ℕ → Type 0
 Trail N u v cs = Way (arcs N + arcs N) (src N) (dst N) u v cs
 
--- no code stands twice
-abbrev pub Distinct : List ℕ → Type 0
-Distinct cs = Ascending (λ c d. d ≢ c) cs
-
 abbrev pub trailCost : Net → List ℕ → ℤ
 trailCost N [] = pos 0
 trailCost N (c ∷ cs) = stepCost N c +ℤ trailCost N cs
-
-every-map : {P Q : ℕ → Type 0} (l : List ℕ) (R : ℕ → Type 0) → ((a : ℕ) → R a → P a → Q a) → Every R l → Every P l → Every Q l
-every-map [] R g r e = tt
-every-map (a ∷ l) R g r e = (g a (r .0) (e .0), every-map l R g (r .1) (e .1))
 
 module _ (N : Net) (δ : ℕ) where
   pub all-bounds : (cs : List ℕ) (f : List ℕ) (u v : ℕ) → InBounds N f → Trail N u v cs → Distinct cs → Every (Fits N δ f) cs → InBounds N (pushAll δ cs f)
   all-bounds [] f u v b t d h = b
   all-bounds (c ∷ cs) f u v b t d h =
       all-bounds cs (pushOne δ c f) u (src N c) (one-bounds N δ f c b (t .0) (h .0)) (t .2) (d .1)
-      (every-map cs (λ x. x ≢ c) (one-fits N δ f c b (t .0) (h .0)) (d .0) (h .1))
+      (every-map2 (λ x. x ≢ c) (Fits N δ f) (Fits N δ (pushOne δ c f)) cs (one-fits N δ f c b (t .0) (h .0)) (d .0) (h .1))
 
   pub all-netOut : (cs : List ℕ) (f : List ℕ) (u v w : ℕ) → InBounds N f → Trail N u v cs → Distinct cs → Every (Fits N δ f) cs
       → netOut N (pushAll δ cs f) w ≡ netOut N f w +ℤ (at u w (pos δ) -ℤ at v w (pos δ))
@@ -225,7 +217,7 @@ module _ (N : Net) (δ : ℕ) where
   all-netOut (c ∷ cs) f u v w b t d h =
       chain (netOut N (pushAll δ cs (pushOne δ c f)) w) (netOut N (pushOne δ c f) w) (netOut N f w) (at u w (pos δ)) (at (src N c) w (pos δ)) (at (dst N c) w (pos δ)) (at v w (pos δ))
       (all-netOut cs (pushOne δ c f) u (src N c) w (one-bounds N δ f c b (t .0) (h .0)) (t .2) (d .1)
-      (every-map cs (λ x. x ≢ c) (one-fits N δ f c b (t .0) (h .0)) (d .0) (h .1)))
+      (every-map2 (λ x. x ≢ c) (Fits N δ f) (Fits N δ (pushOne δ c f)) cs (one-fits N δ f c b (t .0) (h .0)) (d .0) (h .1)))
       (one-netOut N δ f c b (t .0) (h .0) w)
       (ap (λ i. at i w (pos δ)) (t .1))
     where
@@ -241,7 +233,7 @@ module _ (N : Net) (δ : ℕ) where
   all-cost (c ∷ cs) f u v b t d h =
       chain (costOf N (pushAll δ cs (pushOne δ c f))) (costOf N (pushOne δ c f)) (costOf N f) (trailCost N cs) (stepCost N c) (pos δ)
       (all-cost cs (pushOne δ c f) u (src N c) (one-bounds N δ f c b (t .0) (h .0)) (t .2) (d .1)
-      (every-map cs (λ x. x ≢ c) (one-fits N δ f c b (t .0) (h .0)) (d .0) (h .1)))
+      (every-map2 (λ x. x ≢ c) (Fits N δ f) (Fits N δ (pushOne δ c f)) cs (one-fits N δ f c b (t .0) (h .0)) (d .0) (h .1)))
       (one-cost N δ f c b (t .0) (h .0))
     where
       chain : (x y z t s d : ℤ) → x ≡ y +ℤ t *ℤ d → y ≡ z +ℤ s *ℤ d → x ≡ z +ℤ (s +ℤ t) *ℤ d

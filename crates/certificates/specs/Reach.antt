@@ -11,8 +11,11 @@ use lib.Dec.{eqb, ltb}
 use borrow.Author.Tests.{ltb-true, eqb-true}
 use lib.ListN.{length, getD, set, length-set}
 use lib.Seq.{getD-set-same, getD-set-other}
-use Rattle.laws.specs.Members.{Every}
-use Rattle.certificates.specs.Push.{Way, Distinct}
+use Rattle.laws.specs.Ascending.{Distinct}
+use Rattle.laws.specs.Members.{Every, every-map}
+use Rattle.laws.specs.Store.{set-cases}
+use Rattle.laws.specs.Tests.{and-true}
+use Rattle.certificates.specs.Push.{Way}
 
 -- how many numbers of a list are not 0
 abbrev pub filled : List ℕ → ℕ
@@ -71,18 +74,6 @@ pub record Spread (on : Bool) (rank via : List ℕ) (count u v c : ℕ) (rank′
   pub vias : via′ ≡ cond (hit on rank u v) (set via v c) via
   pub counts : r ≡ cond (hit on rank u v) (suc count) count
 
-and-true : (p q : Bool) → p && q ≡ true → (p ≡ true) × (q ≡ true)
-and-true true q e = (refl, e)
-and-true false q e = absurd (let z : _≡_ {A = ℕ} 0 1 = cc in omega arith)
-
--- a number of a list after one is set, by cases
-at-set : (l : List ℕ) (i y : ℕ) (P : ℕ → ℕ → Type 0) → i < length l → P i y → ((v : ℕ) → v ≢ i → P v (getD l v 0)) → (v : ℕ) → P v (getD (set l i y) v 0)
-at-set l i y P h here other v = go (ℕ-discrete v i)
-  where
-    go : Dec (v ≡ i) → P v (getD (set l i y) v 0)
-    go (yes q) = rw (q, getD-set-same l i y 0 h) here
-    go (no q) = rw (getD-set-other l i v y 0 q) (other v q)
-
 module _ (n lo hi : ℕ) (sr ds : ℕ → ℕ) (go : ℕ → Bool) (s : ℕ) where
   tree-hit : (rank via : List ℕ) (count c : ℕ) → Tree n lo hi sr ds go s rank via count → lo ≤ c → c < hi → sr c < n → ds c < n
       → go c ≡ true → 0 < getD rank (sr c) 0 → getD rank (ds c) 0 ≡ 0
@@ -92,8 +83,8 @@ module _ (n lo hi : ℕ) (sr ds : ℕ → ℕ) (go : ℕ → Bool) (s : ℕ) whe
     via-len = length-set via v c ∙ t .via-len;
     size = filled-set rank v count in-rank rv ∙ ap suc (t .size);
     root = getD-set-other rank v s (suc count) 0 (λ q. omega (arith, t .root, ap (λ i. getD rank i 0) q)) ∙ t .root;
-    only-root = λ w l. at-set rank v (suc count) (λ i x. i < n → x ≡ 1 → i ≡ s) in-rank (λ _ e. absurd (omega (arith, t .small (sr c) us))) (λ i _. t .only-root i) w l;
-    small = λ w l. at-set rank v (suc count) (λ i x. i < n → x ≤ suc count) in-rank (λ _. omega arith) (λ i _ m. omega (arith, t .small i m)) w l;
+    only-root = λ w l. set-cases (λ i x. i < n → x ≡ 1 → i ≡ s) rank v (suc count) 0 in-rank (λ _ e. absurd (omega (arith, t .small (sr c) us))) (λ i _. t .only-root i) w l;
+    small = λ w l. set-cases (λ i x. i < n → x ≤ suc count) rank v (suc count) 0 in-rank (λ _. omega arith) (λ i _ m. omega (arith, t .small i m)) w l;
     led = λ w l. cases w l (ℕ-discrete w v);
   }
     where
@@ -189,9 +180,9 @@ module _ (n lo hi : ℕ) (sr ds : ℕ → ℕ) (go : ℕ → Bool) (s : ℕ) whe
     via-len = vl;
     size = filled-set zeros s 0 (omega arith) (z s (omega arith)) ∙ ap suc (filled-none zeros z);
     root = getD-set-same zeros s 1 0 (omega arith);
-    only-root = λ w l. at-set zeros s 1 (λ i x. i < n → x ≡ 1 → i ≡ s) (omega arith) (λ _ _. refl) (λ i _ m e. absurd (omega (arith, z i (omega arith)))) w l;
-    small = λ w l. at-set zeros s 1 (λ i x. i < n → x ≤ 1) (omega arith) (λ _. omega arith) (λ i _ m. omega (arith, z i (omega arith))) w l;
-    led = λ w l more. absurd (at-set zeros s 1 (λ i x. i < n → ¬ (1 < x)) (omega arith) (λ _ k. omega arith) (λ i _ m k. omega (arith, z i (omega arith))) w l more);
+    only-root = λ w l. set-cases (λ i x. i < n → x ≡ 1 → i ≡ s) zeros s 1 0 (omega arith) (λ _ _. refl) (λ i _ m e. absurd (omega (arith, z i (omega arith)))) w l;
+    small = λ w l. set-cases (λ i x. i < n → x ≤ 1) zeros s 1 0 (omega arith) (λ _. omega arith) (λ i _ m. omega (arith, z i (omega arith))) w l;
+    led = λ w l more. absurd (set-cases (λ i x. i < n → ¬ (1 < x)) zeros s 1 0 (omega arith) (λ _ k. omega arith) (λ i _ m k. omega (arith, z i (omega arith))) w l more);
   }
 
   -- what reach gives: t was reached, or no step leads out of the set
@@ -210,10 +201,6 @@ module _ (n lo hi : ℕ) (sr ds : ℕ → ℕ) (go : ℕ → Bool) (s : ℕ) whe
   every-snoc : (P : ℕ → Type 0) (cs : List ℕ) (c : ℕ) → Every P cs → P c → Every P (cs ++ (c ∷ []))
   every-snoc P [] c e p = (p, tt)
   every-snoc P (d ∷ cs) c e p = (e .0, every-snoc P cs c (e .1) p)
-
-  every-map : (P Q : ℕ → Type 0) (cs : List ℕ) → ((c : ℕ) → P c → Q c) → Every P cs → Every Q cs
-  every-map P Q [] g e = tt
-  every-map P Q (c ∷ cs) g e = (g c (e .0), every-map P Q cs g (e .1))
 
   way-snoc : (cs : List ℕ) (c v t : ℕ) → Way hi sr ds v t cs → c < hi → ds c ≡ v → Way hi sr ds (sr c) t (cs ++ (c ∷ []))
   way-snoc [] c v t w l e = (l, e ∙ w, refl)

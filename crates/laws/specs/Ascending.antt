@@ -2,7 +2,7 @@
 -- the member after a member.
 use mathlib.Core.Path.{_≡_, refl, sym, ap, subst, _∙_}
 use mathlib.Core.Logic.{_⊎_, inl, inr}
-use mathlib.Core.List.{List, [], _∷_, _++_}
+use mathlib.Core.List.{List, [], _∷_, _++_, map}
 use mathlib.Core.Option.{none, some}
 use mathlib.Core.Bool.{Bool, true, false}
 use Prim.Native.Nat.{zero, suc}
@@ -16,6 +16,16 @@ Ascending R (a ∷ l) = Every (R a) l × Ascending R l
 -- no member stands twice
 abbrev pub Distinct : {A : Type 0} → List A → Type 0
 Distinct l = Ascending (λ a b. ¬ (b ≡ a)) l
+
+-- what has distinct images is distinct
+module _ {A B : Type 0} (f : A → B) where
+  apart-of : (a : A) (l : List A) → Every (λ y. ¬ (y ≡ f a)) (map f l) → Every (λ x. ¬ (x ≡ a)) l
+  apart-of a [] e = tt
+  apart-of a (x ∷ l) e = ((λ q. e .0 (ap f q)), apart-of a l (e .1))
+
+  pub distinct-of : (l : List A) → Distinct (map f l) → Distinct l
+  distinct-of [] h = tt
+  distinct-of (a ∷ l) h = (apart-of a l (h .0), distinct-of l (h .1))
 
 module _ {A : Type 0} where
   ascending-keepIf : (R : A → A → Type 0) (t : Bool) (b : A) (k : List A) → Every (R b) k → Ascending R k → Ascending R (keepIf t b k)

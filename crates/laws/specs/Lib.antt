@@ -17,8 +17,8 @@ pub mod Within
 pub mod Suffix
 pub mod Snoc
 pub mod Tabulate
-pub mod Padded
 pub mod Store
+pub mod Padded
 pub mod Run
 pub mod Seen
 pub mod Count

@@ -4,10 +4,10 @@ use mathlib.Core.List.{List, _∷_, _++_, map}
 use Prim.Native.Nat.{ℕ, suc, _+_, _-_, _≤_, _<_}
 use native.Mathlib.Numerals.{add-one}
 use native.Mathlib.Omega.{arith}
-use native.Mathlib.Decide.{ℕ-discrete}
 use lib.ListN.{length, getD, take, set, replicate, length-append, length-map, length-replicate}
-use lib.Seq.{append-snoc, take-suc, take-length, length-take-le, take-at, set-at, getD-set-same, getD-set-other}
+use lib.Seq.{append-snoc, take-suc, take-length, length-take-le, take-at, set-at}
 use Rattle.laws.specs.Snoc.{map-more}
+use Rattle.laws.specs.Store.{set-cases}
 
 abbrev pub padded : {A : Type 0} → ℕ → A → List A → List A
 padded k d l = l ++ replicate (k - length l) d
@@ -54,8 +54,4 @@ module _ {A B : Type 0} (f : A → B) (l : List A) (k : ℕ) (d : B) where
 -- what holds of the first i members holds of one more, once it is set
 pub set-more : {A : Type 0} (P : ℕ → A → Type 0) (l : List A) (i : ℕ) (a d : A) → i < length l → ((k : ℕ) → k < i → P k (getD l k d)) → P i a
     → (k : ℕ) → k < i + 1 → P k (getD (set l i a) k d)
-set-more P l i a d h all here k m = go (ℕ-discrete k i)
-  where
-    go : Dec (k ≡ i) → P k (getD (set l i a) k d)
-    go (yes q) = rw (q, getD-set-same l i a d h) here
-    go (no q) = rw (getD-set-other l i k a d q) (all k (omega arith))
+set-more P l i a d h all here k m = set-cases (λ j x. j < i + 1 → P j x) l i a d h (λ _. here) (λ j q s. all j (omega arith)) k m

@@ -27,12 +27,15 @@ pub room-pos : (N : Net) (f : List ℕ) (cap : ℕ) (cs : List ℕ) → 0 < cap 
 room-pos N f cap [] h e = h
 room-pos N f cap (c ∷ cs) h e = room-pos N f (min cap (roomOf N f c)) cs (omega (arith, e .0)) (e .1)
 
-pub goes-room : (N : Net) (f : List ℕ) (free : List Bool) (c : ℕ) → goes N f free c ≡ true → 0 < roomOf N f c
-goes-room N f free c g = go (eqb (c % 2) 0) refl (and-true (getD free (c / 2) false) (usable N f c) g .1)
+pub usable-room : (N : Net) (f : List ℕ) (c : ℕ) → usable N f c ≡ true → 0 < roomOf N f c
+usable-room N f c u = go (eqb (c % 2) 0) refl
   where
-    go : (b : Bool) → eqb (c % 2) 0 ≡ b → usable N f c ≡ true → 0 < roomOf N f c
-    go true e u = rw e (let h = ltb-true (getD f (c / 2) 0) (up N (c / 2)) (rw e at u) in omega arith)
-    go false e u = rw e (let h = ltb-true (low N (c / 2)) (getD f (c / 2) 0) (rw e at u) in omega arith)
+    go : (b : Bool) → eqb (c % 2) 0 ≡ b → 0 < roomOf N f c
+    go true e = rw e (let h = ltb-true (getD f (c / 2) 0) (up N (c / 2)) (rw e at u) in omega arith)
+    go false e = rw e (let h = ltb-true (low N (c / 2)) (getD f (c / 2) 0) (rw e at u) in omega arith)
+
+pub goes-room : (N : Net) (f : List ℕ) (free : List Bool) (c : ℕ) → goes N f free c ≡ true → 0 < roomOf N f c
+goes-room N f free c g = usable-room N f c (and-true (getD free (c / 2) false) (usable N f c) g .1)
 
 pub way-codes : (hi : ℕ) (sr ds : ℕ → ℕ) (s t : ℕ) (cs : List ℕ) → Way hi sr ds s t cs → Every (λ c. c < hi) cs
 way-codes hi sr ds s t [] w = tt
