@@ -1,11 +1,11 @@
 -- That products, sums of costs and reduced costs fit in 64 bits; and the marks, arc by arc.
-use mathlib.Core.Path.{_≡_, subst}
+use mathlib.Core.Path.{_≡_, subst, _∙_}
 use mathlib.Core.Logic.{_≢_}
 use mathlib.Core.Bool.{Bool, true, false}
 use mathlib.Core.List.{List}
 use Prim.Native.Nat.{ℕ, _+_, _*_, _≤_, _<_}
 use native.Mathlib.Omega.{arith}
-use lib.ListN.{length, getD, set}
+use lib.ListN.{length, getD, set, length-set}
 use lib.IntN.{ℤ, pos, _+ℤ_, _-ℤ_, _*ℤ_}
 use mir.Syntax.{w64}
 use mir.Val.{SFits}
@@ -41,12 +41,15 @@ more-fits c f a x y s h p q =
     each i k = product-bounded (getD c i (pos 0)) (getD f i 0) (s .cost-small i k) (s .flow-small i k)
 
 -- ---- one more arc marked
-pub marked-more : (N : Net) (π : ℕ → ℤ) (marks : List Bool) (a : ℕ) (m : Bool) → a < length marks → MarkedBelow N π marks a
-    → (m ≡ true → reduced N π a ≡ pos 0) → (m ≡ false → reduced N π a ≢ pos 0) → MarkedBelow N π (set marks a m) (a + 1)
-marked-more N π marks a m h k tight loose = record {
-  marked = set-more (λ i b. b ≡ true → reduced N π i ≡ pos 0) marks a m false h (k .marked) tight;
-  unmarked = set-more (λ i b. b ≡ false → reduced N π i ≢ pos 0) marks a m false h (k .unmarked) loose;
-}
+pub marked-more : (N : Net) (π : ℕ → ℤ) (marks : List Bool) (a n : ℕ) (m : Bool) → length marks ≡ n → a < n → MarkedBelow N π marks a
+    → (m ≡ true → reduced N π a ≡ pos 0) → (m ≡ false → reduced N π a ≢ pos 0) → (length (set marks a m) ≡ n) × MarkedBelow N π (set marks a m) (a + 1)
+marked-more N π marks a n m l i k tight loose = (
+  length-set marks a m ∙ l,
+  record {
+    marked = set-more (λ i b. b ≡ true → reduced N π i ≡ pos 0) marks a m false (omega arith) (k .marked) tight;
+    unmarked = set-more (λ i b. b ≡ false → reduced N π i ≢ pos 0) marks a m false (omega arith) (k .unmarked) loose;
+  },
+)
 
 pub marked-all : {N : Net} {π : ℕ → ℤ} {marks : List Bool} {k n : ℕ} → k ≡ n → MarkedBelow N π marks k → MarkedBelow N π marks n
 marked-all {N} {π} {marks} e h = subst (MarkedBelow N π marks) e h

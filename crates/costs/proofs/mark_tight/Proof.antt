@@ -1,8 +1,7 @@
 use mathlib.Core.Path.{_≡_, sym, _∙_}
 use Prim.Native.Nat.{_-_, _≤_}
 use native.Mathlib.Omega.{arith}
-use lib.Dec.{eqb}
-use lib.ListN.{length, getD, length-set}
+use lib.ListN.{length, getD}
 use lib.IntN.{pos}
 use mir.Syntax.{w32, w64}
 use mir.Val.{toZ, ofZ}
@@ -85,13 +84,12 @@ loop-less : tie.Need-loop-less Inv-loop μ-loop
 loop-less c = omega (arith, c .before .before .before .before .before .before .loop-test .taken)
 
 loop-again : tie.Need-loop-again Inv-loop μ-loop
-loop-again c = (
-  omega (arith, c .before .before .before .before .before .before .loop-test .taken),
-  length-set (c .before .before .before .before .before .before .before .loop .marks) (c .before .before .before .before .before .before .before .loop .a) (eqb (ofZ w64 (c .reduced .result)) 0) ∙ c .before .before .before .before .before .before .before .loop .inv .1,
-  marked-more _ _ (c .before .before .before .before .before .before .before .loop .marks) (c .before .before .before .before .before .before .before .loop .a) _ (omega (arith, c .before .before .before .before .before .before .loop-test .taken, c .before .before .before .before .before .before .before .loop .inv .1)) (c .before .before .before .before .before .before .before .loop .inv .2)
-      (λ e. sym (is c) ∙ zero-of (record { sfits = c .reduced .ok }) (eqb-true _ 0 e))
-      (λ e z. eqb-false _ 0 e (zero-bits _ (is c ∙ z))),
-)
+loop-again c =
+    let m =
+    marked-more _ _ (c .before .before .before .before .before .before .before .loop .marks) (c .before .before .before .before .before .before .before .loop .a) _ _ (c .before .before .before .before .before .before .before .loop .inv .1) (c .before .before .before .before .before .before .loop-test .taken) (c .before .before .before .before .before .before .before .loop .inv .2)
+    (λ e. sym (is c) ∙ zero-of (record { sfits = c .reduced .ok }) (eqb-true _ 0 e))
+    (λ e z. eqb-false _ 0 e (zero-bits _ (is c ∙ z))) in
+    (omega (arith, c .before .before .before .before .before .before .loop-test .taken), m .0, m .1)
 
 same-length : tie.Need-same-length Inv-loop μ-loop
 same-length c = c .before .loop .inv .1 ∙ sym (c .before .before .before .before .before .pre .marks-len)
