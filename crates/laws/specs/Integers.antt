@@ -7,9 +7,6 @@ use native.Mathlib.Omega.{arith}
 use lib.Dec.{T}
 use lib.IntN.{ℤ, pos, negsuc, negℤ, _-ℤ_, _*ℤ_}
 use lib.Signed.{leZ, ltZ, _≤ℤ_, _<ℤ_, leZ-yes, ltZ-yes, ltZ-no}
-use mir.Syntax.{Width}
-use mir.Val.{SFits, toZ, ofZ}
-use mir.Facts.{toZ-ofZ}
 use Rattle.laws.specs.Parts.{plus, minus, le→ℕ, ℕ→le, lt→ℕ}
 use Rattle.laws.specs.Linear.{lin, ring, poly, given, given2, given3, *-neg-l, *-neg-r}
 use Rattle.laws.specs.Tests.{and-true, true-and}
@@ -69,20 +66,6 @@ eqZ-true a b e = let (h, k) = and-true (leZ a b) (leZ b a) e in ≤ℤ-antisym (
 
 pub true-eqZ : (a b : ℤ) → a ≡ b → eqZ a b ≡ true
 true-eqZ a b e = true-and (leZ a b) (leZ b a) (true-leZ a b (given e (simp lin (omega arith)))) (true-leZ b a (given e (simp lin (omega arith))))
-
--- the tests of two values in range: `if-le fx fy (c .if1 .taken)`
-module _ {w : Width} {x y : ℤ} (fx : SFits w x) (fy : SFits w y) where
-  pub if-le : leZ (toZ w (ofZ w x)) (toZ w (ofZ w y)) ≡ true → x ≤ℤ y
-  if-le e = rw (toZ-ofZ fx, toZ-ofZ fy) at (leZ-true (toZ w (ofZ w x)) (toZ w (ofZ w y)) e)
-
-  pub if-not-le : leZ (toZ w (ofZ w x)) (toZ w (ofZ w y)) ≡ false → y <ℤ x
-  if-not-le e = rw (toZ-ofZ fx, toZ-ofZ fy) at (leZ-false (toZ w (ofZ w x)) (toZ w (ofZ w y)) e)
-
-  pub if-lt : ltZ (toZ w (ofZ w x)) (toZ w (ofZ w y)) ≡ true → x <ℤ y
-  if-lt e = rw (toZ-ofZ fx, toZ-ofZ fy) at (ltZ-true (toZ w (ofZ w x)) (toZ w (ofZ w y)) e)
-
-  pub if-not-lt : ltZ (toZ w (ofZ w x)) (toZ w (ofZ w y)) ≡ false → y ≤ℤ x
-  if-not-lt e = rw (toZ-ofZ fx, toZ-ofZ fy) at (ltZ-false (toZ w (ofZ w x)) (toZ w (ofZ w y)) e)
 
 -- products and the order
 parts-nonneg : (x y : ℤ) → minus x ≤ plus x → minus y ≤ plus y → minus (x *ℤ y) ≤ plus (x *ℤ y)

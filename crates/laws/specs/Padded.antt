@@ -4,16 +4,13 @@ use mathlib.Core.List.{List, _∷_, _++_, map}
 use Prim.Native.Nat.{ℕ, suc, _+_, _-_, _≤_, _<_}
 use native.Mathlib.Numerals.{add-one}
 use native.Mathlib.Omega.{arith}
-use lib.ListN.{length, getD, take, set, replicate, length-append, length-map, length-replicate}
+use lib.ListN.{length, getD, take, set, replicate, length-map}
 use lib.Seq.{append-snoc, take-suc, take-length, length-take-le, take-at, set-at}
 use Rattle.laws.specs.Snoc.{map-more}
 use Rattle.laws.specs.Store.{set-cases}
 
 abbrev pub padded : {A : Type 0} → ℕ → A → List A → List A
 padded k d l = l ++ replicate (k - length l) d
-
-pub length-padded : {A : Type 0} (k : ℕ) (d : A) (l : List A) → length l ≤ k → length (padded k d l) ≡ k
-length-padded k d l h = rw (length-append, length-replicate) (omega arith)
 
 -- the first places hold the list
 pub take-padded : {A : Type 0} (k : ℕ) (d : A) (l : List A) → take (length l) (padded k d l) ≡ l
@@ -26,9 +23,6 @@ module _ {A B : Type 0} (f : A → B) (l : List A) (k : ℕ) (d : B) where
 
   length-first : (i : ℕ) → i ≤ length l → length (map f (take i l)) ≡ i
   length-first i h = length-map (take i l) f ∙ length-take-le i l h
-
-  pub length-filled : (i : ℕ) → i ≤ length l → i ≤ k → length (filled i) ≡ k
-  length-filled i h g = length-padded k d (map f (take i l)) (omega (arith, length-first i h))
 
   pub filled-more : (e : A) (i : ℕ) (s : List B) (b : B) → s ≡ filled i → i < length l → i < k → b ≡ f (getD l i e) → set s i b ≡ filled (i + 1)
   filled-more e i s b p h g q =

@@ -78,8 +78,3 @@ sum-swap (suc n) m f = given (sum-swap n m f) (given (sum-add m (λ j. sum n (λ
 pub sum-within : (n B : ℕ) (f : ℕ → ℤ) → ((i : ℕ) → i < n → Bounded B (f i)) → Bounded (n * B) (sum n f)
 sum-within zero B f h = bounded-more (omega arith) bounded-zero
 sum-within (suc n) B f h = bounded-more (omega arith) (bounded-add (sum-within n B f (lower n h)) (h n (omega arith)))
-
--- the first term of a sum
-pub sum-first : (n : ℕ) (f : ℕ → ℤ) → sum (suc n) f ≡ f 0 +ℤ sum n (λ i. f (suc i))
-sum-first zero f = simp lin (omega arith)
-sum-first (suc n) f = given (sum-first n f) (simp lin (omega arith))

@@ -53,10 +53,6 @@ pub test-yes : {P : Type 0} (t : Dec P) → test t ≡ true → P
 test-yes (yes h) e = h
 test-yes (no h) e = absurd (let z : _≡_ {A = ℕ} 0 1 = cc in omega arith)
 
-pub yes-test : {P : Type 0} (t : Dec P) → P → test t ≡ true
-yes-test (yes h) p = refl
-yes-test (no h) p = absurd (h p)
-
 -- a test of every member
 abbrev pub all : {A : Type 0} → (A → Bool) → List A → Bool
 all p [] = true
