@@ -1,0 +1,4 @@
+mod Premises
+pub mod Marked
+mod Tests
+mod Question8
