@@ -1,13 +1,13 @@
 -- From the price labels of a flow to its marks, and back to a potential.
-use mathlib.Core.Path.{_≡_, refl, ap, subst}
+use mathlib.Core.Path.{_≡_, refl, ap}
 use mathlib.Core.Bool.{Bool, true, false}
 use mathlib.Core.List.{List}
 use mathlib.Core.Option.{none, some}
-use Prim.Native.Nat.{ℕ, _+_, _/_, _%_, _≤_, _<_}
+use Prim.Native.Nat.{ℕ, _/_, _%_, _<_}
 use native.Mathlib.Omega.{arith}
 use lib.Dec.{eqb}
 use lib.ListN.{length, getD}
-use lib.IntN.{ℤ, pos, _+ℤ_, _-ℤ_}
+use lib.IntN.{ℤ, pos}
 use lib.Signed.{_≤ℤ_}
 use borrow.Author.Tests.{ltb-true}
 use Rattle.laws.specs.Linear.{lin, given}
@@ -18,14 +18,13 @@ use Rattle.laws.specs.Members.{first?}
 use Rattle.network.proofs.FullList.{none-iff}
 use Rattle.certificates.specs.Optimality.{Optimal, priced-optimal, stepReduced}
 use Rattle.certificates.specs.Order.{first-line}
-use Rattle.search.specs.Labels.{costGraph, Relaxable, roomy}
+use Rattle.search.specs.Labels.{costGraph, Relaxable}
 use Rattle.search.specs.Search.{Quiet, Settled}
 use Rattle.search.specs.Prices.{PriceLabels}
 use Rattle.search.proofs.Cycles.{roomy-usable}
 use Rattle.search.proofs.Pricing.{usable-roomy}
 use Rattle.search.proofs.Potentials.{labels-quiet}
 use Rattle.paths.specs.Graph.{netWith}
-use Rattle.flows.specs.Tight.{Tight}
 use Rattle.flows.specs.Minimising.{Minimised}
 use Rattle.flows.proofs.Certified.{tight-any}
 use Rattle.costs.specs.Costs.{endsAndCosts, MarkedBelow}

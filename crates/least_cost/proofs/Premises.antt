@@ -1,15 +1,13 @@
 -- An accepted network meets what the functions beneath ask of the lists that they get.
-use mathlib.Core.Path.{_≡_, sym, _∙_}
+use mathlib.Core.Path.{_≡_}
 use mathlib.Core.Bool.{Bool}
 use mathlib.Core.List.{List}
-use Prim.Native.Nat.{ℕ, _≤_, _<_}
+use Prim.Native.Nat.{ℕ, _<_}
 use native.Mathlib.Omega.{arith}
 use native.Mathlib.Decide.{decLt}
 use lib.ListN.{length, getD}
-use lib.IntN.{ℤ, pos, negℤ}
-use lib.Signed.{_≤ℤ_}
+use lib.IntN.{ℤ, pos}
 use Rattle.laws.specs.Range.{Bounded, bounded-iff, bounded-more, bounded-zero}
-use Rattle.network.specs.Network.{Net, cost}
 use Rattle.network.specs.Checked.{AcceptedNet}
 use Rattle.certificates.specs.Push.{InBounds}
 use Rattle.search.specs.Labels.{costGraph, Relaxable}

@@ -1,5 +1,5 @@
 -- Question 8: bounds, balances and the search for a negative cycle decide whether a list is a least-cost flow.
-use mathlib.Core.Path.{_≡_, refl, sym, subst}
+use mathlib.Core.Path.{_≡_, refl, subst}
 use mathlib.Core.Bool.{Bool, true, false}
 use mathlib.Core.List.{List}
 use Prim.Native.Nat.{ℕ, _<_}
@@ -9,7 +9,7 @@ use lib.ListN.{length, take}
 use lib.IntN.{ℤ}
 use borrow.Author.Tests.{eqb-true, eqb-false}
 use Rattle.laws.specs.Linear.{lin, given2}
-use Rattle.network.specs.Network.{WellFormed, IsFlow, LeastCost, netOut, balance, costOf}
+use Rattle.network.specs.Network.{WellFormed, IsFlow, LeastCost, netOut, balance}
 use Rattle.certificates.specs.Push.{InBounds, pushAll}
 use Rattle.search.specs.Labels.{costGraph, Relaxable}
 use Rattle.search.specs.Search.{Searched, NegativeCycle}

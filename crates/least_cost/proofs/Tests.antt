@@ -1,5 +1,5 @@
 -- What holds of every number below i, and what the tests of a given flow decide.
-use mathlib.Core.Path.{_≡_, sym, ap, subst, _∙_}
+use mathlib.Core.Path.{_≡_, sym, subst, _∙_}
 use mathlib.Core.Bool.{Bool, true, false}
 use mathlib.Core.List.{List, _++_}
 use Prim.Native.Nat.{ℕ, _+_, _≤_, _<_}
@@ -8,7 +8,7 @@ use native.Mathlib.Decide.{ℕ-discrete}
 use lib.ListN.{length, getD, take, length-append}
 use lib.Seq.{take-at}
 use lib.IntN.{ℤ, pos, _-ℤ_}
-use Rattle.laws.specs.Linear.{lin, given, given2}
+use Rattle.laws.specs.Linear.{lin, given}
 use Rattle.network.specs.Network.{netOut, balance}
 use Rattle.feasible.specs.Excess.{supplies, Excesses}
 use Rattle.least_cost.specs.Answers.{Decides}

@@ -1,22 +1,21 @@
 -- Price labels as potentials: at most 0, quiet, and within 64,000,000.
-use mathlib.Core.Path.{_≡_, refl, sym, subst}
+use mathlib.Core.Path.{_≡_, refl}
 use mathlib.Core.List.{List, [], _∷_}
-use Prim.Native.Nat.{ℕ, zero, suc, _+_, _*_, _≤_, _<_}
+use Prim.Native.Nat.{ℕ, zero, suc, _*_, _≤_, _<_}
 use native.Mathlib.Omega.{arith}
 use native.Mathlib.Decide.{decLt}
 use lib.ListN.{length, getD}
-use lib.IntN.{ℤ, pos, _+ℤ_}
+use lib.IntN.{ℤ, pos}
 use lib.Signed.{_≤ℤ_}
-use Rattle.laws.specs.Linear.{lin, given, given2, given3}
+use Rattle.laws.specs.Linear.{lin, given, given2}
 use Rattle.laws.specs.Range.{Bounded, bounded-add, bounded-more, bounded-zero, fits}
 use Rattle.network.specs.Network.{Net}
-use Rattle.network.specs.Residual.{codes, src, dst, stepCost, Walk, walkCost}
-use Rattle.search.specs.Labels.{Relaxable, roomy}
+use Rattle.network.specs.Residual.{src, dst, stepCost, Walk, walkCost}
+use Rattle.search.specs.Labels.{Relaxable}
 use Rattle.search.specs.Search.{Quiet}
 use Rattle.search.specs.Prices.{PriceLabels}
 use Rattle.search.proofs.Codes.{src-in, dst-in, step-small}
 use Rattle.search.proofs.Cycles.{roomy-usable}
-use Rattle.search.proofs.Rounds.{Trip}
 use Rattle.search.proofs.Shorten.{shorten}
 use Rattle.search.proofs.Pricing.{walk-trip, trip-walk}
 
