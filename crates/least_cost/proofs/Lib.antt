@@ -1,4 +1,4 @@
-mod Premises
+pub mod Premises
 pub mod Marked
-mod Tests
+pub mod Tests
 mod Question8

@@ -5,13 +5,12 @@ use mathlib.Core.List.{List}
 use Prim.Native.Nat.{ℕ, _<_}
 use native.Mathlib.Omega.{arith}
 use native.Mathlib.Decide.{decLt}
-use lib.ListN.{length, getD}
+use lib.ListN.{length, getD, List·getD-eq-default}
 use lib.IntN.{ℤ, pos}
 use Rattle.laws.specs.Range.{Bounded, bounded-iff, bounded-more, bounded-zero}
 use Rattle.network.specs.Checked.{AcceptedNet}
 use Rattle.certificates.specs.Push.{InBounds}
 use Rattle.search.specs.Labels.{costGraph, Relaxable}
-use Rattle.search.proofs.Potentials.{beyond}
 use Rattle.paths.specs.Graph.{graph, netWith}
 use Rattle.paths.specs.Pushing.{Ready, SmallBounds}
 use Rattle.feasible.specs.Excess.{SmallNumbers}
@@ -29,7 +28,7 @@ module _ (b : List ℤ) (t h l u : List ℕ) (c : List ℤ) (ok : AcceptedNet (n
     where
       go : Dec (v < length b) → Bounded 1000000000 (getD b v (pos 0))
       go (yes k) = let (p, q) = ok .balance-small v k in bounded-iff 1000000000 (getD b v (pos 0)) .1 (q, p)
-      go (no k) = rw (beyond b v (pos 0) (omega arith)) (bounded-more (omega arith) bounded-zero)
+      go (no k) = rw (List·getD-eq-default b (pos 0) {n = v} (omega arith)) (bounded-more (omega arith) bounded-zero)
 
   pub given : (f : List ℕ) → length f ≡ length t → Given b t h l u f
   given f e = record {

@@ -9,10 +9,10 @@ use lib.ListN.{length, take}
 use lib.IntN.{ℤ}
 use borrow.Author.Tests.{eqb-true, eqb-false}
 use Rattle.laws.specs.Linear.{lin, given2}
-use Rattle.network.specs.Network.{WellFormed, IsFlow, LeastCost, netOut, balance}
+use Rattle.network.specs.Network.{Net, WellFormed, IsFlow, LeastCost, netOut, balance}
 use Rattle.certificates.specs.Push.{InBounds, pushAll}
 use Rattle.search.specs.Labels.{costGraph, Relaxable}
-use Rattle.search.specs.Search.{Searched, NegativeCycle}
+use Rattle.search.specs.Search.{Settled, Searched, NegativeCycle}
 use Rattle.search.proofs.Pricing.{quiet-least}
 use Rattle.paths.specs.Graph.{graph, netWith}
 use Rattle.paths.specs.Pushing.{roomAll}
@@ -27,6 +27,12 @@ decided-yes {P} r d e = subst (Decides P) e d
 
 pub decided-no : {P : Type 0} (r : Bool) → Decides P r → r ≡ false → ¬ P
 decided-no {P} r d e = subst (Decides P) e d
+
+pub tested-yes : (N : Net) (f : List ℕ) (r : Bool) → Tested N f r → r ≡ true → LeastCost N f × Settled N f 1
+tested-yes N f r d e = subst (Tested N f) e d
+
+pub tested-no : (N : Net) (f : List ℕ) (r : Bool) → Tested N f r → r ≡ false → ¬ LeastCost N f
+tested-no N f r d e = subst (Tested N f) e d
 
 module _ (b : List ℤ) (t h l u : List ℕ) (c : List ℤ) (f : List ℕ) (e : length f ≡ length t) where
   pub bounds-whole : InBounds (graph f f l u) f → InBounds (netWith b t h l u c) f

@@ -23,3 +23,8 @@ Decides P false = ¬ P
 abbrev pub Tested : Net → List ℕ → Bool → Type 0
 Tested N f true = LeastCost N f × Settled N f 1
 Tested N f false = ¬ LeastCost N f
+
+-- question 8: "a least-cost flow of the network", marked; or it is none
+abbrev pub MarkedIfLeast : Net → List ℕ → List Bool → Bool → Type 0
+MarkedIfLeast N f tight true = Marked N tight f
+MarkedIfLeast N f tight false = ¬ LeastCost N f

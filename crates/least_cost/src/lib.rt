@@ -10,10 +10,10 @@ ghost use Rattle.search.specs.Search.{Settled};
 ghost use Rattle.paths.specs.Graph.{graph, netWith};
 ghost use Rattle.feasible.specs.Excess.{supplies, SmallNumbers};
 ghost use Rattle.least_cost.specs.Marked.{Marked};
-ghost use Rattle.least_cost.specs.Answers.{FirstFlow, Decides, Tested};
+ghost use Rattle.least_cost.specs.Answers.{FirstFlow, Decides, Tested, MarkedIfLeast};
 
 // Marks the arcs of reduced cost 0 under the prices of a least-cost flow.
-pub fn mark(
+fn mark(
     tails: &[u8],
     heads: &[u8],
     lows: &[u32],
@@ -99,7 +99,7 @@ fn is_balanced(tails: &[u8], heads: &[u8], balances: &[i32], flow: &[u32]) -> bo
 }
 
 // Question 8, of m numbers: whether they are a least-cost flow.
-pub fn is_least_cost(
+fn is_least_cost(
     tails: &[u8],
     heads: &[u8],
     lows: &[u32],
@@ -119,4 +119,25 @@ pub fn is_least_cost(
     }
     let mut codes = [0usize; 64];
     search::find_cycle(tails, heads, lows, ups, costs, flow, 1, &mut codes) == 0
+}
+
+// Question 8, of m numbers: whether they are a least-cost flow; if so, its marks.
+pub fn mark_if_least(
+    tails: &[u8],
+    heads: &[u8],
+    lows: &[u32],
+    ups: &[u32],
+    costs: &[i32],
+    balances: &[i32],
+    flow: &[u32],
+    tight: &mut [bool],
+) -> bool
+    requires { ⌜ AcceptedNet (netWith (now balances) (now tails) (now heads) (now lows) (now ups) (now costs)) × (length (now flow) ≡ length (now tails)) × (length (now tight) ≡ length (now tails)) ⌝ }
+    ensures { λ r. ⌜ MarkedIfLeast (netWith (now (balances .entry)) (now (tails .entry)) (now (heads .entry)) (now (lows .entry)) (now (ups .entry)) (now (costs .entry))) (now (flow .entry)) (now (tight .exit)) r ⌝ }
+{
+    if !is_least_cost(tails, heads, lows, ups, costs, balances, flow) {
+        return false;
+    }
+    mark(tails, heads, lows, ups, costs, balances, flow, tight);
+    true
 }

@@ -1,10 +1,10 @@
 -- Price labels as potentials: at most 0, quiet, and within 64,000,000.
 use mathlib.Core.Path.{_≡_, refl}
 use mathlib.Core.List.{List, [], _∷_}
-use Prim.Native.Nat.{ℕ, zero, suc, _*_, _≤_, _<_}
+use Prim.Native.Nat.{ℕ, _*_, _<_}
 use native.Mathlib.Omega.{arith}
 use native.Mathlib.Decide.{decLt}
-use lib.ListN.{length, getD}
+use lib.ListN.{length, getD, List·getD-eq-default}
 use lib.IntN.{ℤ, pos}
 use lib.Signed.{_≤ℤ_}
 use Rattle.laws.specs.Linear.{lin, given, given2}
@@ -19,18 +19,13 @@ use Rattle.search.proofs.Cycles.{roomy-usable}
 use Rattle.search.proofs.Shorten.{shorten}
 use Rattle.search.proofs.Pricing.{walk-trip, trip-walk}
 
-pub beyond : {A : Type 0} (l : List A) (i : ℕ) (d : A) → length l ≤ i → getD l i d ≡ d
-beyond [] i d h = refl
-beyond (x ∷ l) zero d h = absurd (omega arith)
-beyond (x ∷ l) (suc i) d h = beyond l i d (omega arith)
-
 module _ (N : Net) (f : List ℕ) (ok : Relaxable N f) (d : List ℤ) (P : PriceLabels N f d) where
   labels-low : (v : ℕ) → getD d v (pos 0) ≤ℤ pos 0
   labels-low v = go (decLt v 64)
     where
       go : Dec (v < 64) → getD d v (pos 0) ≤ℤ pos 0
       go (yes h) = P .least v v [] h refl
-      go (no h) = given (beyond d v (pos 0) (omega (arith, P .len))) (simp lin (omega arith))
+      go (no h) = given (List·getD-eq-default d (pos 0) {n = v} (omega (arith, P .len))) (simp lin (omega arith))
 
   -- a walk to where a residual arc starts, and that arc, lead to where it ends
   pub labels-quiet : Quiet N f 1 (λ v. getD d v (pos 0))
