@@ -57,10 +57,11 @@ struct Book {
 
 // A movement of 28 entries: bars of 384 ticks, entries of a beat to two bars that begin on a beat, most of the moves, few different costs (so that
 // many ways cost the same), book order near the order of time. `bars` spreads the entries: with many bars almost every later entry may follow.
-inline Book random_book(uint64_t seed, int bars) {
+// Moves cost 1 to `dearest` at most.
+inline Book random_book(uint64_t seed, int bars, int dearest = 3) {
     Dice dice(seed);
     Book b;
-    const int instruments = dice.roll(6, 16), dear = dice.roll(2, 4), beat = 96;
+    const int instruments = dice.roll(3, 16), dear = dice.roll(1, dearest), beat = 96;
     b.players = dice.roll(4, 8);
     b.fee = dice.roll(3, 9);
     for (auto &row : b.ticks) std::fill(std::begin(row), std::end(row), -1);
@@ -248,6 +249,23 @@ inline Network rings(uint64_t seed) {
     return n;
 }
 
+// One unit more than the arcs out of a node can carry: there is no flow, and all but that unit can be sent.
+inline Network narrowly_none(Network n) {
+    std::vector<long> room(n.balances.size(), 0);
+    for (const Arc &a : n.arcs)
+        if (a.tail != a.head) room[a.tail] += a.up;
+    n.name += ", narrowly none";
+    std::fill(n.balances.begin(), n.balances.end(), 0);
+    for (size_t v = 0; v < room.size(); v += 2) {
+        long most = room[v] + (v == 0);
+        n.balances[v] += int(most);
+        n.balances[v + 1] -= int(most);
+        for (const Arc &a : n.arcs)        // what comes in besides must go out too
+            if (a.tail != a.head && a.head == int(v) && a.low > 0) { n.balances[v] -= a.low; n.balances[v + 1] += a.low; }
+    }
+    return n;
+}
+
 // The book that lists most: every entry may follow every earlier one at one cost.
 inline Network level_book(int entries, int players) {
     Book b;
@@ -286,6 +304,8 @@ inline std::vector<Network> hostile_networks() {
         all.push_back(random_network(1000 + seed));
         all.back().name = "random";
     }
+    for (int k = int(all.size()) - 1; k >= 0; k--)
+        if (all[k].balances.size() % 2 == 0) all.push_back(narrowly_none(all[k]));
     for (Network &n : all)                 // the limits
         if (n.balances.size() > 64 || n.arcs.size() > 512) abort();
     return all;
