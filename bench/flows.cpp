@@ -176,15 +176,28 @@ static void count(const char *what, const std::vector<Network> &set, size_t most
         median(by_cap[0]), median(by_cap[1]), median(by_cap[2]), median(by_cap[0]) > 0 ? median(by_cap[2]) / median(by_cap[0]) : 0);
 }
 
-static void hostile() {
-    std::string worst;
-    double longest = 0;
-    for (const Network &n : hostile_networks()) {
-        Times t = time_first(n);
-        printf("  %-45s %2zu nodes %3zu arcs: library %10.1f, LEMON %8.1f, ratio %8.2f\n", n.name.c_str(), n.balances.size(), n.arcs.size(), t.first, t.lemon, t.first / t.lemon);
-        if (t.first > longest) { longest = t.first; worst = n.name; }
+// The lines of a hostile network, as far as 1,000.
+static void long_count(const Network &n) {
+    Lent lent(n);
+    double start = time_of([&] { lent.count(0); }), t = now();
+    lent.count(1000);
+    printf("  %-28s hostile: a line, to cap 1,000 %7.2f\n", n.name.c_str(), (now() - t - start) / 1000);
+}
+
+static void hostile(const std::vector<Network> &set) {
+    std::vector<std::pair<Times, const Network *>> all;
+    std::vector<double> ratio;
+    for (const Network &n : set) {
+        all.push_back({time_first(n), &n});
+        ratio.push_back(all.back().first.first / all.back().first.lemon);
     }
-    printf("  the longest first: %.1f microseconds (%s)\n", longest, worst.c_str());
+    std::sort(all.begin(), all.end(), [](auto &x, auto &y) { return x.first.first > y.first.first; });
+    printf("  %zu networks; library / LEMON %.2f, at most %.2f; the longest:\n", set.size(), median(ratio), largest(ratio));
+    for (size_t k = 0; k < all.size() && k < 10; k++) {
+        const Times &t = all[k].first;
+        const Network &n = *all[k].second;
+        printf("  %-50s %2zu nodes, %3zu arcs: library %10.1f, LEMON %8.1f, library / LEMON %8.2f\n", n.name.c_str(), n.balances.size(), n.arcs.size(), t.first, t.lemon, t.first / t.lemon);
+    }
 }
 
 // ---- stack: the call runs on a thread whose stack was painted; the bytes no longer painted, less those of a thread that does nothing ----
@@ -226,7 +239,7 @@ static void stack(const std::vector<Network> &set) {
 
 int main() {
     setvbuf(stdout, nullptr, _IOLBF, 0);
-    std::vector<Network> dense, overlapping, random, tied, level;
+    std::vector<Network> dense, overlapping, random, few, tied, level;
     for (uint64_t seed = 1; dense.size() < 100; seed++) {
         Network n = network_of(random_book(seed, 42));
         n.name = "book " + std::to_string(seed);
@@ -240,6 +253,8 @@ int main() {
     for (uint64_t seed = 1; seed <= 50; seed++) {
         random.push_back(random_network(seed));
         random.back().name = "random " + std::to_string(seed);
+        few.push_back(random_network(3000 + seed, 64, 512, 1000000, 3));
+        few.back().name = "random, few costs, " + std::to_string(seed);
     }
     for (uint64_t seed = 1; seed <= 100; seed++) tied.push_back(network_of(random_book(2000 + seed, 28, 1)));
     level.push_back(level_book(28, 8));
@@ -248,19 +263,23 @@ int main() {
     first("28-entry books", dense);
     first("28-entry books, overlapping", overlapping);
     first("random, 64 nodes", random);
+    first("random, costs -3 to 3", few);
     printf("next, from outside with the list given\n");
     next("28-entry books", dense);
     next("28-entry books, overlapping", overlapping);
     next("random, 64 nodes", random);
+    next("random, costs -3 to 3", few);
     printf("next with the state kept: count\n");
     count("28-entry books", dense, 5);
     count("28-entry books, overlapping", overlapping, 9);
     count("28-entry books, moves tie", tied, 9);
     count("a book whose joins all tie", level, 1);
+    count("random, costs -3 to 3", few, 5);
+    for (bool full : {false, true}) long_count(long_lists(full));
     printf("hostile networks, first\n");
-    hostile();
-    printf("stack, the most on books, random and hostile networks\n");
     std::vector<Network> all = hostile_networks();
+    hostile(all);
+    printf("stack, the most on books, random and hostile networks\n");
     all.insert(all.end(), dense.begin(), dense.begin() + 5);
     all.insert(all.end(), random.begin(), random.begin() + 5);
     stack(all);

@@ -279,6 +279,21 @@ inline Network level_book(int entries, int players) {
     return n;
 }
 
+// For next: arc 0 is a loop with a line for each of its values; no other arc can ever be raised (there is no way back), or, `full`, lowered, but
+// each must be looked at again for every line.
+inline Network long_lists(bool full) {
+    Network n;
+    n.name = full ? "a loop before full arcs" : "a loop before empty arcs";
+    n.balances.assign(64, 0);
+    n.add(0, 0, 0, 1000000, 0);
+    for (int step = 1; n.arcs.size() < 512; step++)
+        for (int v = 0; v + step < 64 && n.arcs.size() < 512; v++) {
+            n.add(v, v + step, 0, 1, 0);
+            if (full) { n.balances[v]++; n.balances[v + step]--; }
+        }
+    return n;
+}
+
 inline std::vector<Network> hostile_networks() {
     std::vector<Network> all;
     for (bool r : {false, true})
@@ -300,6 +315,7 @@ inline std::vector<Network> hostile_networks() {
     for (bool r : {false, true}) all.push_back(diamonds(r));
     for (uint64_t seed : {1, 2, 3}) all.push_back(rings(seed));
     all.push_back(level_book(28, 8));
+    for (bool f : {false, true}) all.push_back(long_lists(f));
     for (uint64_t seed : {1, 2, 3, 4, 5}) {
         all.push_back(random_network(1000 + seed));
         all.back().name = "random";

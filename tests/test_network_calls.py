@@ -289,7 +289,7 @@ class NetworkCalls(unittest.TestCase):
     def test_balances_at_the_limits(self):
         most = 10**9
         for balances in ([most, -most], [-most, most], [most] * 64, [-most] * 64, [most, -most] * 32, [most] * 32 + [-most] * 32,
-                         [most] * 4 + [2**32 - 4 * most], [2**31 // 4] * 4, [most, 0, 0, -most + 1]):
+                         [most] * 4 + [2**32 - 4 * most], [-most] * 4 + [4 * most - 2**32], [2**29] * 4, [-2**29] * 8, [most, 0, 0, -most + 1]):
             self.expect(balances, [], (NONE, 0))
             arcs = [(a % len(balances), (a + 1) % len(balances), 0, 10**6, 1) for a in range(512)]
             self.expect(balances, arcs, (NONE, 0))
