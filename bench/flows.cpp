@@ -144,15 +144,18 @@ static void next(const char *what, const std::vector<Network> &set) {
             double t = now();
             desk_reply r = lent.next(to);
             t = now() - t;
-            (r.code == END ? ends : times).push_back(t);
-            if (r.code == OK) beside.push_back(t / solve);
-            if (r.code != OK) break;
+            if (r.code != OK) {
+                ends.push_back(t);
+                break;
+            }
+            times.push_back(t);
+            beside.push_back(t / solve);
             lent.flows = to;
         }
     }
-    printf("  %-28s %6zu lines: %8.1f a line, at most %8.1f; to LEMON's whole solve %.2f", what, times.size(), median(times), largest(times), median(beside));
-    if (!ends.empty()) printf("; \"end\" %zu times: %8.1f", ends.size(), median(ends));
-    printf("\n");
+    printf("  %-28s", what);
+    if (!times.empty()) printf(" %6zu lines: %8.1f a line, at most %8.1f, to LEMON's whole solve %.2f;", times.size(), median(times), largest(times), median(beside));
+    printf(" \"end\" %zu times: %8.1f\n", ends.size(), median(ends));
 }
 
 // Count less first, by line: next with the state kept. The networks are those with more lines than the largest cap.

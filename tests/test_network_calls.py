@@ -12,10 +12,6 @@ from test_questions import damaged, extremes, limits
 CAP = 65535
 
 
-def noise(rng, length):
-    return rng.randbytes(length)
-
-
 def caps(length):
     return sorted({c for c in (0, length - 1, length, length + 1, CAP) if 0 <= c <= CAP})
 
@@ -35,37 +31,44 @@ class Session:
             self.test.fail("%s of %s: %r, and not %r" % (what, [struct.unpack(f"<{len(x) // 4}i", x[:len(x) // 4 * 4]) for x in self.net], got, wanted))
         if wanted[0][0] == OK: self.written = wanted[1][0][:4 * self.reader.m]
 
-    def lent(self, places, extra=None):
-        return noise(self.rng, 4 * places + 4 * (self.rng.choice((0, 0, 1, 3)) if extra is None else extra))
+    def lent(self, places):
+        """A list to lend, as long as it must be or longer."""
+        return self.rng.randbytes(4 * places + self.rng.choice((0, 0, 4, 12)))
 
-    def first(self, flows=None, prices=False):
+    def first(self, flows=None):
         if flows is None: flows = self.lent(self.reader.m)
-        if prices is False: return self.same("first", self.desk.first(self.net, flows), self.reader.first(flows))
+        self.same("first", self.desk.first(self.net, flows), self.reader.first(flows))
+
+    def first_priced(self, flows=None, prices=None):
+        if flows is None: flows = self.lent(self.reader.m)
         if prices is None: prices = self.lent(self.reader.n)
         self.same("first with prices", self.desk.first_priced(self.net, flows, prices), self.reader.first(flows, prices))
+
+    def either_first(self):
+        self.rng.choice((self.first, self.first_priced))()
 
     def next(self, given=None, flows=None):
         if given is None: given = self.written
         if flows is None: flows = self.lent(self.reader.m)
         self.same("next of %r" % given, self.desk.next(self.net, given, flows), self.reader.next(given, flows))
 
-    def counts(self, some=None):
-        for cap in caps(len(self.reader.lines)) if some is None else some:
+    def counts(self):
+        for cap in caps(len(self.reader.lines)):
             got, wanted = self.desk.count(self.net, cap), self.reader.count(cap)
             if got != wanted: self.test.fail("count of %r to %d: %r, and not %r" % (self.net, cap, got, wanted))
 
     def short(self, places):
         """A list that is too short, or of a length that is no multiple of four."""
         lengths = [n for n in (0, 4 * places - 4, 4 * places - 1) if 0 <= n < 4 * places] + [4 * places + k for k in (1, 2, 3, 6)]
-        return noise(self.rng, self.rng.choice(lengths))
+        return self.rng.randbytes(self.rng.choice(lengths))
 
     def wrong(self):
         """A list to give that is not on the full list."""
         rng, m = self.rng, self.reader.m
         while True:
-            base = bytearray(rng.choice(self.reader.lines) if self.reader.lines and rng.random() < 0.8 else noise(rng, 4 * m))
+            base = bytearray(rng.choice(self.reader.lines) if self.reader.lines and rng.random() < 0.8 else rng.randbytes(4 * m))
             kind = rng.randrange(6)
-            if kind == 0: base += noise(rng, rng.choice((1, 2, 3, 4, 8)))
+            if kind == 0: base += rng.randbytes(rng.choice((1, 2, 3, 4, 8)))
             elif kind == 1 and base: del base[-rng.choice((1, 2, 3, 4)):]
             elif kind == 2 and base: del base[:4]
             elif base:
@@ -77,24 +80,24 @@ class Session:
 
     def refused(self):
         """A call that fails a question. Where it fails more than one, the first counts."""
-        m, n = self.reader.m, self.reader.n
-        kind = self.rng.randrange(6)
+        m, kind = self.reader.m, self.rng.randrange(6)
         if kind == 0: self.first(self.short(m))
-        elif kind == 1: self.first(self.short(m), self.lent(n))
-        elif kind == 2: self.first(None, self.short(n))
+        elif kind == 1: self.first_priced(self.short(m))
+        elif kind == 2: self.first_priced(None, self.short(self.reader.n))
         elif kind == 3: self.next(self.wrong())
         elif kind == 4: self.next(self.wrong(), self.short(m))
         elif self.written is not None: self.next(None, self.short(m))
 
     def walk(self, refusals, again=0.0, most=10**6):
-        """The whole list from the first line to the end and past it, with refused calls between; sometimes from the start again."""
-        self.first(None, self.rng.choice((False, None)))
+        """The whole list from the first line to the end and past it, with refused calls before and between; sometimes from the start again."""
+        while self.rng.random() < refusals: self.refused()
+        self.either_first()
         while True:
             while self.rng.random() < refusals: self.refused()
             if not self.reader.lines or most == 0: return
             most -= 1
             if self.rng.random() < again:
-                self.first(None, self.rng.choice((False, None)))
+                self.either_first()
                 continue
             last = self.reader.finger + 1 == len(self.reader.lines)
             self.next()
@@ -308,7 +311,7 @@ class NetworkCalls(unittest.TestCase):
         for costs in ([0], [1, 2, 3], [-1, 0, 1], range(-10**6, 10**6), [-10**6, 10**6]):
             for _ in range(2):
                 balances, arcs = large(rng, costs)
-                net, lent, room = network(balances, arcs), noise(rng, 2052), noise(rng, 260)
+                net, lent, room = network(balances, arcs), rng.randbytes(2052), rng.randbytes(260)
                 (code, cost), (flows, prices) = self.desk.first_priced(net, lent, room)
                 flow = struct.unpack("<512i", flows[:2048])
                 self.assertEqual((code, cost, flows[2048:], prices[256:]), (OK, sum(a[4] * x for a, x in zip(arcs, flow)), lent[2048:], room[256:]))
