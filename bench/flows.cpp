@@ -2,6 +2,7 @@
 #include "networks.h"
 #include <cstdio>
 #include <cstring>
+#include <functional>
 #include <lemon/network_simplex.h>
 #include <lemon/smart_graph.h>
 #include <pthread.h>

@@ -1,13 +1,10 @@
 // Networks to measure with: those of random books, random ones, and hostile ones. Every generator is a function of its seed.
 #pragma once
 #include <algorithm>
-#include <array>
 #include <cstdint>
 #include <cstdlib>
-#include <functional>
 #include <random>
 #include <string>
-#include <utility>
 #include <vector>
 
 struct Arc { int tail, head, low, up, cost; };
@@ -17,10 +14,7 @@ struct Network {
     std::vector<int> balances;
     std::vector<Arc> arcs;
 
-    int add(int tail, int head, int low, int up, int cost) {
-        arcs.push_back({tail, head, low, up, cost});
-        return int(arcs.size()) - 1;
-    }
+    void add(int tail, int head, int low, int up, int cost) { arcs.push_back({tail, head, low, up, cost}); }
     // the balances that a flow has
     void balance(const std::vector<long> &flow) {
         for (size_t a = 0; a < arcs.size(); a++) {
@@ -166,7 +160,7 @@ inline Network zigzag(bool against, int parallel, bool forced) {
 inline Network parallels(uint64_t seed, int nodes, bool both_ways) {
     Dice dice(seed);
     Network n;
-    n.name = "512 arcs between " + std::to_string(nodes) + " nodes" + (both_ways ? ", both ways" : "");
+    n.name = "512 arcs between " + std::to_string(nodes) + " nodes " + std::to_string(seed) + (both_ways ? ", both ways" : "");
     n.balances.assign(nodes, 0);
     std::vector<long> flow;
     for (int a = 0; a < 512; a++) {
@@ -179,11 +173,11 @@ inline Network parallels(uint64_t seed, int nodes, bool both_ways) {
     return n;
 }
 
-// A grid with flow across it; the arcs in the order of a snake, so that paths are long.
+// A grid, three arcs each way at most; nodes numbered as a snake, arcs from the last node to the first.
 inline Network grid(uint64_t seed, int width, int height, bool negative) {
     Dice dice(seed);
     Network n;
-    n.name = std::to_string(width) + " x " + std::to_string(height) + " grid" + (negative ? ", costs of both signs" : "");
+    n.name = std::to_string(width) + " x " + std::to_string(height) + " grid " + std::to_string(seed) + (negative ? ", costs of both signs" : "");
     n.balances.assign(width * height, 0);
     auto at = [&](int x, int y) { return y * width + (y % 2 ? width - 1 - x : x); };
     std::vector<long> flow;
@@ -206,7 +200,7 @@ inline Network grid(uint64_t seed, int width, int height, bool negative) {
 inline Network transport(uint64_t seed, bool powers) {
     Dice dice(seed);
     Network n;
-    n.name = powers ? "transport, powers of 2" : "transport";
+    n.name = "transport " + std::to_string(seed) + (powers ? ", powers of 2" : "");
     n.balances.assign(64, 0);
     std::vector<long> flow;
     for (int a = 0; a < 512; a++) {
@@ -236,11 +230,11 @@ inline Network diamonds(bool reversed) {
     return n;
 }
 
-// Rings of every length through node 0, each with a gain of its own; all of them compete for the arcs of node 0.
+// A ring with chords of eight lengths, each arc with a gain of its own: a circulation in which all cycles compete.
 inline Network rings(uint64_t seed) {
     Dice dice(seed);
     Network n;
-    n.name = "rings";
+    n.name = "rings " + std::to_string(seed);
     n.balances.assign(64, 0);
     for (int a = 0; a < 512; a++) {
         int step = 1 + a / 64 * (a / 64), u = a % 64;
@@ -249,20 +243,16 @@ inline Network rings(uint64_t seed) {
     return n;
 }
 
-// One unit more than the arcs out of a node can carry: there is no flow, and all but that unit can be sent.
-inline Network narrowly_none(Network n) {
-    std::vector<long> room(n.balances.size(), 0);
-    for (const Arc &a : n.arcs)
-        if (a.tail != a.head) room[a.tail] += a.up;
+// The same arcs without a flow: node 0 is to send out one unit more than its arcs can carry. All but that unit can be sent.
+inline Network narrowly_none(Network n, uint64_t seed) {
+    Dice dice(seed);
+    std::vector<long> flow;
+    for (const Arc &a : n.arcs) flow.push_back(a.tail == 0 ? a.up : a.head == 0 ? a.low : dice.roll(a.low, a.up));
     n.name += ", narrowly none";
     std::fill(n.balances.begin(), n.balances.end(), 0);
-    for (size_t v = 0; v < room.size(); v += 2) {
-        long most = room[v] + (v == 0);
-        n.balances[v] += int(most);
-        n.balances[v + 1] -= int(most);
-        for (const Arc &a : n.arcs)        // what comes in besides must go out too
-            if (a.tail != a.head && a.head == int(v) && a.low > 0) { n.balances[v] -= a.low; n.balances[v + 1] += a.low; }
-    }
+    n.balance(flow);
+    n.balances.front()++;
+    n.balances.back()--;
     return n;
 }
 
@@ -318,10 +308,9 @@ inline std::vector<Network> hostile_networks() {
     for (bool f : {false, true}) all.push_back(long_lists(f));
     for (uint64_t seed : {1, 2, 3, 4, 5}) {
         all.push_back(random_network(1000 + seed));
-        all.back().name = "random";
+        all.back().name = "random " + std::to_string(1000 + seed);
     }
-    for (int k = int(all.size()) - 1; k >= 0; k--)
-        if (all[k].balances.size() % 2 == 0) all.push_back(narrowly_none(all[k]));
+    for (size_t k = 0, some = all.size(); k < some; k++) all.push_back(narrowly_none(all[k], k));
     for (Network &n : all)                 // the limits
         if (n.balances.size() > 64 || n.arcs.size() > 512) abort();
     return all;
