@@ -1,0 +1,4 @@
+mod Lines
+pub mod NetworkRun
+pub mod FirstFlow
+mod NetworkExamples
