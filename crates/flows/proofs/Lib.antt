@@ -1,5 +1,5 @@
 mod Detours
-mod Certified
+pub mod Certified
 mod Minimising
 mod Following
 mod Counting

@@ -8,3 +8,4 @@ mod Ways
 mod Searching
 pub mod Pricing
 pub mod Shorten
+pub mod Potentials

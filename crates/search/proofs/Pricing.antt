@@ -24,18 +24,18 @@ use Rattle.search.proofs.Rounds.{Trip, AtMost, Changed, quiet, noisy, a
 use Rattle.search.proofs.Cycles.{roomy-usable}
 use Rattle.search.proofs.Shorten.{rise, shorten}
 
-usable-roomy : (N : Net) (f : List ℕ) (c : ℕ) → usable N f c ≡ true → roomy N f 1 c ≡ true
+pub usable-roomy : (N : Net) (f : List ℕ) (c : ℕ) → usable N f c ≡ true → roomy N f 1 c ≡ true
 usable-roomy N f c e = go (eqb (c % 2) 0) refl
   where
     go : (t : Bool) → eqb (c % 2) 0 ≡ t → roomy N f 1 c ≡ true
     go true q = rw q (le-leb (getD f (c / 2) 0 + 1) (up N (c / 2)) (omega (arith, ltb-true (getD f (c / 2) 0) (up N (c / 2)) (rw q at e))))
     go false q = rw q (le-leb (low N (c / 2) + 1) (getD f (c / 2) 0) (omega (arith, ltb-true (low N (c / 2)) (getD f (c / 2) 0) (rw q at e))))
 
-walk-trip : (N : Net) (f : List ℕ) (u v : ℕ) (cs : List ℕ) → Walk N f u v cs → Trip N f 1 u v cs
+pub walk-trip : (N : Net) (f : List ℕ) (u v : ℕ) (cs : List ℕ) → Walk N f u v cs → Trip N f 1 u v cs
 walk-trip N f u v [] w = w
 walk-trip N f u v (c ∷ cs) (a, b, e, w) = (a, usable-roomy N f c b, e, walk-trip N f u (src N c) cs w)
 
-trip-walk : (N : Net) (f : List ℕ) (u v : ℕ) (cs : List ℕ) → Trip N f 1 u v cs → Walk N f u v cs
+pub trip-walk : (N : Net) (f : List ℕ) (u v : ℕ) (cs : List ℕ) → Trip N f 1 u v cs → Walk N f u v cs
 trip-walk N f u v [] w = w
 trip-walk N f u v (c ∷ cs) (a, b, e, w) = (a, roomy-usable N f 1 c (omega arith) b, e, trip-walk N f u (src N c) cs w)
 

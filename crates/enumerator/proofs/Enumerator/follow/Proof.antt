@@ -1,0 +1,108 @@
+use borrow.Author.Needs.{needs}
+use mathlib.Core.Path.{_≡_, refl, sym, _∙_}
+use Prim.Native.Nat.{_≤_}
+use native.Mathlib.Omega.{arith}
+use lib.ListN.{length, take, drop}
+use lib.Seq.{length-take-le}
+use mir.Syntax.{w64}
+use mir.Facts.{toZ-ofZ}
+use borrow.Author.Tests.{not-true, not-false}
+use Rattle.flows.specs.Following.{Next}
+use Rattle.least_cost.specs.Marked.{Marked}
+use Rattle.least_cost.proofs.Marked.{marked-any}
+use Rattle.least_cost.proofs.Tests.{part-written}
+use Rattle.enumerator.specs.Enumerator.{netOf, flowIn}
+use Rattle.enumerator.specs.declared.Place.the-variants.{End}
+use Rattle.enumerator.proofs.Held.{few, in-tails, in-heads, in-lows, in-ups}
+use Rattle.enumerator.proofs.Standing.{ready-on}
+use Rattle.enumerator.proofs.Steps.{step-off, step-on, cost-on, same-cost}
+use Rattle.enumerator.proofs.Enumerator.follow.Statement.{statement}
+use Rattle.enumerator.proofs.Enumerator.follow.Tie as tie
+
+in-flow : (s : tie.Start) → s .args .self .net .arcs ≤ length (s .args .self .flow)
+in-flow s = let e : length (s .args .self .flow) ≡ 512 = search needs in omega (arith, few (s .args .self .net) (s .pre .0 .sound))
+
+in-tight : (s : tie.Start) → s .args .self .net .arcs ≤ length (s .args .self .tight)
+in-tight s = let e : length (s .args .self .tight) ≡ 512 = search needs in omega (arith, few (s .args .self .net) (s .pre .0 .sound))
+
+line-of : (s : tie.Start) → Marked (netOf (s .args .self)) (take (s .args .self .net .arcs) (s .args .self .tight)) (flowIn (s .args .self))
+line-of s = s .pre .0 .marked (s .pre .1)
+
+next-of : (c : tie.After-next) → let s = c .before .before .before .before .before .before .before .before .before .before .before .before .before .before .args .self in Next (netOf s) (flowIn s) (c .next .last .1 .1 .1 .1 .1 .0) (c .next .result)
+next-of c = let s = c .before .before .before .before .before .before .before .before .before .before .before .before .before .before in c .next .ensures .2 (netOf (s .args .self) .balances) (netOf (s .args .self) .costs) (line-of s .potential) (line-of s .marks)
+
+array-share-prefix-tails : tie.Need-array-share-prefix-tails
+array-share-prefix-tails c = let s = c .before .before .before .before .before .before .before in in-tails (s .args .self .net) (s .pre .0 .sound)
+
+slice-aggregate-next : tie.Need-slice-aggregate-next
+slice-aggregate-next c = search needs
+
+array-share-prefix-heads : tie.Need-array-share-prefix-heads
+array-share-prefix-heads c = let s = c .before .before .before .before .before .before .before .before in in-heads (s .args .self .net) (s .pre .0 .sound)
+
+slice-aggregate-next-2 : tie.Need-slice-aggregate-next-2
+slice-aggregate-next-2 c = search needs
+
+array-share-prefix-lows : tie.Need-array-share-prefix-lows
+array-share-prefix-lows c = let s = c .before .before .before .before .before .before .before .before .before in in-lows (s .args .self .net) (s .pre .0 .sound)
+
+slice-aggregate-next-3 : tie.Need-slice-aggregate-next-3
+slice-aggregate-next-3 c = search needs
+
+array-share-prefix-ups : tie.Need-array-share-prefix-ups
+array-share-prefix-ups c = let s = c .before .before .before .before .before .before .before .before .before .before in in-ups (s .args .self .net) (s .pre .0 .sound)
+
+slice-aggregate-next-4 : tie.Need-slice-aggregate-next-4
+slice-aggregate-next-4 c = search needs
+
+array-share-prefix-tight : tie.Need-array-share-prefix-tight
+array-share-prefix-tight c = in-tight (c .before .before .before .before .before .before .before .before .before .before .before)
+
+slice-aggregate-next-5 : tie.Need-slice-aggregate-next-5
+slice-aggregate-next-5 c = let s = c .before .before .before .before .before .before .before .before .before .before .before .before in sym (length-take-le (s .args .self .net .arcs) (s .args .self .tight) (in-tight s))
+
+array-borrow-prefix-flow : tie.Need-array-borrow-prefix-flow
+array-borrow-prefix-flow c = in-flow (c .before .before .before .before .before .before .before .before .before .before .before .before)
+
+slice-aggregate-next-6 : tie.Need-slice-aggregate-next-6
+slice-aggregate-next-6 c = let s = c .before .before .before .before .before .before .before .before .before .before .before .before .before in sym (length-take-le (s .args .self .net .arcs) (s .args .self .flow) (in-flow s))
+
+next-requires : tie.Need-next-requires
+next-requires c κs = let s = c .before .before .before .before .before .before .before .before .before .before .before .before .before in ready-on (s .args .self) (s .pre .0) (s .pre .1)
+
+returns : tie.Need-returns
+returns c = let s = c .before .before .before .before .before .before .before .before .before .before .before .before .before .before .before .before in
+    step-off (s .args .self) (s .pre .0 .sound) _ _ End (λ _. refl) _ (next-of (c .before .before) .end (not-true (c .before .before .next .result) (c .if1 .taken)))
+
+returns-2 : tie.Need-returns-2
+returns-2 c =
+    let s = c .before .before .before .before .before .before .before .before .before .before .before .before .before .before .before .before .before in
+    let e = c .before in
+    let k = e .before .before .next in
+    let g = k .last .1 .1 .1 .1 .1 .0 in
+    let yes = not-false (k .result) (e .if1 .left) in
+    let least = next-of (e .before .before) .least yes in
+    step-on (s .args .self) (s .pre .0 .sound) _ _ End _ g _ (next-of (e .before .before) .follows yes)
+    (part-written g (drop (s .args .self .net .arcs) (s .args .self .flow)) (s .args .self .net .arcs) (least .flow .all-arcs ∙ sym (s .pre .0 .sound .arcs-held)) .1)
+    (toZ-ofZ {w = w64} {z = s .args .self .cost} (search needs) ∙ cost-on (s .args .self) (s .pre .0) (s .pre .1) ∙ same-cost (netOf (s .args .self)) (flowIn (s .args .self)) g (line-of s .marks .least) least)
+    (marked-any (netOf (s .args .self)) (take (s .args .self .net .arcs) (s .args .self .tight)) (flowIn (s .args .self)) g (line-of s) least)
+
+pub follow-spec : {M : Type 1} → statement M
+follow-spec =
+    tie.close
+    (tie.spec
+    array-share-prefix-tails
+    slice-aggregate-next
+    array-share-prefix-heads
+    slice-aggregate-next-2
+    array-share-prefix-lows
+    slice-aggregate-next-3
+    array-share-prefix-ups
+    slice-aggregate-next-4
+    array-share-prefix-tight
+    slice-aggregate-next-5
+    array-borrow-prefix-flow
+    slice-aggregate-next-6
+    next-requires
+    returns
+    returns-2)

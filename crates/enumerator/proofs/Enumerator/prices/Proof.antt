@@ -1,0 +1,86 @@
+use borrow.Author.Needs.{needs}
+use mathlib.Core.Path.{_≡_, sym, subst}
+use mathlib.Core.List.{List}
+use Prim.Native.Nat.{ℕ, _≤_, _<_}
+use native.Mathlib.Omega.{arith}
+use lib.ListN.{length, getD}
+use lib.Seq.{length-take-le}
+use lib.IntN.{ℤ, pos}
+use Rattle.network.specs.Network.{nodes}
+use Rattle.network.specs.Residual.{Price}
+use Rattle.search.proofs.Potentials.{labels-small}
+use Rattle.enumerator.specs.Enumerator.{netOf, flowIn}
+use Rattle.enumerator.proofs.Held.{few, in-tails, in-heads, in-lows, in-ups, in-costs}
+use Rattle.enumerator.proofs.Standing.{bareOf, relaxable-on, settled-on, prices-on}
+use Rattle.enumerator.proofs.Enumerator.prices.Statement.{statement}
+use Rattle.enumerator.proofs.Enumerator.prices.Tie as tie
+
+in-flow : (s : tie.Start) → s .args .self .net .arcs ≤ length (s .args .self .flow)
+in-flow s = let e : length (s .args .self .flow) ≡ 512 = search needs in omega (arith, few (s .args .self .net) (s .pre .0 .sound))
+
+array-share-prefix-tails : tie.Need-array-share-prefix-tails
+array-share-prefix-tails c = let s = c .before .before .before .before .before .before .before in in-tails (s .args .self .net) (s .pre .0 .sound)
+
+slice-aggregate-prices : tie.Need-slice-aggregate-prices
+slice-aggregate-prices c = search needs
+
+array-share-prefix-heads : tie.Need-array-share-prefix-heads
+array-share-prefix-heads c = let s = c .before .before .before .before .before .before .before .before in in-heads (s .args .self .net) (s .pre .0 .sound)
+
+slice-aggregate-prices-2 : tie.Need-slice-aggregate-prices-2
+slice-aggregate-prices-2 c = search needs
+
+array-share-prefix-lows : tie.Need-array-share-prefix-lows
+array-share-prefix-lows c = let s = c .before .before .before .before .before .before .before .before .before in in-lows (s .args .self .net) (s .pre .0 .sound)
+
+slice-aggregate-prices-3 : tie.Need-slice-aggregate-prices-3
+slice-aggregate-prices-3 c = search needs
+
+array-share-prefix-ups : tie.Need-array-share-prefix-ups
+array-share-prefix-ups c = let s = c .before .before .before .before .before .before .before .before .before .before in in-ups (s .args .self .net) (s .pre .0 .sound)
+
+slice-aggregate-prices-4 : tie.Need-slice-aggregate-prices-4
+slice-aggregate-prices-4 c = search needs
+
+array-share-prefix-costs : tie.Need-array-share-prefix-costs
+array-share-prefix-costs c = let s = c .before .before .before .before .before .before .before .before .before .before .before in in-costs (s .args .self .net) (s .pre .0 .sound)
+
+slice-aggregate-prices-5 : tie.Need-slice-aggregate-prices-5
+slice-aggregate-prices-5 c = search needs
+
+array-share-prefix-flow : tie.Need-array-share-prefix-flow
+array-share-prefix-flow c = in-flow (c .before .before .before .before .before .before .before .before .before .before .before .before)
+
+slice-aggregate-prices-6 : tie.Need-slice-aggregate-prices-6
+slice-aggregate-prices-6 c = let s = c .before .before .before .before .before .before .before .before .before .before .before .before .before in sym (length-take-le (s .args .self .net .arcs) (s .args .self .flow) (in-flow s))
+
+prices-requires : tie.Need-prices-requires
+prices-requires c κs = let s = c .before .before .before .before .before .before .before .before .before .before .before .before .before in (relaxable-on (s .args .self) (s .pre .0) (s .pre .1), settled-on (s .args .self) (s .pre .0) (s .pre .1))
+
+narrow-requires : tie.Need-narrow-requires
+narrow-requires c κs = let s = c .before .before .before .before .before .before .before .before .before .before .before .before .before .before in labels-small (bareOf (s .args .self)) (flowIn (s .args .self)) (relaxable-on (s .args .self) (s .pre .0) (s .pre .1)) (c .prices .result) (c .prices .ensures)
+
+returns : tie.Need-returns
+returns c = let s = c .before .before .before .before .before .before .before .before .before .before .before .before .before .before .before in
+    subst (λ (d : List ℤ). (v : ℕ) → v < nodes (netOf (s .args .self)) → Price (netOf (s .args .self)) (flowIn (s .args .self)) v (getD d v (pos 0))) (sym (c .narrow .ensures))
+    (prices-on (s .args .self) (s .pre .0) (c .before .prices .result) (c .before .prices .ensures))
+
+pub prices-spec : {M : Type 1} → statement M
+prices-spec =
+    tie.close
+    (tie.spec
+    array-share-prefix-tails
+    slice-aggregate-prices
+    array-share-prefix-heads
+    slice-aggregate-prices-2
+    array-share-prefix-lows
+    slice-aggregate-prices-3
+    array-share-prefix-ups
+    slice-aggregate-prices-4
+    array-share-prefix-costs
+    slice-aggregate-prices-5
+    array-share-prefix-flow
+    slice-aggregate-prices-6
+    prices-requires
+    narrow-requires
+    returns)

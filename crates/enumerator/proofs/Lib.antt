@@ -1,0 +1,4 @@
+mod Held
+mod Standing
+mod Steps
+mod Places

@@ -1,0 +1,44 @@
+-- A state on a line meets what the functions beneath ask.
+use mathlib.Core.Path.{_≡_}
+use mathlib.Core.List.{List}
+use Prim.Native.Nat.{ℕ, _<_}
+use lib.ListN.{getD, take}
+use lib.IntN.{ℤ, pos}
+use Rattle.network.specs.Network.{Net, nodes}
+use Rattle.network.specs.Residual.{Price}
+use Rattle.certificates.specs.Push.{InBounds, flow-bounds}
+use Rattle.search.specs.Labels.{costGraph, Relaxable}
+use Rattle.search.specs.Search.{Settled}
+use Rattle.search.specs.Prices.{PriceLabels}
+use Rattle.search.proofs.Pricing.{labels-price}
+use Rattle.paths.specs.Graph.{graph}
+use Rattle.paths.specs.Pushing.{Ready}
+use Rattle.least_cost.proofs.Premises.{relaxable, ready}
+use Rattle.least_cost.proofs.Marked.{settled-bare, marked-settled}
+use Rattle.enumerator.specs.Enumerator.{netOf, flowIn, Stands}
+use Rattle.enumerator.specs.declared.Enumerator.{Enumerator}
+use Rattle.enumerator.specs.declared.Place.the-variants.{Line}
+
+-- the network without its balances
+abbrev pub bareOf : Enumerator → Net
+bareOf s = let N = netOf s in costGraph (N .tails) (N .heads) (N .lows) (N .ups) (N .costs)
+
+module _ (s : Enumerator) (h : Stands s) where
+  module _ (on : s .place ≡ Line) where
+    bounds : InBounds (netOf s) (flowIn s)
+    bounds = flow-bounds (netOf s) (flowIn s) (h .marked on .marks .least .flow)
+
+    pub ready-on : let N = netOf s in Ready (graph (N .tails) (N .heads) (N .lows) (N .ups)) (flowIn s) (take (s .net .arcs) (s .tight))
+    ready-on = let N = netOf s in ready (N .balances) (N .tails) (N .heads) (N .lows) (N .ups) (N .costs) (h .sound .accepted) (flowIn s) bounds (take (s .net .arcs) (s .tight)) (h .marked on .marks-len)
+
+    pub relaxable-on : Relaxable (bareOf s) (flowIn s)
+    relaxable-on = let N = netOf s in relaxable (N .balances) (N .tails) (N .heads) (N .lows) (N .ups) (N .costs) (h .sound .accepted) (flowIn s) bounds
+
+    pub settled-on : Settled (bareOf s) (flowIn s) 1
+    settled-on =
+        let N = netOf s in
+        settled-bare (N .balances) (N .tails) (N .heads) (N .lows) (N .ups) (N .costs) (flowIn s)
+        (marked-settled (N .balances) (N .tails) (N .heads) (N .lows) (N .ups) (N .costs) (flowIn s) (take (s .net .arcs) (s .tight)) (h .marked on))
+
+  pub prices-on : (d : List ℤ) → PriceLabels (bareOf s) (flowIn s) d → (v : ℕ) → v < nodes (netOf s) → Price (netOf s) (flowIn s) v (getD d v (pos 0))
+  prices-on d P = let N = netOf s in labels-price (N .balances) (N .tails) (N .heads) (N .lows) (N .ups) (N .costs) (flowIn s) (h .sound .accepted .well-formed) (h .sound .accepted .few-nodes) d P

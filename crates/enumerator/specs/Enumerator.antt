@@ -1,0 +1,72 @@
+-- The state of a walk through the full list of a network.
+use mathlib.Core.Path.{_≡_}
+use mathlib.Core.Logic.{_≢_}
+use mathlib.Core.List.{List}
+use mathlib.Core.Option.{Option, none, some}
+use Prim.Native.Nat.{ℕ}
+use lib.ListN.{take}
+use lib.IntN.{ℤ, pos}
+use Rattle.network.specs.Network.{Net, LeastCost, costOf}
+use Rattle.network.specs.FullList.{nextFlow}
+use Rattle.network.specs.Checked.{netIn, Sound}
+use Rattle.least_cost.specs.Marked.{Marked}
+use Rattle.enumerator.specs.declared.Enumerator.{Enumerator}
+use Rattle.enumerator.specs.declared.Place.{Place}
+use Rattle.enumerator.specs.declared.Place.the-variants.{Start, Line, None, End}
+
+-- the network walked, and the numbers held, one for each of its arcs
+abbrev pub netOf : Enumerator → Net
+netOf s = netIn (s .net)
+
+abbrev pub flowIn : Enumerator → List ℕ
+flowIn s = take (s .net .arcs) (s .flow)
+
+-- the line that the walk stands on: none before the first, none with "none" and with "end"
+abbrev pub lineAt : Place → List ℕ → Option (List ℕ)
+lineAt Start f = none
+lineAt Line f = some f
+lineAt None f = none
+lineAt End f = none
+
+abbrev pub lineOf : Enumerator → Option (List ℕ)
+lineOf s = lineAt (s .place) (flowIn s)
+
+-- where the walk stands after a step that has the word w for no line
+abbrev pub placeOf : Place → Option (List ℕ) → Place
+placeOf w none = w
+placeOf w (some f) = Line
+
+-- the word for no line after a step from a place; without a line, no step is made
+abbrev pub wordAfter : Place → Place
+wordAfter Start = Start
+wordAfter Line = End
+wordAfter None = None
+wordAfter End = End
+
+-- "First and next also give the cost, 0 with 'none' or 'end'."
+abbrev pub costShown : Net → Option (List ℕ) → ℤ
+costShown N none = pos 0
+costShown N (some f) = costOf N f
+
+-- what follows a line; nothing follows no line
+abbrev pub following : Net → Option (List ℕ) → Option (List ℕ)
+following N none = none
+following N (some f) = nextFlow N f
+
+-- a state: its network is an accepted one, its cost that of its line, and its marks lead on from its line
+pub record Stands (s : Enumerator) : Type 0 where
+  pub sound : Sound (s .net)
+  pub cost-is : s .cost ≡ costShown (netOf s) (lineOf s)
+  pub marked : s .place ≡ Line → Marked (netOf s) (take (s .net .arcs) (s .tight)) (flowIn s)
+
+-- r is the state after a step from s to the line o, with the word w where there is none
+pub record Steps (s : Enumerator) (w : Place) (o : Option (List ℕ)) (r : Enumerator) : Type 0 where
+  pub stands : Stands r
+  pub net-is : r .net ≡ s .net
+  pub line-is : lineOf r ≡ o
+  pub place-is : r .place ≡ placeOf w o
+
+-- r stands on f if that is a least-cost flow, and else on no line
+pub record Resumes (N : Net) (f : List ℕ) (r : Enumerator) : Type 0 where
+  pub on : r .place ≡ Line → (flowIn r ≡ f) × LeastCost N f
+  pub off : r .place ≢ Line → ¬ LeastCost N f

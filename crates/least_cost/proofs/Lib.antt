@@ -1,0 +1,4 @@
+pub mod Premises
+pub mod Marked
+pub mod Tests
+mod Question8

@@ -1,0 +1,89 @@
+-- From the price labels of a flow to its marks, and back to a potential.
+use mathlib.Core.Path.{_≡_, refl, ap}
+use mathlib.Core.Bool.{Bool, true, false}
+use mathlib.Core.List.{List}
+use mathlib.Core.Option.{none, some}
+use Prim.Native.Nat.{ℕ, _/_, _%_, _<_}
+use native.Mathlib.Omega.{arith}
+use lib.Dec.{eqb}
+use lib.ListN.{length, getD}
+use lib.IntN.{ℤ, pos}
+use lib.Signed.{_≤ℤ_}
+use borrow.Author.Tests.{ltb-true}
+use Rattle.laws.specs.Linear.{lin, given}
+use Rattle.network.specs.Network.{Net, low, up, WellFormed, IsFlow, LeastCost}
+use Rattle.network.specs.Residual.{codes, usable}
+use Rattle.network.specs.FullList.{firstFlow}
+use Rattle.laws.specs.Members.{first?}
+use Rattle.network.proofs.FullList.{none-iff}
+use Rattle.certificates.specs.Optimality.{Optimal, priced-optimal, stepReduced}
+use Rattle.certificates.specs.Order.{first-line}
+use Rattle.search.specs.Labels.{costGraph, Relaxable}
+use Rattle.search.specs.Search.{Quiet, Settled}
+use Rattle.search.specs.Prices.{PriceLabels}
+use Rattle.search.proofs.Cycles.{roomy-usable}
+use Rattle.search.proofs.Pricing.{usable-roomy}
+use Rattle.search.proofs.Potentials.{labels-quiet}
+use Rattle.paths.specs.Graph.{netWith}
+use Rattle.flows.specs.Minimising.{Minimised}
+use Rattle.flows.proofs.Certified.{tight-any}
+use Rattle.costs.specs.Costs.{endsAndCosts, MarkedBelow}
+use Rattle.least_cost.specs.Marked.{Marked}
+
+-- no residual arc below 0: every one at least 0, arc by arc
+quiet-optimal : (N : Net) (f : List ℕ) (π : ℕ → ℤ) → Quiet N f 1 π → Optimal N f π
+quiet-optimal N f π q = priced-optimal N f π (λ c k r. given (q .reduced c k (usable-roomy N f c r)) (simp lin (omega arith)))
+
+-- and code by code
+optimal-priced : (N : Net) (f : List ℕ) (π : ℕ → ℤ) → Optimal N f π → (e : ℕ) → e < codes N → usable N f e ≡ true → pos 0 ≤ℤ stepReduced N π e
+optimal-priced N f π o e k r = go (eqb (e % 2) 0) refl
+  where
+    go : (t : Bool) → eqb (e % 2) 0 ≡ t → pos 0 ≤ℤ stepReduced N π e
+    go true q = rw q (o .room-up (e / 2) (omega arith) (ltb-true (getD f (e / 2) 0) (up N (e / 2)) (rw q at r)))
+    go false q = rw q (given (o .room-down (e / 2) (omega arith) (ltb-true (low N (e / 2)) (getD f (e / 2) 0) (rw q at r))) (simp lin (omega arith)))
+
+module _ (b : List ℤ) (t h l u : List ℕ) (c : List ℤ) (f : List ℕ) where
+  pub settled-bare : Settled (netWith b t h l u c) f 1 → Settled (costGraph t h l u c) f 1
+  settled-bare s = record { potential = s .potential; quiet = record { low = s .quiet .low; reduced = s .quiet .reduced } }
+
+  pub settled-whole : Settled (costGraph t h l u c) f 1 → Settled (netWith b t h l u c) f 1
+  settled-whole s = record { potential = s .potential; quiet = record { low = s .quiet .low; reduced = s .quiet .reduced } }
+
+  pub marked-by : WellFormed (netWith b t h l u c) → LeastCost (netWith b t h l u c) f → Relaxable (costGraph t h l u c) f → (d : List ℤ) → PriceLabels (costGraph t h l u c) f d
+      → (tight : List Bool) → length tight ≡ length t → MarkedBelow (endsAndCosts t h c) (λ v. getD d v (pos 0)) tight (length t) → Marked (netWith b t h l u c) tight f
+  marked-by ok least rel d P tight e m =
+      let q = labels-quiet (costGraph t h l u c) f rel d P in
+      record {
+        potential = λ v. getD d v (pos 0);
+        low = q .low;
+        marks-len = e;
+        marks = record {
+          well-formed = ok;
+          marked = m .marked;
+          unmarked = m .unmarked;
+          least = least;
+          optimal = quiet-optimal (netWith b t h l u c) f (λ v. getD d v (pos 0)) (record { low = q .low; reduced = q .reduced });
+        };
+      }
+
+  -- a potential from the marks
+  pub marked-settled : (tight : List Bool) → Marked (netWith b t h l u c) tight f → Settled (netWith b t h l u c) f 1
+  marked-settled tight m = record {
+    potential = m .potential;
+    quiet = record { low = m .low; reduced = λ e k r. given (optimal-priced (netWith b t h l u c) f (m .potential) (m .marks .optimal) e k (roomy-usable (netWith b t h l u c) f 1 e (omega arith) r)) (simp lin (omega arith)) };
+  }
+
+-- the marks of one flow serve every other
+pub marked-any : (N : Net) (tight : List Bool) (f g : List ℕ) → Marked N tight f → LeastCost N g → Marked N tight g
+marked-any N tight f g m least = record {
+  potential = m .potential;
+  low = m .low;
+  marks-len = m .marks-len;
+  marks = tight-any N (m .potential) tight f g (m .marks) least;
+}
+
+pub first-marked : (N : Net) (tight : List Bool) (f g : List ℕ) → Marked N tight f → Minimised N f g 0 → (firstFlow N ≡ some g) × Marked N tight g
+first-marked N tight f g m least = (first-line N (m .marks .well-formed) g (least .least) (λ a h. least .minimal a h), marked-any N tight f g m (least .least))
+
+pub no-first : (N : Net) → WellFormed N → ((g : List ℕ) → ¬ IsFlow N g) → firstFlow N ≡ none
+no-first N ok h = ap first? (none-iff N ok .1 h)

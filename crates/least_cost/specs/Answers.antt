@@ -1,0 +1,30 @@
+-- What the search for the first flow and the test of a flow answer.
+use mathlib.Core.Path.{_≡_}
+use mathlib.Core.Bool.{Bool, true, false}
+use mathlib.Core.List.{List}
+use mathlib.Core.Option.{none, some}
+use Prim.Native.Nat.{ℕ}
+use Rattle.network.specs.Network.{Net, LeastCost}
+use Rattle.network.specs.FullList.{firstFlow}
+use Rattle.search.specs.Search.{Settled}
+use Rattle.least_cost.specs.Marked.{Marked}
+
+-- the first flow, marked; or there is none
+abbrev pub FirstFlow : Net → List ℕ → List Bool → Bool → Type 0
+FirstFlow N f tight true = (firstFlow N ≡ some f) × Marked N tight f
+FirstFlow N f tight false = firstFlow N ≡ none
+
+-- the answer to whether P
+abbrev pub Decides : Type 0 → Bool → Type 0
+Decides P true = P
+Decides P false = ¬ P
+
+-- whether f is a least-cost flow; if so, no negative cycle has room for 1
+abbrev pub Tested : Net → List ℕ → Bool → Type 0
+Tested N f true = LeastCost N f × Settled N f 1
+Tested N f false = ¬ LeastCost N f
+
+-- question 8: "a least-cost flow of the network", marked; or it is none
+abbrev pub MarkedIfLeast : Net → List ℕ → List Bool → Bool → Type 0
+MarkedIfLeast N f tight true = Marked N tight f
+MarkedIfLeast N f tight false = ¬ LeastCost N f

@@ -1,0 +1,17 @@
+-- A least-cost flow with the marks by which the others are found.
+use mathlib.Core.Path.{_≡_}
+use mathlib.Core.Bool.{Bool}
+use mathlib.Core.List.{List}
+use Prim.Native.Nat.{ℕ}
+use lib.ListN.{length}
+use lib.IntN.{ℤ, pos}
+use lib.Signed.{_≤ℤ_}
+use Rattle.network.specs.Network.{Net, arcs}
+use Rattle.flows.specs.Tight.{Tight}
+
+-- under some potential, `tight` marks the arcs of reduced cost 0, and f is a least-cost flow
+pub record Marked (N : Net) (tight : List Bool) (f : List ℕ) : Type 0 where
+  pub potential : ℕ → ℤ
+  pub low : (v : ℕ) → potential v ≤ℤ pos 0
+  pub marks-len : length tight ≡ arcs N
+  pub marks : Tight N potential tight f

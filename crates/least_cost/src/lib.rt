@@ -1,0 +1,143 @@
+// The first least-cost flow of a network, and the test of a given flow.
+ghost use mathlib.Core.Path.{_≡_};
+ghost use Prim.Native.Nat.{ℕ, _≤_, _<_};
+ghost use lib.ListN.{length, getD};
+ghost use lib.IntN.{pos};
+ghost use Rattle.network.specs.Network.{netOut, balance, LeastCost};
+ghost use Rattle.network.specs.Checked.{AcceptedNet};
+ghost use Rattle.certificates.specs.Push.{InBounds};
+ghost use Rattle.search.specs.Search.{Settled};
+ghost use Rattle.paths.specs.Graph.{graph, netWith};
+ghost use Rattle.feasible.specs.Excess.{supplies, SmallNumbers};
+ghost use Rattle.least_cost.specs.Marked.{Marked};
+ghost use Rattle.least_cost.specs.Answers.{FirstFlow, Decides, Tested, MarkedIfLeast};
+
+// Marks the arcs of reduced cost 0 under the prices of a least-cost flow.
+fn mark(
+    tails: &[u8],
+    heads: &[u8],
+    lows: &[u32],
+    ups: &[u32],
+    costs: &[i32],
+    balances: &[i32],
+    flow: &[u32],
+    tight: &mut [bool],
+)
+    requires { ⌜ AcceptedNet (netWith (now balances) (now tails) (now heads) (now lows) (now ups) (now costs)) × LeastCost (netWith (now balances) (now tails) (now heads) (now lows) (now ups) (now costs)) (now flow) × Settled (netWith (now balances) (now tails) (now heads) (now lows) (now ups) (now costs)) (now flow) 1 × (length (now tight) ≡ length (now tails)) ⌝ }
+    ensures { λ _. ⌜ Marked (netWith (now (balances .entry)) (now (tails .entry)) (now (heads .entry)) (now (lows .entry)) (now (ups .entry)) (now (costs .entry))) (now (tight .exit)) (now (flow .entry)) ⌝ }
+{
+    let prices = search::prices(tails, heads, lows, ups, costs, flow);
+    costs::mark_tight(tails, heads, costs, &prices, tight);
+}
+
+// The first flow, and its marks; false if there is none.
+pub fn first_flow(
+    tails: &[u8],
+    heads: &[u8],
+    lows: &[u32],
+    ups: &[u32],
+    costs: &[i32],
+    balances: &[i32],
+    flow: &mut [u32],
+    tight: &mut [bool],
+) -> bool
+    requires { ⌜ AcceptedNet (netWith (now balances) (now tails) (now heads) (now lows) (now ups) (now costs)) × (length (now flow) ≡ length (now tails)) × (length (now tight) ≡ length (now tails)) ⌝ }
+    ensures { λ r. ⌜ FirstFlow (netWith (now (balances .entry)) (now (tails .entry)) (now (heads .entry)) (now (lows .entry)) (now (ups .entry)) (now (costs .entry))) (now (flow .exit)) (now (tight .exit)) r ⌝ }
+{
+    if !feasible::feasible(tails, heads, lows, ups, balances, flow) {
+        return false;
+    }
+    cancelling::cheapen(tails, heads, lows, ups, costs, flow);
+    mark(tails, heads, lows, ups, costs, balances, flow, tight);
+    flows::minimise(tails, heads, lows, ups, tight, flow, 0);
+    true
+}
+
+// Whether each number is within the bounds of its arc.
+fn within_bounds(lows: &[u32], ups: &[u32], flow: &[u32]) -> bool
+    requires { ⌜ (length (now lows) ≡ length (now flow)) × (length (now ups) ≡ length (now flow)) ⌝ }
+    ensures { λ r. ⌜ Decides (InBounds (graph (now (flow .entry)) (now (flow .entry)) (now (lows .entry)) (now (ups .entry))) (now (flow .entry))) r ⌝ }
+{
+    let mut a = 0;
+    while a < flow.len() {
+        let f = flow[a];
+        if f < lows[a] {
+            return false;
+        }
+        if ups[a] < f {
+            return false;
+        }
+        a += 1;
+    }
+    true
+}
+
+// Whether every number is 0.
+fn all_zero(excess: &[i64]) -> bool
+    ensures { λ r. ⌜ Decides ((v : ℕ) → v < length (now (excess .entry)) → getD (now (excess .entry)) v (pos 0) ≡ pos 0) r ⌝ }
+{
+    let mut v = 0;
+    while v < excess.len() {
+        let x = excess[v];
+        if x != 0 {
+            return false;
+        }
+        v += 1;
+    }
+    true
+}
+
+// Whether the flow out less the flow in is the balance at every node.
+fn is_balanced(tails: &[u8], heads: &[u8], balances: &[i32], flow: &[u32]) -> bool
+    requires { ⌜ SmallNumbers (now balances) (now tails) (now heads) (now flow) × (length (now balances) ≤ 64) ⌝ }
+    ensures { λ r. ⌜ Decides ((v : ℕ) → v < length (now (balances .entry)) → netOut (supplies (now (balances .entry)) (now (tails .entry)) (now (heads .entry))) (now (flow .entry)) v ≡ balance (supplies (now (balances .entry)) (now (tails .entry)) (now (heads .entry))) v) r ⌝ }
+{
+    let mut excess = [0i64; 64];
+    let n = balances.len();
+    feasible::excess_of(tails, heads, balances, flow, &mut excess[..n]);
+    all_zero(&excess[..n])
+}
+
+// Question 8, of m numbers: whether they are a least-cost flow.
+fn is_least_cost(
+    tails: &[u8],
+    heads: &[u8],
+    lows: &[u32],
+    ups: &[u32],
+    costs: &[i32],
+    balances: &[i32],
+    flow: &[u32],
+) -> bool
+    requires { ⌜ AcceptedNet (netWith (now balances) (now tails) (now heads) (now lows) (now ups) (now costs)) × (length (now flow) ≡ length (now tails)) ⌝ }
+    ensures { λ r. ⌜ Tested (netWith (now (balances .entry)) (now (tails .entry)) (now (heads .entry)) (now (lows .entry)) (now (ups .entry)) (now (costs .entry))) (now (flow .entry)) r ⌝ }
+{
+    if !within_bounds(lows, ups, flow) {
+        return false;
+    }
+    if !is_balanced(tails, heads, balances, flow) {
+        return false;
+    }
+    let mut codes = [0usize; 64];
+    search::find_cycle(tails, heads, lows, ups, costs, flow, 1, &mut codes) == 0
+}
+
+// Question 8, of m numbers: whether they are a least-cost flow; if so, its marks.
+pub fn mark_if_least(
+    tails: &[u8],
+    heads: &[u8],
+    lows: &[u32],
+    ups: &[u32],
+    costs: &[i32],
+    balances: &[i32],
+    flow: &[u32],
+    tight: &mut [bool],
+) -> bool
+    requires { ⌜ AcceptedNet (netWith (now balances) (now tails) (now heads) (now lows) (now ups) (now costs)) × (length (now flow) ≡ length (now tails)) × (length (now tight) ≡ length (now tails)) ⌝ }
+    ensures { λ r. ⌜ MarkedIfLeast (netWith (now (balances .entry)) (now (tails .entry)) (now (heads .entry)) (now (lows .entry)) (now (ups .entry)) (now (costs .entry))) (now (flow .entry)) (now (tight .exit)) r ⌝ }
+{
+    if !is_least_cost(tails, heads, lows, ups, costs, balances, flow) {
+        return false;
+    }
+    mark(tails, heads, lows, ups, costs, balances, flow, tight);
+    true
+}

@@ -1,0 +1,53 @@
+-- Price labels as potentials: at most 0, quiet, and within 64,000,000.
+use mathlib.Core.Path.{_≡_, refl}
+use mathlib.Core.List.{List, [], _∷_}
+use Prim.Native.Nat.{ℕ, _*_, _<_}
+use native.Mathlib.Omega.{arith}
+use native.Mathlib.Decide.{decLt}
+use lib.ListN.{length, getD, List·getD-eq-default}
+use lib.IntN.{ℤ, pos}
+use lib.Signed.{_≤ℤ_}
+use Rattle.laws.specs.Linear.{lin, given, given2}
+use Rattle.laws.specs.Range.{Bounded, bounded-add, bounded-more, bounded-zero, fits}
+use Rattle.network.specs.Network.{Net}
+use Rattle.network.specs.Residual.{src, dst, stepCost, Walk, walkCost}
+use Rattle.search.specs.Labels.{Relaxable}
+use Rattle.search.specs.Search.{Quiet}
+use Rattle.search.specs.Prices.{PriceLabels}
+use Rattle.search.proofs.Codes.{src-in, dst-in, step-small}
+use Rattle.search.proofs.Cycles.{roomy-usable}
+use Rattle.search.proofs.Shorten.{shorten}
+use Rattle.search.proofs.Pricing.{walk-trip, trip-walk}
+
+module _ (N : Net) (f : List ℕ) (ok : Relaxable N f) (d : List ℤ) (P : PriceLabels N f d) where
+  labels-low : (v : ℕ) → getD d v (pos 0) ≤ℤ pos 0
+  labels-low v = go (decLt v 64)
+    where
+      go : Dec (v < 64) → getD d v (pos 0) ≤ℤ pos 0
+      go (yes h) = P .least v v [] h refl
+      go (no h) = given (List·getD-eq-default d (pos 0) {n = v} (omega (arith, P .len))) (simp lin (omega arith))
+
+  -- a walk to where a residual arc starts, and that arc, lead to where it ends
+  pub labels-quiet : Quiet N f 1 (λ v. getD d v (pos 0))
+  labels-quiet = record {
+    low = labels-low;
+    reduced = λ c k r.
+        (let (u, cs, w, e) = P .walked (src N c) (src-in N (ok .graph) c k) in
+        given2 (P .least u (dst N c) (c ∷ cs) (dst-in N (ok .graph) c k) (k, roomy-usable N f 1 c (omega arith) r, refl, w)) e (simp lin (omega arith)));
+  }
+
+  walk-small : (u v : ℕ) (cs : List ℕ) → Walk N f u v cs → Bounded (1000000 * length cs) (walkCost N cs)
+  walk-small u v [] w = bounded-more (omega arith) bounded-zero
+  walk-small u v (c ∷ cs) w = bounded-more (omega arith) (bounded-add {A = 1000000} {B = 1000000 * length cs} {x = stepCost N c} {y = walkCost N cs} (step-small N f ok c (w .0)) (walk-small u (src N c) cs (w .3)))
+
+  -- a least walk need not have 64 arcs
+  pub labels-small : (v : ℕ) → v < 64 → Bounded 64000000 (getD d v (pos 0))
+  labels-small v h =
+      let (u, cs, w, e) = P .walked v h in
+      let s = shorten N f 1 (ok .graph) (λ v. getD d v (pos 0)) labels-quiet u v cs h (walk-trip N f u v cs w) in
+      let x = trip-walk N f u v (s .walk) (s .leads) in
+      same (getD d v (pos 0)) (walkCost N (s .walk)) (walkCost N cs) e (s .costs) (P .least u v (s .walk) h x)
+      (bounded-more (omega (arith, s .few)) (walk-small u v (s .walk) x))
+    where
+      same : (a b c : ℤ) → c ≡ a → b ≤ℤ c → a ≤ℤ b → Bounded 64000000 b → Bounded 64000000 a
+      same a b c e l k h = given2 e l (given2 k h (simp fits (omega arith)))
