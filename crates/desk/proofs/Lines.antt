@@ -21,7 +21,7 @@ use Rattle.network.specs.Checked.{AcceptedNet}
 use Rattle.network.proofs.FullList.{full-member, full-ascending}
 use Rattle.desk.specs.NetworkCalls.{listed}
 
-every-at : (l : List ℕ) (B : ℕ) → ((a : ℕ) → a < length l → getD l a 0 < B) → Every (λ n. n < B) l
+pub every-at : (l : List ℕ) (B : ℕ) → ((a : ℕ) → a < length l → getD l a 0 < B) → Every (λ n. n < B) l
 every-at [] B h = tt
 every-at (n ∷ l) B h = (h 0 (omega arith), every-at l B (λ a k. h (suc a) (omega arith)))
 

@@ -1,3 +1,4 @@
 pub mod Replies
 pub mod NetworkCalls
 pub mod NetworkRun
+pub mod NetworkEntries

@@ -3,7 +3,7 @@ use mathlib.Core.Path.{_≡_}
 use mathlib.Core.Bool.{Bool, true, false, _&&_, _||_}
 use mathlib.Core.List.{List, [], _∷_}
 use mathlib.Core.Option.{Option, none, some}
-use Prim.Native.Nat.{ℕ, _*_, _%_, _<_}
+use Prim.Native.Nat.{ℕ, _/_, _%_, _<_}
 use lib.Dec.{eqb, leb}
 use lib.ListN.{length, getD}
 use lib.IntN.{ℤ, pos}
@@ -43,7 +43,7 @@ lent (next g fs) = lends fs none
 
 -- 7. "Are the lent lists long enough for m flows and, where given, n prices?" Bytes that are no whole numbers fail it.
 abbrev pub room : ℕ → ℕ → Bool
-room k bytes = eqb (bytes % 4) 0 && leb (4 * k) bytes
+room k bytes = eqb (bytes % 4) 0 && leb k (bytes / 4)
 
 abbrev pub roomIf : ℕ → Option (List ℕ) → Bool
 roomIf k none = true
