@@ -40,7 +40,7 @@ one-fails (suc n) b = (suc n, refl)
 
 module _ (bs xs : List ℕ) where
   -- a call that is answered is one of an accepted network
-  accepts : (c : NetCall) → refuses bs xs c ≡ none → refusal bs xs ≡ 0
+  pub accepts : (c : NetCall) → refuses bs xs c ≡ none → refusal bs xs ≡ 0
   accepts c e = first-passed (refusal bs xs) _ (none-failed (number bs xs c) e)
 
   apart : refusal bs xs ≡ 0 → Apart encodeWords (fullList (net bs xs))

@@ -2,3 +2,4 @@ pub mod Replies
 pub mod NetworkCalls
 pub mod NetworkRun
 pub mod NetworkEntries
+pub mod FirstFlow

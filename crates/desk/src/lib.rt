@@ -1,4 +1,4 @@
-// What C calls. The entries that a network has; each ensures what a caller sees, refused calls included.
+// What C calls: the entries of a network. Each ensures what a caller sees of it, refused calls included.
 ghost use mathlib.Core.Path.{_≡_};
 ghost use mathlib.Core.Bool.{true, cond};
 ghost use mathlib.Core.Option.{none, some};
@@ -89,18 +89,18 @@ fn on_line(place: Place) -> bool
     }
 }
 
-// Writes the line that the state is on; without one the reply is `code`.
-fn hand_out(state: Enumerator, flows: &mut [u8], code: u32) -> Reply
-    requires { ⌜ Stands state × (room (state .net .arcs) (length (now flows)) ≡ true) ⌝ }
-    ensures { λ r. ⌜ HandedOut (netIn (state .net)) (lineOf state) code (now (flows .entry)) r (now (flows .exit)) ⌝ }
+// Writes the line that the walk stands on; without one the reply is `code`.
+fn hand_out(walk: Enumerator, flows: &mut [u8], code: u32) -> Reply
+    requires { ⌜ Stands walk × (room (walk .net .arcs) (length (now flows)) ≡ true) ⌝ }
+    ensures { λ r. ⌜ HandedOut (netIn (walk .net)) (lineOf walk) code (now (flows .entry)) r (now (flows .exit)) ⌝ }
 {
-    let place = state.place;
+    let place = walk.place;
     if !on_line(place) {
         return word(code);
     }
-    let net = state.net;
-    let flow = state.flow;
-    let cost = state.cost;
+    let net = walk.net;
+    let flow = walk.flow;
+    let cost = walk.cost;
     bytes32::write_words(flows, &flow, net.arcs);
     Reply {
         code: 0,
@@ -109,21 +109,21 @@ fn hand_out(state: Enumerator, flows: &mut [u8], code: u32) -> Reply
     }
 }
 
-// Writes the prices beside the line that the state is on.
-fn hand_prices(state: Enumerator, prices: &mut [u8])
-    requires { ⌜ Stands state × (room (state .net .nodes) (length (now prices)) ≡ true) ⌝ }
-    ensures { λ _. ⌜ PricesOut (netIn (state .net)) (lineOf state) (some (now (prices .entry))) (some (now (prices .exit))) ⌝ }
+// Writes the prices of the line that the walk stands on.
+fn hand_prices(walk: Enumerator, prices: &mut [u8])
+    requires { ⌜ Stands walk × (room (walk .net .nodes) (length (now prices)) ≡ true) ⌝ }
+    ensures { λ _. ⌜ PricesOut (netIn (walk .net)) (lineOf walk) (some (now (prices .entry))) (some (now (prices .exit))) ⌝ }
 {
-    let place = state.place;
+    let place = walk.place;
     if !on_line(place) {
         return;
     }
-    let net = state.net;
-    let ps = state.prices();
+    let net = walk.net;
+    let ps = walk.prices();
     bytes32::write_ints(prices, &ps, net.nodes);
 }
 
-// Question 8: on the line given, or on none.
+// Question 8: the walk that stands on the line given, or on none.
 fn find(net: Network, given: &[u8]) -> Enumerator
     requires { ⌜ Sound net ⌝ }
     ensures { λ r. ⌜ Stands r × (r .net ≡ net)
@@ -137,6 +137,7 @@ fn find(net: Network, given: &[u8]) -> Enumerator
     enumerator::resume(net, flow)
 }
 
+// The first least-cost flow, or "none". Questions 1 to 7.
 #[no_mangle]
 pub extern "C" fn desk_network_first(balances: &[u8], arcs: &[u8], flows: &mut [u8]) -> Reply
     ensures { λ r. ⌜ Answers (now (balances .entry)) (now (arcs .entry)) (first (lends (now (flows .entry)) none))
@@ -148,10 +149,11 @@ pub extern "C" fn desk_network_first(balances: &[u8], arcs: &[u8], flows: &mut [
         return word(number);
     }
     let net = checked.net;
-    let state = enumerator::start(net).first();
-    hand_out(state, flows, 100)
+    let walk = enumerator::start(net).first();
+    hand_out(walk, flows, 100)
 }
 
+// The same, with its prices.
 #[no_mangle]
 pub extern "C" fn desk_network_first_priced(
     balances: &[u8],
@@ -171,11 +173,12 @@ pub extern "C" fn desk_network_first_priced(
     if !has_room(net.nodes, prices.len()) {
         return word(7);
     }
-    let state = enumerator::start(net).first();
-    hand_prices(state, prices);
-    hand_out(state, flows, 100)
+    let walk = enumerator::start(net).first();
+    hand_prices(walk, prices);
+    hand_out(walk, flows, 100)
 }
 
+// The least-cost flow after the one given, or "end". Questions 1 to 8.
 #[no_mangle]
 pub extern "C" fn desk_network_next(
     balances: &[u8],
@@ -192,14 +195,15 @@ pub extern "C" fn desk_network_next(
         return word(number);
     }
     let net = checked.net;
-    let state = find(net, given);
-    let place = state.place;
+    let walk = find(net, given);
+    let place = walk.place;
     if !on_line(place) {
         return word(8);
     }
-    hand_out(state.next(), flows, 101)
+    hand_out(walk.next(), flows, 101)
 }
 
+// How many least-cost flows there are, up to the cap. Questions 1 to 6.
 #[no_mangle]
 pub extern "C" fn desk_network_count(balances: &[u8], arcs: &[u8], cap: u16) -> Reply
     ensures { λ r. ⌜ r ≡ countUnless (refusal (now (balances .entry)) (now (arcs .entry))) (countFlows (net (now (balances .entry)) (now (arcs .entry))) cap) ⌝ }

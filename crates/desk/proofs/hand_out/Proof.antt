@@ -22,7 +22,7 @@ word-requires c κs = search needs
 returns : tie.Need-returns
 returns c =
     let a = c .before .before .before .before in
-    let s = a .args .state in
+    let s = a .args .walk in
     let e : lineOf s ≡ none = no-line (s .place) (flowIn s) (sym (c .before .before .on-line .ensures) ∙ not-true (c .before .before .on-line .result) (c .before .if1 .taken)) in
     subst (λ o. HandedOut (netIn (s .net)) o (a .args .code) (a .args .flows .now) (c .word .result) (a .args .flows .now)) (sym e) (c .word .ensures, refl)
 
@@ -41,7 +41,7 @@ returns-2 c =
     let t = w .before .before .before in
     let l = t .before .before .before in
     let a = l .before .before .before in
-    let s = a .args .state in
+    let s = a .args .walk in
     let out = a .args .flows .now in
     let e : lineOf s ≡ some (flowIn s) = a-line (s .place) (flowIn s) (sym (l .before .on-line .ensures) ∙ not-false (l .before .on-line .result) (l .if1 .left)) in
     rw e (

@@ -17,7 +17,7 @@ on-line-requires c κs = search needs
 returns : tie.Need-returns
 returns c =
     let a = c .before .before .before in
-    let s = a .args .state in
+    let s = a .args .walk in
     let e : lineOf s ≡ none = no-line (s .place) (flowIn s) (sym (c .before .on-line .ensures) ∙ not-true (c .before .on-line .result) (c .if1 .taken)) in
     rw e refl
 
@@ -25,7 +25,7 @@ prices-requires : tie.Need-prices-requires
 prices-requires c κs =
     let l = c .before in
     let a = l .before .before .before in
-    (a .pre .0, is-line (a .args .state .place) (sym (l .before .on-line .ensures) ∙ not-false (l .before .on-line .result) (l .if1 .left)))
+    (a .pre .0, is-line (a .args .walk .place) (sym (l .before .on-line .ensures) ∙ not-false (l .before .on-line .result) (l .if1 .left)))
 
 slice-aggregate-write-ints : tie.Need-slice-aggregate-write-ints
 slice-aggregate-write-ints c = search needs
@@ -42,7 +42,7 @@ returns-2 c =
     let p = w .before .before .before in
     let l = p .before .before in
     let a = l .before .before .before in
-    let s = a .args .state in
+    let s = a .args .walk in
     let n = s .net .nodes in
     let ps = p .prices .result in
     let out = a .args .prices .now in
