@@ -12,9 +12,10 @@ pub record Seen (Lent : Type 0) : Type 0 where
   pub lists : Lent
 
 -- number: of each answer. Told n l: with the refusal n the line l may be told. cost: of a line.
--- lent: the lent lists of a call as they came. write: as they are once a line (with its prices, where a list is lent for them) is written.
+-- lent: the lent lists of a call as they came. Wrote c v l: the lists l are those of the call c once the line v is written (with its prices, where
+-- a list is lent for them).
 module _ {Line F G N Lent : Type 0} (number : Answer Line → ℕ) (Told : ℕ → ℕ → Type 0) (cost : Line → ℤ)
-    (lent : Call F G N → Lent) (write : Call F G N → Line → Lent) where
+    (lent : Call F G N → Lent) (Wrote : Call F G N → Line → Lent → Type 0) where
   -- a line is told with a refusal alone
   abbrev pub ToldWith : Answer Line → ℕ → Type 0
   ToldWith (refused n) l = Told n l
@@ -30,14 +31,14 @@ module _ {Line F G N Lent : Type 0} (number : Answer Line → ℕ) (Told : ℕ �
   costOf (line v) = cost v
 
   -- only a line is written
-  abbrev pub listsAfter : Call F G N → Answer Line → Lent
-  listsAfter c (refused n) = lent c
-  listsAfter c nothing = lent c
-  listsAfter c end = lent c
-  listsAfter c (line v) = write c v
+  abbrev pub ListsAfter : Call F G N → Answer Line → Lent → Type 0
+  ListsAfter c (refused n) l = l ≡ lent c
+  ListsAfter c nothing l = l ≡ lent c
+  ListsAfter c end l = l ≡ lent c
+  ListsAfter c (line v) l = Wrote c v l
 
   pub record Right (c : Call F G N) (a : Answer Line) (s : Seen Lent) : Type 0 where
     pub number-is : s .number ≡ number a
     pub told-is : ToldWith a (s .told)
     pub cost-is : s .cost ≡ costOf a
-    pub lists-are : s .lists ≡ listsAfter c a
+    pub lists-are : ListsAfter c a (s .lists)

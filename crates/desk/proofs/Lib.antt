@@ -1,0 +1,7 @@
+mod Lines
+pub mod NetworkRun
+pub mod FirstFlow
+mod Given
+mod HandingOut
+mod NetworkEntries
+mod NetworkExamples

@@ -1,0 +1,136 @@
+-- From the steps of an entry to what it ensures.
+use mathlib.Core.Path.{_≡_, refl, sym, ap, subst, _∙_}
+use mathlib.Core.Bool.{Bool, true, false}
+use mathlib.Core.List.{List}
+use mathlib.Core.Option.{Option, none, some}
+use Prim.Native.Nat.{ℕ, zero, suc, _≤_, _<_}
+use native.Mathlib.Omega.{arith}
+use lib.IntN.{pos}
+use lib.ListN.{length}
+use borrow.Author.Tests.{le-leb, lt-leb}
+use Rattle.laws.specs.Tests.{ask}
+use Rattle.laws.specs.Run.{Answer, first, next, nothing, end, shown}
+use Rattle.laws.specs.Count.{Count, counted}
+use Rattle.bytes32.specs.Words.{words}
+use Rattle.network.specs.Network.{Net, nodes, arcs}
+use Rattle.network.specs.FullList.{fullList, firstFlow, nextFlow, countFlows}
+use Rattle.network.specs.Questions.{refusal, numberOf}
+use Rattle.network.specs.Checked.{Checks, Sound, netIn}
+use Rattle.network.specs.declared.Network.{Network}
+use Rattle.network.specs.declared.Checked.{Checked}
+use Rattle.network.proofs.Accepted.{accepted-net, checked-net, checked-sound}
+use Rattle.desk.specs.declared.Reply.{Reply}
+use Rattle.desk.specs.Replies.{orElse, codeOf, sees, word, countUnless}
+use Rattle.desk.specs.NetworkCalls.{net, NetCall, lends, lent, room, roomIf, listed, number}
+use Rattle.desk.specs.NetworkRun.{RightNetwork, Answers}
+use Rattle.desk.specs.NetworkEntries.{HandedOut, PricesOut}
+use Rattle.desk.proofs.Given.{next-given}
+
+-- the word where there is no line
+abbrev pub wordOf : NetCall → Answer (List ℕ)
+wordOf (first l) = nothing
+wordOf (next g fs) = end
+
+all-passed : (n : ℕ) (b : Bool) → orElse n (ask b 7 0) ≡ 0 → (n ≡ 0) × (b ≡ true)
+all-passed zero true e = (refl, refl)
+all-passed zero false e = absurd (omega arith)
+all-passed (suc n) b e = absurd (omega arith)
+
+unpriced : (N : Net) (o : Option (List ℕ)) → PricesOut N o none none
+unpriced N none = refl
+unpriced N (some f) = refl
+
+module _ (bs xs : List ℕ) where
+  -- past questions 1 to 6: the struct stands for the network
+  pub record Ready (s : Network) : Type 0 where
+    pub ok : refusal bs xs ≡ 0
+    pub sound : Sound s
+    pub is : netIn s ≡ net bs xs
+
+  pub ready : (v : Checked) → Checks bs xs v → numberOf (v .verdict) ≡ 0 → Ready (v .net)
+  ready v h z =
+      let q : refusal bs xs ≡ 0 = sym (h .number) ∙ z in
+      record { ok = q; sound = checked-sound bs xs v h q; is = checked-net bs xs v h q }
+
+  -- what was handed out is right for the line, or for the word
+  handed : (c : NetCall) (o : Option (List ℕ)) (r : Reply) (fs′ : List ℕ) (ps′ : Option (List ℕ)) → HandedOut (net bs xs) o (codeOf (wordOf c)) (lent c .flows) r fs′
+      → PricesOut (net bs xs) o (lent c .prices) ps′ → RightNetwork bs xs c (shown o (wordOf c)) (sees r (lends fs′ ps′))
+  handed (first l) none r fs′ ps′ h k = rw (h .0, h .1, k) (record { number-is = refl; told-is = refl; cost-is = refl; lists-are = refl })
+  handed (next g fs) none r fs′ ps′ h k = rw (h .0, h .1, k) (record { number-is = refl; told-is = refl; cost-is = refl; lists-are = refl })
+  handed (first l) (some f) r fs′ ps′ h k = rw (h .0) (record { number-is = refl; told-is = refl; cost-is = refl; lists-are = record { flows-are = h .1; prices-are = k } })
+  handed (next g fs) (some f) r fs′ ps′ h k = rw (h .0) (record { number-is = refl; told-is = refl; cost-is = refl; lists-are = record { flows-are = h .1; prices-are = k } })
+
+  says : (c : NetCall) (r : Reply) (k : ℕ) → number bs xs c ≡ suc k → r ≡ word (suc k) → Answers bs xs c (sees r (lent c))
+  says c r k e q = rw (e, q) (record { number-is = refl; told-is = refl; cost-is = refl; lists-are = refl })
+
+  room-is : (s : Network) → Ready s → (b : Bool) (bytes : ℕ) → room (s .arcs) bytes ≡ b → room (arcs (net bs xs)) bytes ≡ b
+  room-is s ready b bytes e = ap (λ m. room m bytes) (sym (ready .sound .arcs-held ∙ ap arcs (ready .is))) ∙ e
+
+  -- questions 1 to 7 of the list for the flows
+  module _ (v : Checked) (checks : Checks bs xs v) where
+    fails-from : (c : NetCall) (r : Reply) (n : ℕ) (b : Bool) → numberOf (v .verdict) ≡ n → room (v .net .arcs) (length (lent c .flows)) ≡ b
+        → ¬ (orElse n (ask b 7 0) ≡ 0) → r ≡ word (orElse n (ask b 7 0)) → Answers bs xs c (sees r (lent c))
+    fails-from c r (suc n) b e h k q = says c r n (rw (sym (checks .number) ∙ e)) q
+    fails-from c r zero true e h k q = absurd (k refl)
+    fails-from c r zero false e h k q =
+        let ok = ready v checks e in
+        says c r 6 (rw (ok .ok, room-is (v .net) ok false (length (lent c .flows)) h)) q
+
+    pub fails : (c : NetCall) (r : Reply) (k : ℕ) → k ≡ orElse (numberOf (v .verdict)) (ask (room (v .net .arcs) (length (lent c .flows))) 7 0) → ¬ (k ≡ 0) → r ≡ word k
+        → Answers bs xs c (sees r (lent c))
+    fails c r k e n q = fails-from c r (numberOf (v .verdict)) (room (v .net .arcs) (length (lent c .flows))) refl refl (λ z. n (e ∙ z)) (q ∙ ap word e)
+
+    pub passes : (bytes k : ℕ) → k ≡ orElse (numberOf (v .verdict)) (ask (room (v .net .arcs) bytes) 7 0) → k ≡ 0 → Ready (v .net) × (room (v .net .arcs) bytes ≡ true)
+    passes bytes k e z =
+        let (a, b) = all-passed (numberOf (v .verdict)) (room (v .net .arcs) bytes) (sym e ∙ z) in
+        (ready v checks a, b)
+
+  -- past them
+  module _ (s : Network) (ready : Ready s) where
+    prices-room-is : (b : Bool) (bytes : ℕ) → room (s .nodes) bytes ≡ b → room (nodes (net bs xs)) bytes ≡ b
+    prices-room-is b bytes e = ap (λ n. room n bytes) (sym (ready .sound .nodes-held ∙ ap nodes (ready .is))) ∙ e
+
+    module _ (fs : List ℕ) (fits : room (s .arcs) (length fs) ≡ true) where
+      pub fails-prices : (ps : List ℕ) (r : Reply) → room (s .nodes) (length ps) ≡ false → r ≡ word 7
+          → Answers bs xs (first (lends fs (some ps))) (sees r (lends fs (some ps)))
+      fails-prices ps r e q =
+          says (first (lends fs (some ps))) r 6 (rw (ready .ok, room-is s ready true (length fs) fits, prices-room-is false (length ps) e)) q
+
+      -- `first`: N and o are what the program's state stands for and its line
+      module _ (N : Net) (o : Option (List ℕ)) (same : N ≡ net bs xs) (line-is : o ≡ firstFlow (net bs xs)) (r : Reply) (fs′ : List ℕ) (h : HandedOut N o 100 fs r fs′) where
+        first-from : (p p′ : Option (List ℕ)) → roomIf (nodes (net bs xs)) p ≡ true → PricesOut N o p p′ → Answers bs xs (first (lends fs p)) (sees r (lends fs′ p′))
+        first-from p p′ e k =
+            rw (ready .ok, room-is s ready true (length fs) fits, e, ← line-is)
+            (handed (first (lends fs p)) o r fs′ p′ (subst (λ M. HandedOut M o 100 fs r fs′) same h) (subst (λ M. PricesOut M o p p′) same k))
+
+        pub answers-first : Answers bs xs (first (lends fs none)) (sees r (lends fs′ none))
+        answers-first = first-from none none refl (unpriced N o)
+
+        pub answers-first-priced : (ps ps′ : List ℕ) → room (s .nodes) (length ps) ≡ true → PricesOut N o (some ps) (some ps′)
+            → Answers bs xs (first (lends fs (some ps))) (sees r (lends fs′ (some ps′)))
+        answers-first-priced ps ps′ e k = first-from (some ps) (some ps′) (prices-room-is true (length ps) e) k
+
+      -- `next`
+      pub fails-given : (g : List ℕ) (r : Reply) → listed g (fullList (net bs xs)) ≡ false → r ≡ word 8 → Answers bs xs (next g fs) (sees r (lends fs none))
+      fails-given g r e q = says (next g fs) r 7 (rw (ready .ok, room-is s ready true (length fs) fits, e)) q
+
+      pub answers-next : (g : List ℕ) (N : Net) (o : Option (List ℕ)) → N ≡ net bs xs → listed g (fullList (net bs xs)) ≡ true → o ≡ nextFlow (net bs xs) (words g)
+          → (r : Reply) (fs′ : List ℕ) → HandedOut N o 101 fs r fs′ → Answers bs xs (next g fs) (sees r (lends fs′ none))
+      answers-next g N o same e line-is r fs′ h =
+          rw (ready .ok, room-is s ready true (length fs) fits, e, next-given (net bs xs) (accepted-net bs xs (ready .ok)) g e, ← line-is)
+          (handed (next g fs) o r fs′ none (subst (λ M. HandedOut M o 101 fs r fs′) same h) (unpriced (net bs xs) o))
+
+-- counting
+pub counts-refused : (bs xs : List ℕ) (v : Checked) (k : ℕ) (n : Count) (r : Reply) → Checks bs xs v → k ≡ numberOf (v .verdict) → ¬ (k ≡ 0) → r ≡ word k → r ≡ countUnless (refusal bs xs) n
+counts-refused bs xs v zero n r h e z q = absurd (z refl)
+counts-refused bs xs v (suc k) n r h e z q = rw (sym (h .number) ∙ sym e) q
+
+module _ (bs xs : List ℕ) (s : Network) (ready : Ready bs xs s) (cap n : ℕ) (is : counted cap n ≡ countFlows (netIn s) cap) where
+  count-is : counted cap n ≡ countFlows (net bs xs) cap
+  count-is = is ∙ ap (λ M. countFlows M cap) (ready .is)
+
+  pub counts-all : n ≤ cap → record { code = 0; line = 0; value = pos n } ≡ countUnless (refusal bs xs) (countFlows (net bs xs) cap)
+  counts-all h = rw (ready .ok, ← count-is, le-leb n cap h)
+
+  pub counts-more : cap < n → word 102 ≡ countUnless (refusal bs xs) (countFlows (net bs xs) cap)
+  counts-more h = rw (ready .ok, ← count-is, lt-leb n cap h)

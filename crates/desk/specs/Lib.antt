@@ -1,0 +1,5 @@
+pub mod Replies
+pub mod NetworkCalls
+pub mod NetworkRun
+pub mod NetworkEntries
+pub mod FirstFlow

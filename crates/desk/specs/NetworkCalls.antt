@@ -1,0 +1,89 @@
+-- The calls of a network: what they take, questions 7 and 8, what they write.
+use mathlib.Core.Path.{_≡_}
+use mathlib.Core.Bool.{Bool, true, false, _&&_, _||_}
+use mathlib.Core.List.{List, [], _∷_}
+use mathlib.Core.Option.{Option, none, some}
+use Prim.Native.Nat.{ℕ, _/_, _%_, _<_}
+use lib.Dec.{eqb, leb}
+use lib.ListN.{length, getD}
+use lib.IntN.{ℤ, pos}
+use mir.Syntax.{w32}
+use mir.Val.{SFits}
+use Rattle.laws.specs.Tests.{ask, test}
+use Rattle.laws.specs.Members.{Every}
+use Rattle.laws.specs.Equality.{same-list}
+use Rattle.laws.specs.Run.{Call, first, next}
+use Rattle.bytes32.specs.Words.{ints, encodeWords, encodeInts, over}
+use Rattle.network.specs.Network.{Net, nodes, arcs}
+use Rattle.network.specs.Residual.{Price}
+use Rattle.network.specs.FullList.{fullList}
+use Rattle.network.specs.Questions.{netOf, refusal}
+use Rattle.desk.specs.Replies.{failed, orElse}
+
+-- "The network comes as n balances and five numbers an arc (tail, head, l, u, c), all signed 32-bit."
+abbrev pub net : List ℕ → List ℕ → Net
+net bs xs = netOf (ints bs) (ints xs)
+
+-- "The caller lends a list for m flows and, for the first flow, one for n prices"
+pub record Lent : Type 0 where
+  pub flows : List ℕ
+  pub prices : Option (List ℕ)
+
+abbrev pub lends : List ℕ → Option (List ℕ) → Lent
+lends fs ps = record { flows = fs; prices = ps }
+
+-- `first` is lent both, the prices "where given"; `next` is given a list and lent one for the flows
+abbrev pub NetCall : Type 0
+NetCall = Call Lent (List ℕ) (List ℕ)
+
+-- the lent lists as they came
+abbrev pub lent : NetCall → Lent
+lent (first l) = l
+lent (next g fs) = lends fs none
+
+-- 7. "Are the lent lists long enough for m flows and, where given, n prices?" Bytes that are no whole numbers fail it.
+abbrev pub room : ℕ → ℕ → Bool
+room k bytes = eqb (bytes % 4) 0 && leb k (bytes / 4)
+
+abbrev pub roomIf : ℕ → Option (List ℕ) → Bool
+roomIf k none = true
+roomIf k (some l) = room k (length l)
+
+abbrev pub roomFor : Net → Lent → Bool
+roomFor N l = room (arcs N) (length (l .flows)) && roomIf (nodes N) (l .prices)
+
+-- 8. "is the given list m numbers long and a least-cost flow of the network?": some line of the full list has these bytes (`listed-is`,
+-- proofs/Lines.antt, says it in these words)
+abbrev pub listed : List ℕ → List (List ℕ) → Bool
+listed g [] = false
+listed g (v ∷ l) = test (same-list (encodeWords v) g) || listed g l
+
+abbrev pub fairGiven : Net → NetCall → Bool
+fairGiven N (first l) = true
+fairGiven N (next g fs) = listed g (fullList N)
+
+-- the number of the first question that a call fails, or 0
+abbrev pub number : List ℕ → List ℕ → NetCall → ℕ
+number bs xs c =
+    orElse (refusal bs xs)
+    (ask (roomFor (net bs xs) (lent c)) 7
+    (ask (fairGiven (net bs xs) c) 8
+    0))
+
+abbrev pub refuses : List ℕ → List ℕ → NetCall → Option ℕ
+refuses bs xs c = failed (number bs xs c)
+
+-- "Beside the first flow stand its prices", "signed 32-bit too"
+pub record Prices (N : Net) (f : List ℕ) (ps : List ℤ) : Type 0 where
+  pub all-nodes : length ps ≡ nodes N
+  pub each : (v : ℕ) → v < nodes N → Price N f v (getD ps v (pos 0))
+  pub fit : Every (SFits w32) ps
+
+-- "A line fills the first E or m places lent, prices the first n; all else keeps what it held."
+abbrev pub PricesAfter : Net → List ℕ → Option (List ℕ) → Option (List ℕ) → Type 0
+PricesAfter N f none after = after ≡ none
+PricesAfter N f (some out) after = (ps : List ℤ) × Prices N f ps × (after ≡ some (over (encodeInts ps) out))
+
+pub record Wrote (N : Net) (c : NetCall) (f : List ℕ) (after : Lent) : Type 0 where
+  pub flows-are : after .flows ≡ over (encodeWords f) (lent c .flows)
+  pub prices-are : PricesAfter N f (lent c .prices) (after .prices)

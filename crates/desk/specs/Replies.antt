@@ -1,0 +1,43 @@
+-- The reply of a call, and what C sees of a call.
+use mathlib.Core.Option.{Option, none, some}
+use Prim.Native.Nat.{ℕ, zero, suc}
+use lib.IntN.{pos}
+use Rattle.laws.specs.Run.{Answer, refused, nothing, end, line}
+use Rattle.laws.specs.Seen.{Seen}
+use Rattle.laws.specs.Count.{Count, exactly, more}
+use Rattle.desk.specs.declared.Reply.{Reply}
+
+-- "A 'no' gives its number"; 0 says that no question is failed
+abbrev pub failed : ℕ → Option ℕ
+failed zero = none
+failed (suc n) = some (suc n)
+
+-- further questions, put where those before are passed
+abbrev pub orElse : ℕ → ℕ → ℕ
+orElse zero k = k
+orElse (suc n) k = suc n
+
+-- the code of an answer: the number of the question, 100 for "none", 101 for "end", 0 with a line
+abbrev pub codeOf : {Line : Type 0} → Answer Line → ℕ
+codeOf (refused n) = n
+codeOf nothing = 100
+codeOf end = 101
+codeOf (line v) = 0
+
+-- the reply, and the lent lists as the call leaves them
+abbrev pub sees : {Lent : Type 0} → Reply → Lent → Seen Lent
+sees r l = record { number = r .code; told = r .line; cost = r .value; lists = l }
+
+-- "The rest of the result is then zero"
+abbrev pub word : ℕ → Reply
+word k = record { code = k; line = 0; value = pos 0 }
+
+-- "the length of the list if that is at most the cap, else 'more'"
+abbrev pub countReply : Count → Reply
+countReply (exactly n) = record { code = 0; line = 0; value = pos n }
+countReply more = word 102
+
+-- the reply of counting: k is the number of the question failed, or 0
+abbrev pub countUnless : ℕ → Count → Reply
+countUnless zero n = countReply n
+countUnless (suc k) n = word (suc k)
