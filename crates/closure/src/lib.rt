@@ -43,10 +43,10 @@ fn clear(rows: &mut [u64])
     requires { ⌜ length (now rows) ≡ 64 ⌝ }
     ensures { λ _. ⌜ Preorder (now (rows .exit)) ⌝ }
 {
-    let mut u = 0;
-    while u < rows.len() {
-        rows[u] = only(u);
-        u += 1;
+    let mut v = 0;
+    while v < rows.len() {
+        rows[v] = only(v);
+        v += 1;
     }
 }
 

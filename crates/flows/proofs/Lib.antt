@@ -2,4 +2,5 @@ mod Detours
 mod Certified
 mod Minimising
 mod Following
+mod Candidates
 mod Counting

@@ -11,10 +11,10 @@ use Rattle.closure.proofs.clear.Statement.{statement}
 use Rattle.closure.proofs.clear.Tie as tie
 
 abbrev Inv-loop : tie.InvT-loop
-Inv-loop rows₀ u₀ rows u = (length rows ≡ length rows₀) × (u ≤ length rows) × ((v : ℕ) → v < u → (w : ℕ) → has (getD rows v 0) w ≡ eqb w v)
+Inv-loop rows₀ v₀ rows v = (length rows ≡ length rows₀) × (v ≤ length rows) × ((u : ℕ) → u < v → (w : ℕ) → has (getD rows u 0) w ≡ eqb w u)
 
 abbrev μ-loop : tie.MeasureT-loop
-μ-loop rows₀ u₀ rows u = length rows - u
+μ-loop rows₀ v₀ rows v = length rows - v
 
 loop-holds : tie.Need-loop-holds Inv-loop μ-loop
 loop-holds c = (refl, omega arith, λ v h. absurd (omega arith))
@@ -28,14 +28,14 @@ mul-rows c = search needs
 slice-write-rows : tie.Need-slice-write-rows Inv-loop μ-loop
 slice-write-rows c = search needs
 
-add-u : tie.Need-add-u Inv-loop μ-loop
-add-u c = search needs
+add-v : tie.Need-add-v Inv-loop μ-loop
+add-v c = search needs
 
 loop-less : tie.Need-loop-less Inv-loop μ-loop
 loop-less c = simp length-set (omega (arith, c .before .loop-test .taken))
 
 loop-again : tie.Need-loop-again Inv-loop μ-loop
-loop-again c = let a = c .before .before .loop in (simp length-set (a .inv .0), simp length-set (omega (arith, c .before .loop-test .taken)), set-more (λ v x. (w : ℕ) → has x w ≡ eqb w v) (a .rows) (a .u) (c .only .result) 0 (c .before .loop-test .taken) (a .inv .2) (c .only .ensures))
+loop-again c = let a = c .before .before .loop in (simp length-set (a .inv .0), simp length-set (omega (arith, c .before .loop-test .taken)), set-more (λ v x. (w : ℕ) → has x w ≡ eqb w v) (a .rows) (a .v) (c .only .result) 0 (c .before .loop-test .taken) (a .inv .2) (c .only .ensures))
 
 same-length : tie.Need-same-length Inv-loop μ-loop
 same-length c = c .before .loop .inv .0
@@ -53,7 +53,7 @@ clear-spec =
     only-requires
     mul-rows
     slice-write-rows
-    add-u
+    add-v
     loop-less
     loop-again
     same-length
