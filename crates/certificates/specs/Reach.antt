@@ -161,14 +161,17 @@ module _ (n lo hi : ℕ) (sr ds : ℕ → ℕ) (go : ℕ → Bool) (s : ℕ) whe
           last z c h k (yes l) = t .shut z c h l
           last z c h k (no l) = let q : c ≡ i = omega arith in rw q (λ g m. miss g m (decLt 0 (getD rank (ds i) 0)))
 
-  -- what a round gives
-  pub record Rounded (count : ℕ) (rank via : List ℕ) (r : ℕ) : Type 0 where
+  -- what a round gives that may end as soon as t is reached
+  pub record Rounded (t count : ℕ) (rank via : List ℕ) (r : ℕ) : Type 0 where
     pub tree : Tree n lo hi sr ds go s rank via r
     pub grows : count ≤ r
-    pub shut : r ≡ count → Shut lo hi sr ds go rank
+    pub shut : getD rank t 0 ≡ 0 → r ≡ count → Shut lo hi sr ds go rank
 
-  pub round-done : (rank via : List ℕ) (count₀ count i : ℕ) → Turn rank via count₀ count i → hi ≤ i → Rounded count₀ rank via count
-  round-done rank via count₀ count i t h = record { tree = t .tree; grows = t .grows; shut = λ z c l k. t .shut z c l (omega arith) }
+  pub round-done : (rank via : List ℕ) (t count₀ count i : ℕ) → Turn rank via count₀ count i → hi ≤ i → Rounded t count₀ rank via count
+  round-done rank via t count₀ count i w h = record { tree = w .tree; grows = w .grows; shut = λ _ z c l k. w .shut z c l (omega arith) }
+
+  pub round-left : (rank via : List ℕ) (t count₀ count i : ℕ) → Turn rank via count₀ count i → ¬ (getD rank t 0 ≡ 0) → Rounded t count₀ rank via count
+  round-left rank via t count₀ count i w h = record { tree = w .tree; grows = w .grows; shut = λ e. absurd (h e) }
 
   pub count-le : (rank via : List ℕ) (count : ℕ) → Tree n lo hi sr ds go s rank via count → count ≤ n
   count-le rank via count t = omega (arith, filled-le rank, t .size, t .rank-len)

@@ -2,4 +2,5 @@ mod Detours
 pub mod Certified
 mod Minimising
 mod Following
+mod Candidates
 mod Counting

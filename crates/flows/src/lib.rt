@@ -109,10 +109,10 @@ pub fn minimise(
     requires { ⌜ Ready (graph (now tails) (now heads) (now lows) (now ups)) (now flow) (now tight) × (k ≤ length (now tails)) ⌝ }
     ensures { λ _. ⌜ InBounds (graph (now (tails .entry)) (now (heads .entry)) (now (lows .entry)) (now (ups .entry))) (now (flow .exit)) × ForAll (now (tails .entry)) (now (heads .entry)) (now (lows .entry)) (now (ups .entry)) (λ N π. Tight N π (now (tight .entry)) (now (flow .entry)) → Minimised N (now (flow .entry)) (now (flow .exit)) k) ⌝ }
 {
-    let mut a = k;
+    let mut a = closure::first_lowerable(tails, heads, lows, ups, tight, flow, k);
     while a < tails.len() {
         lower(tails, heads, lows, ups, tight, flow, a);
-        a += 1;
+        a = closure::first_lowerable(tails, heads, lows, ups, tight, flow, a + 1);
     }
 }
 
@@ -173,7 +173,7 @@ pub fn next(
     requires { ⌜ Ready (graph (now tails) (now heads) (now lows) (now ups)) (now flow) (now tight) ⌝ }
     ensures { λ r. ⌜ InBounds (graph (now (tails .entry)) (now (heads .entry)) (now (lows .entry)) (now (ups .entry))) (now (flow .exit)) × (r ≡ false → now (flow .exit) ≡ now (flow .entry)) × ForAll (now (tails .entry)) (now (heads .entry)) (now (lows .entry)) (now (ups .entry)) (λ N π. Tight N π (now (tight .entry)) (now (flow .entry)) → Next N (now (flow .entry)) (now (flow .exit)) r) ⌝ }
 {
-    let mut k = tails.len();
+    let mut k = closure::after_last_raisable(tails, heads, lows, ups, tight, flow);
     while 0 < k {
         k -= 1;
         if raise(tails, heads, lows, ups, tight, flow, k) {

@@ -2,14 +2,14 @@
 use mathlib.Core.Path.{_≡_}
 use mathlib.Core.List.{List}
 use mathlib.Core.Bool.{Bool, true, false, _&&_}
-use Prim.Native.Nat.{ℕ, _+_, _/_, _≤_, _<_}
+use Prim.Native.Nat.{ℕ, suc, _+_, _/_, _≤_, _<_}
 use lib.ListN.{length, getD, take}
 use Rattle.laws.specs.Members.{Every}
 use Rattle.laws.specs.Ascending.{Distinct}
 use Rattle.network.specs.Network.{Net, arcs, tail, head}
 use Rattle.network.specs.Residual.{usable, src, dst}
 use Rattle.certificates.specs.Push.{Trail}
-use Rattle.certificates.specs.Reach.{Tree, Reached, Rounded}
+use Rattle.certificates.specs.Reach.{Tree, Spread, Reached, Rounded}
 use Rattle.paths.specs.declared.Route.{Route}
 use Rattle.paths.specs.declared.Route.the-variants.{Codes, Cut}
 
@@ -33,11 +33,19 @@ pub record Searchable (n : ℕ) (N : Net) (f : List ℕ) (free : List Bool) : Ty
 abbrev pub TreeOf : ℕ → Net → List ℕ → List Bool → ℕ → ℕ → List ℕ → List ℕ → ℕ → Type 0
 TreeOf n N f free s from rank via count = Tree n (from + from) (arcs N + arcs N) (src N) (dst N) (goes N f free) s rank via count
 
-abbrev pub RoundedOf : ℕ → Net → List ℕ → List Bool → ℕ → ℕ → ℕ → List ℕ → List ℕ → ℕ → Type 0
-RoundedOf n N f free s from count rank via r = Rounded n (from + from) (arcs N + arcs N) (src N) (dst N) (goes N f free) s count rank via r
+abbrev pub RoundedOf : ℕ → Net → List ℕ → List Bool → ℕ → ℕ → ℕ → ℕ → List ℕ → List ℕ → ℕ → Type 0
+RoundedOf n N f free s from t count rank via r = Rounded n (from + from) (arcs N + arcs N) (src N) (dst N) (goes N f free) s t count rank via r
 
 abbrev pub ReachedOf : ℕ → Net → List ℕ → List Bool → ℕ → ℕ → ℕ → List ℕ → List ℕ → ℕ → Type 0
 ReachedOf n N f free s from t rank via r = Reached n (from + from) (arcs N + arcs N) (src N) (dst N) (goes N f free) s t rank via r
+
+-- the codes of arc a tried, forward and then backward
+pub record SpreadArc (N : Net) (f : List ℕ) (free : List Bool) (a : ℕ) (rank via : List ℕ) (count : ℕ) (rank′ via′ : List ℕ) (r : ℕ) : Type 0 where
+  pub mid-rank : List ℕ
+  pub mid-via : List ℕ
+  pub mid : ℕ
+  pub forth : Spread (goes N f free (a + a)) rank via count (src N (a + a)) (dst N (a + a)) (a + a) mid-rank mid-via mid
+  pub back : Spread (goes N f free (suc (a + a))) mid-rank mid-via mid (src N (suc (a + a))) (dst N (suc (a + a))) (suc (a + a)) rank′ via′ r
 
 -- cs, the last code first, leads from s to t over free arcs from `from` on
 pub record Path (N : Net) (f : List ℕ) (free : List Bool) (s t from : ℕ) (cs : List ℕ) : Type 0 where

@@ -10,7 +10,7 @@ ghost use Rattle.network.specs.Residual.{either, src, dst};
 ghost use Rattle.certificates.specs.Push.{InBounds, roomOf, pushOne, pushAll};
 ghost use Rattle.certificates.specs.Reach.{Spread, Falls, TracedAny};
 ghost use Rattle.paths.specs.Graph.{graph};
-ghost use Rattle.paths.specs.Reaching.{goes, Searchable, TreeOf, RoundedOf, ReachedOf, Detoured};
+ghost use Rattle.paths.specs.Reaching.{Searchable, TreeOf, SpreadArc, RoundedOf, ReachedOf, Detoured};
 ghost use Rattle.paths.specs.Pushing.{SmallBounds, roomAll, Pushable};
 
 // Whether a path was found: how many codes it has, or that there is none.
@@ -29,24 +29,6 @@ fn end_of(a: &[u8], b: &[u8], c: usize) -> usize
         return a[h] as usize;
     }
     b[h] as usize
-}
-
-// Whether code c can be used and its arc is free.
-fn goes(free: &[bool], lows: &[u32], ups: &[u32], flow: &[u32], c: usize) -> bool
-    requires { ⌜ (c / 2 < length (now free)) × (c / 2 < length (now lows)) × (c / 2 < length (now ups)) × (c / 2 < length (now flow)) ⌝ }
-    ensures { λ r. ⌜ r ≡ goes (graph (now (ups .entry)) (now (ups .entry)) (now (lows .entry)) (now (ups .entry))) (now (flow .entry)) (now (free .entry)) c ⌝ }
-{
-    let h = c / 2;
-    if !free[h] {
-        return false;
-    }
-    let f = flow[h];
-    if c % 2 == 0 {
-        let u = ups[h];
-        return f < u;
-    }
-    let l = lows[h];
-    l < f
 }
 
 // Code c leads from u to v, and goes if `on`: v is reached if u is. How many nodes are reached now.
@@ -78,7 +60,35 @@ fn spread(
     count + 1
 }
 
-// Every code of the arcs from `from` on, tried once. How many nodes are reached now.
+// Both codes of arc a, tried in order if it is free. How many nodes are reached now.
+fn spread_arc(
+    tails: &[u8],
+    heads: &[u8],
+    lows: &[u32],
+    ups: &[u32],
+    free: &[bool],
+    flow: &[u32],
+    rank: &mut [usize],
+    via: &mut [usize],
+    count: usize,
+    a: usize,
+) -> usize
+    requires { ⌜ Searchable (length (now rank)) (graph (now tails) (now heads) (now lows) (now ups)) (now flow) (now free) × (length (now via) ≡ length (now rank)) × (count < 900) × (a < length (now tails)) ⌝ }
+    ensures { λ r. ⌜ SpreadArc (graph (now (tails .entry)) (now (heads .entry)) (now (lows .entry)) (now (ups .entry))) (now (flow .entry)) (now (free .entry)) a (now (rank .entry)) (now (via .entry)) count (now (rank .exit)) (now (via .exit)) r ⌝ }
+{
+    if !free[a] {
+        return count;
+    }
+    let u = tails[a] as usize;
+    let v = heads[a] as usize;
+    let f = flow[a];
+    let up = ups[a];
+    let low = lows[a];
+    let n = spread(rank, via, count, f < up, u, v, a + a);
+    spread(rank, via, n, low < f, v, u, a + a + 1)
+}
+
+// Every code of the arcs from `from` on, tried once, or until t is reached. How many nodes are reached now.
 fn round(
     tails: &[u8],
     heads: &[u8],
@@ -87,23 +97,24 @@ fn round(
     free: &[bool],
     flow: &[u32],
     s: usize,
+    t: usize,
     from: usize,
     rank: &mut [usize],
     via: &mut [usize],
     count: usize,
 ) -> usize
-    requires { ⌜ Searchable (length (now rank)) (graph (now tails) (now heads) (now lows) (now ups)) (now flow) (now free) × (from ≤ 512) × TreeOf (length (now rank)) (graph (now tails) (now heads) (now lows) (now ups)) (now flow) (now free) s from (now rank) (now via) count ⌝ }
-    ensures { λ r. ⌜ RoundedOf (length (now (rank .entry))) (graph (now (tails .entry)) (now (heads .entry)) (now (lows .entry)) (now (ups .entry))) (now (flow .entry)) (now (free .entry)) s from count (now (rank .exit)) (now (via .exit)) r ⌝ }
+    requires { ⌜ Searchable (length (now rank)) (graph (now tails) (now heads) (now lows) (now ups)) (now flow) (now free) × (t < length (now rank)) × TreeOf (length (now rank)) (graph (now tails) (now heads) (now lows) (now ups)) (now flow) (now free) s from (now rank) (now via) count ⌝ }
+    ensures { λ r. ⌜ RoundedOf (length (now (rank .entry))) (graph (now (tails .entry)) (now (heads .entry)) (now (lows .entry)) (now (ups .entry))) (now (flow .entry)) (now (free .entry)) s from t count (now (rank .exit)) (now (via .exit)) r ⌝ }
 {
-    let hi = tails.len() + tails.len();
     let mut n = count;
-    let mut c = from + from;
-    while c < hi {
-        let u = end_of(tails, heads, c);
-        let v = end_of(heads, tails, c);
-        let on = goes(free, lows, ups, flow, c);
-        n = spread(rank, via, n, on, u, v, c);
-        c += 1;
+    let mut a = from;
+    while a < tails.len() {
+        n = spread_arc(tails, heads, lows, ups, free, flow, rank, via, n, a);
+        let p = rank[t];
+        if p != 0 {
+            return n;
+        }
+        a += 1;
     }
     n
 }
@@ -149,6 +160,7 @@ pub fn reach(
             free,
             flow,
             s,
+            t,
             from,
             rank,
             via,
@@ -157,8 +169,8 @@ pub fn reach(
         if next == count {
             return count;
         }
-        let p = rank[t];
-        if p != 0 {
+        let reached = rank[t];
+        if reached != 0 {
             return next;
         }
         count = next;

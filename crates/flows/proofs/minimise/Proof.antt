@@ -1,6 +1,6 @@
 use mathlib.Core.Path.{_≡_, refl, _∙_}
 use mathlib.Core.List.{List}
-use Prim.Native.Nat.{_-_, _≤_}
+use Prim.Native.Nat.{_+_, _-_, _≤_}
 use native.Mathlib.Omega.{arith}
 use native.Mathlib.Numerals.{add-one}
 use lib.ListN.{length}
@@ -8,8 +8,9 @@ use lib.IntN.{ℤ}
 use Rattle.network.specs.Network.{Net}
 use Rattle.certificates.specs.Push.{InBounds}
 use Rattle.paths.specs.Graph.{graph, netWith}
-use Rattle.paths.proofs.Lists.{ready-again}
+use Rattle.paths.proofs.Lists.{ready-again, searchable-again}
 use Rattle.flows.specs.Tight.{Tight, ForAll}
+use Rattle.flows.proofs.Candidates.{min-pass}
 use Rattle.flows.proofs.Certified.{tight-any}
 use Rattle.flows.proofs.Minimising.{MinTurn, min-start, min-step, min-done}
 use Rattle.flows.proofs.minimise.Statement.{statement}
@@ -27,31 +28,41 @@ part s = graph (s .args .tails .now) (s .args .heads .now) (s .args .lows .now) 
 abbrev whole : tie.Start Inv-loop μ-loop → List ℤ → List ℤ → Net
 whole s b c = netWith b (s .args .tails .now) (s .args .heads .now) (s .args .lows .now) (s .args .ups .now) c
 
+first-lowerable-requires : tie.Need-first-lowerable-requires Inv-loop μ-loop
+first-lowerable-requires c κs = let s = c .before .before .before .before .before .before .before in (s .pre .0 .searchable, s .pre .1)
+
 loop-holds : tie.Need-loop-holds Inv-loop μ-loop
-loop-holds c = let s = c .before .before .before .before .before .before in (omega arith, refl, s .pre .0 .bounds, λ b d π ti. min-start (whole s b d) (s .args .flow .now) (s .args .k) (ti .least))
+loop-holds c = let s = c .before .before .before .before .before .before .before .before in let w = c .first-lowerable .ensures in (w .after, refl, s .pre .0 .bounds, λ b d π ti. min-pass (s .args .tails .now) (s .args .heads .now) (s .args .lows .now) (s .args .ups .now) b d π (s .args .tight .now) (s .args .flow .now) ti (s .args .flow .now) (s .args .k) (s .args .k) (c .first-lowerable .result) w (min-start (whole s b d) (s .args .flow .now) (s .args .k) (ti .least)))
 
 lower-requires : tie.Need-lower-requires Inv-loop μ-loop
-lower-requires c κs = let s = c .before .before .before .before .before .before .before .before .before in let a = c .before .before .loop in (ready-again (part s) (s .args .flow .now) (a .flow) (s .args .tight .now) (a .inv .1) (a .inv .2) (s .pre .0), c .before .loop-test .taken)
+lower-requires c κs = let s = c .before .before .before .before .before .before .before .before .before .before .before in let a = c .before .before .loop in (ready-again (part s) (s .args .flow .now) (a .flow) (s .args .tight .now) (a .inv .1) (a .inv .2) (s .pre .0), c .before .loop-test .taken)
 
-add-a : tie.Need-add-a Inv-loop μ-loop
-add-a c = let t = c .before .before .before .before in let s = t .before .before .before .before .before .before .before .before in omega (arith, t .loop-test .taken, s .pre .0 .searchable .few)
+add-first-lowerable : tie.Need-add-first-lowerable Inv-loop μ-loop
+add-first-lowerable c = let t = c .before .before .before .before .before in let s = t .before .before .before .before .before .before .before .before .before .before in omega (arith, t .loop-test .taken, s .pre .0 .searchable .few)
+
+first-lowerable-requires-2 : tie.Need-first-lowerable-requires-2 Inv-loop μ-loop
+first-lowerable-requires-2 c κs = let t = c .before .before .before .before .before in let s = t .before .before .before .before .before .before .before .before .before .before in let a = t .before .loop in let o = c .before .before .before .lower in (searchable-again 64 (part s) (s .args .flow .now) _ (s .args .tight .now) (o .kept .1 .1 .1 .1 .1 .0 ∙ a .inv .1) (s .pre .0 .searchable), omega (arith, t .loop-test .taken))
 
 loop-less : tie.Need-loop-less Inv-loop μ-loop
-loop-less c = let t = c .before .before .before .before in omega (arith, t .loop-test .taken)
+loop-less c = let t = c .before .before .before .before .before .before in omega (arith, t .loop-test .taken, c .first-lowerable2 .ensures .after, c .first-lowerable2 .ensures .in-range)
 
 loop-again : tie.Need-loop-again Inv-loop μ-loop
-loop-again c = let t = c .before .before .before .before in let s = t .before .before .before .before .before .before .before .before in let a = t .before .loop in let o = c .before .before .lower in (
-  omega (arith, a .inv .0),
+loop-again c = let t = c .before .before .before .before .before .before in let s = t .before .before .before .before .before .before .before .before .before .before in let a = t .before .loop in let o = c .before .before .before .before .lower in let w = c .first-lowerable2 .ensures in (
+  omega (arith, a .inv .0, w .after),
   o .kept .1 .1 .1 .1 .1 .0 ∙ a .inv .1,
   o .ensures .0,
-  λ b d π ti. rw add-one (min-step (whole s b d) (s .args .flow .now) (a .flow) _ (s .args .k) (a .a) (a .inv .0) (a .inv .3 b d π ti) (o .ensures .1 b d π (tight-any (whole s b d) π (s .args .tight .now) (s .args .flow .now) (a .flow) ti (a .inv .3 b d π ti .least)))),
+  λ b d π ti.
+      let x = tight-any (whole s b d) π (s .args .tight .now) (s .args .flow .now) (a .flow) ti (a .inv .3 b d π ti .least) in
+      let y = o .ensures .1 b d π x in
+      min-pass (s .args .tails .now) (s .args .heads .now) (s .args .lows .now) (s .args .ups .now) b d π (s .args .tight .now) _ (tight-any (whole s b d) π (s .args .tight .now) (a .flow) _ x (y .least)) (s .args .flow .now) (s .args .k) (a .a + 1) (c .first-lowerable2 .result) w
+      (rw add-one (min-step (whole s b d) (s .args .flow .now) (a .flow) _ (s .args .k) (a .a) (a .inv .0) (a .inv .3 b d π ti) y)),
 )
 
 same-length : tie.Need-same-length Inv-loop μ-loop
 same-length c = c .before .loop .inv .1
 
 returns : tie.Need-returns Inv-loop μ-loop
-returns c = let s = c .before .before .before .before .before .before .before .before in let a = c .before .loop in (a .inv .2, λ b d π ti. min-done (whole s b d) (s .args .flow .now) (a .flow) (s .args .k) (a .a) (c .loop-test .left) (a .inv .3 b d π ti))
+returns c = let s = c .before .before .before .before .before .before .before .before .before .before in let a = c .before .loop in (a .inv .2, λ b d π ti. min-done (whole s b d) (s .args .flow .now) (a .flow) (s .args .k) (a .a) (c .loop-test .left) (a .inv .3 b d π ti))
 
 pub minimise-spec : {M : Type 1} → statement M
 minimise-spec =
@@ -59,9 +70,11 @@ minimise-spec =
     (tie.spec
     Inv-loop
     μ-loop
+    first-lowerable-requires
     loop-holds
     lower-requires
-    add-a
+    add-first-lowerable
+    first-lowerable-requires-2
     loop-less
     loop-again
     same-length

@@ -35,10 +35,10 @@ start-len : (a : tie.At-loop Inv-loop μ-loop) → length (set (a .before .befor
 start-len a = simp length-set (a .before .before .before .clear .kept .0)
 
 abbrev rank-of : (d : Round) → List ℕ
-rank-of d = d .round .last .1 .1 .1 .1 .1 .1 .1 .1 .0
+rank-of d = d .round .last .1 .1 .1 .1 .1 .1 .1 .1 .1 .0
 
 abbrev via-of : (d : Round) → List ℕ
-via-of d = d .round .last .1 .1 .1 .1 .1 .1 .1 .1 .1 .0
+via-of d = d .round .last .1 .1 .1 .1 .1 .1 .1 .1 .1 .1 .0
 
 before-len : (d : Round) → length (d .before .before .before .loop .rank) ≡ length (start d .args .rank .now)
 before-len d = d .before .before .before .loop .inv .rank-len ∙ start-len (d .before .before .before)
@@ -67,7 +67,7 @@ loop-holds c = let s = c .before .before .before .before .before .before .before
 
 round-requires : tie.Need-round-requires Inv-loop μ-loop
 round-requires c κs = let a = c .before .before in let s = c .before .before .before .before .before .before .before .before .before .before .before .before .before .before .before in let T = a .loop .inv in
-    (subst (λ (n : ℕ). Searchable n (net s) (s .args .flow .now) (s .args .free .now)) (sym (T .rank-len ∙ start-len a)) (s .pre .0), s .pre .1, subst (λ (n : ℕ). TreeOf n (net s) (s .args .flow .now) (s .args .free .now) (s .args .s) (s .args .from) (a .loop .rank) (a .loop .via) (a .loop .count)) (sym (T .rank-len)) T)
+    (subst (λ (n : ℕ). Searchable n (net s) (s .args .flow .now) (s .args .free .now)) (sym (T .rank-len ∙ start-len a)) (s .pre .0), omega (arith, s .pre .3, T .rank-len, start-len a), subst (λ (n : ℕ). TreeOf n (net s) (s .args .flow .now) (s .args .free .now) (s .args .s) (s .args .from) (a .loop .rank) (a .loop .via) (a .loop .count)) (sym (T .rank-len)) T)
 
 same-length : tie.Need-same-length Inv-loop μ-loop
 same-length c = now-len (c .before .before .before .before .before)
@@ -77,13 +77,13 @@ same-length-2 c = now-via (c .before .before .before .before .before)
 
 returns : tie.Need-returns Inv-loop μ-loop
 returns c = let d = c .before .before .before .before .before in let s = start d in
-    record { tree = subst (λ (k : ℕ). TreeOf (length (s .args .rank .now)) (net s) (s .args .flow .now) (s .args .free .now) (s .args .s) (s .args .from) (rank-of d) (via-of d) k) (c .if1 .taken) (now-tree d); shut = λ _. d .round .ensures .shut (c .if1 .taken) }
+    record { tree = subst (λ (k : ℕ). TreeOf (length (s .args .rank .now)) (net s) (s .args .flow .now) (s .args .free .now) (s .args .s) (s .args .from) (rank-of d) (via-of d) k) (c .if1 .taken) (now-tree d); shut = λ e. d .round .ensures .shut e (c .if1 .taken) }
 
-mul-p : tie.Need-mul-p Inv-loop μ-loop
-mul-p c = let d = c .before .before .before .before .before in let s = start d in let h : s .args .t < length (s .args .rank .now) = s .pre .3 in search needs
+mul-reached : tie.Need-mul-reached Inv-loop μ-loop
+mul-reached c = let d = c .before .before .before .before .before in let s = start d in let h : s .args .t < length (s .args .rank .now) = s .pre .3 in search needs
 
-slice-read-p : tie.Need-slice-read-p Inv-loop μ-loop
-slice-read-p c = let d = c .before .before .before .before .before .before in let s = start d in omega (arith, s .pre .3, now-len d)
+slice-read-reached : tie.Need-slice-read-reached Inv-loop μ-loop
+slice-read-reached c = let d = c .before .before .before .before .before .before in let s = start d in omega (arith, s .pre .3, now-len d)
 
 same-length-3 : tie.Need-same-length-3 Inv-loop μ-loop
 same-length-3 c = now-len (c .before .before .before .before .before .before .before)
@@ -114,8 +114,8 @@ reach-spec =
     same-length
     same-length-2
     returns
-    mul-p
-    slice-read-p
+    mul-reached
+    slice-read-reached
     same-length-3
     same-length-4
     returns-2

@@ -1,105 +1,89 @@
-use mathlib.Core.Path.{_≡_, sym, _∙_}
-use Prim.Native.Nat.{ℕ, _+_, _-_, _/_, _≤_, _<_}
+use mathlib.Core.Path.{_≡_, sym, subst, _∙_}
+use mathlib.Core.List.{List}
+use Prim.Native.Nat.{ℕ, _+_, _-_, _≤_}
 use native.Mathlib.Omega.{arith}
-use native.Mathlib.Numerals.{add-one}
 use lib.ListN.{length}
 use Rattle.network.specs.Network.{Net}
-use Rattle.network.specs.Residual.{src, dst}
-use Rattle.certificates.specs.Reach.{turn-start, turn-step, round-done, count-le}
+use Rattle.certificates.specs.Reach.{turn-start, round-done, round-left, count-le}
 use Rattle.paths.specs.Graph.{graph}
-use Rattle.paths.specs.Reaching.{goes}
-use Rattle.paths.proofs.Codes.{src-in, dst-in}
-use Rattle.paths.proofs.Reaching.{spread-at, TurnOf}
+use Rattle.paths.specs.Reaching.{Searchable}
+use Rattle.paths.proofs.Reaching.{TurnOf, turn-arc}
 use Rattle.paths.proofs.round.Statement.{statement}
 use Rattle.paths.proofs.round.Tie as tie
 
 abbrev Inv-loop : tie.InvT-loop
-Inv-loop tails heads lows ups free flow s from rank₀ via₀ count hi n₀ c₀ rank via n c = (from + from ≤ c) × TurnOf (length rank₀) (graph tails heads lows ups) flow free s from rank via count n c
+Inv-loop tails heads lows ups free flow s t from rank₀ via₀ count n₀ a₀ rank via n a = (from ≤ a) × TurnOf (length rank₀) (graph tails heads lows ups) flow free s from rank via count n (a + a)
 
 abbrev μ-loop : tie.MeasureT-loop
-μ-loop tails heads lows ups free flow s from rank₀ via₀ count hi n₀ c₀ rank via n c = hi - c
+μ-loop tails heads lows ups free flow s t from rank₀ via₀ count n₀ a₀ rank via n a = length tails - a
 
--- within the loop's body
-abbrev InTurn : Type 0
-InTurn = tie.In-loop Inv-loop μ-loop
+-- after an arc is tried
+abbrev Tried : Type 0
+Tried = tie.After-spread-arc Inv-loop μ-loop
 
-abbrev start : InTurn → tie.Start Inv-loop μ-loop
-start c = c .before .before .before .before .before .before .before .before .before .before
-
-half-in : (c : InTurn) → c .before .loop .c / 2 < length (start c .args .tails .now)
-half-in c = omega (arith, c .loop-test .taken)
+abbrev start : Tried → tie.Start Inv-loop μ-loop
+start d = d .before .before .before .before .before .before .before .before .before .before .before .before .before
 
 abbrev net : tie.Start Inv-loop μ-loop → Net
 net s = graph (s .args .tails .now) (s .args .heads .now) (s .args .lows .now) (s .args .ups .now)
 
--- where a step is tried
-abbrev Arc : Type 0
-Arc = tie.After-spread-arg2 Inv-loop μ-loop
+abbrev arc : Tried → ℕ
+arc d = d .before .before .before .before .loop .a
 
-abbrev turn : Arc → InTurn
-turn c = c .before .before .before .before .before
+abbrev rank-of : Tried → List ℕ
+rank-of d = d .spread-arc .last .1 .1 .1 .1 .1 .1 .0
 
-abbrev at : Arc → ℕ
-at c = turn c .before .loop .c
+abbrev via-of : Tried → List ℕ
+via-of d = d .spread-arc .last .1 .1 .1 .1 .1 .1 .1 .0
 
-u-is : (c : Arc) → c .before .before .before .before .end-of .result ≡ src (net (start (turn c))) (at c)
-u-is c = c .before .before .before .before .end-of .ensures
+turn-of : (d : Tried) → TurnOf (length (start d .args .rank .now)) (net (start d)) (start d .args .flow .now) (start d .args .free .now) (start d .args .s) (start d .args .from) (rank-of d) (via-of d) (start d .args .count) (d .spread-arc .result) (arc d + 1 + (arc d + 1))
+turn-of d = let s = start d in let a = d .before .before .before .before .loop in
+    turn-arc (net s) (s .args .flow .now) (s .args .free .now) (a .a) (a .rank) (a .via) (a .n) (length (s .args .rank .now)) (s .args .s) (s .args .from) (s .args .count) (rank-of d) (via-of d) (d .spread-arc .result) (s .pre .0) (a .inv .0) (d .before .before .before .loop-test .taken) (a .inv .1) (d .spread-arc .ensures)
 
-v-is : (c : Arc) → c .before .before .before .end-of2 .result ≡ dst (net (start (turn c))) (at c)
-v-is c = c .before .before .before .end-of2 .ensures
+rank-len : (d : Tried) → length (rank-of d) ≡ length (start d .args .rank .now)
+rank-len d = turn-of d .tree .rank-len
 
-on-is : (c : Arc) → c .before .before .goes .result ≡ goes (net (start (turn c))) (start (turn c) .args .flow .now) (start (turn c) .args .free .now) (at c)
-on-is c = c .before .before .goes .ensures
-
-add-hi : tie.Need-add-hi Inv-loop μ-loop
-add-hi c = omega (arith, c .before .before .before .before .before .before .before .before .pre .0 .few)
-
-add-c : tie.Need-add-c Inv-loop μ-loop
-add-c c = omega (arith, c .before .before .before .before .before .before .before .before .pre .1)
+via-len : (d : Tried) → length (via-of d) ≡ length (start d .args .via .now)
+via-len d = turn-of d .tree .via-len ∙ sym (start d .pre .2 .via-len)
 
 loop-holds : tie.Need-loop-holds Inv-loop μ-loop
 loop-holds c = let s = c .before .before .before .before .before .before .before .before in (omega arith, turn-start _ _ _ _ _ _ _ (s .args .rank .now) (s .args .via .now) (s .args .count) (s .pre .2))
 
-end-of-requires : tie.Need-end-of-requires Inv-loop μ-loop
-end-of-requires c κs = let s = start c in omega (arith, half-in c, s .pre .0)
+spread-arc-requires : tie.Need-spread-arc-requires Inv-loop μ-loop
+spread-arc-requires c κs = let s = c .before .before .before .before .before .before .before .before .before .before .before .before in let a = c .before .before .before .loop in let T = a .inv .1 .tree in (subst (λ (n : ℕ). Searchable n (net s) (s .args .flow .now) (s .args .free .now)) (sym (T .rank-len)) (s .pre .0), T .via-len ∙ sym (T .rank-len), omega (arith, s .pre .0 .nodes-few, count-le _ _ _ _ _ _ _ (a .rank) (a .via) (a .n) T), c .before .before .loop-test .taken)
 
-end-of-requires-2 : tie.Need-end-of-requires-2 Inv-loop μ-loop
-end-of-requires-2 c κs = let s = start (c .before) in omega (arith, half-in (c .before), s .pre .0)
+mul-p : tie.Need-mul-p Inv-loop μ-loop
+mul-p c = let s = start (c .before .before .before .before) in omega (arith, s .pre .1, s .pre .0 .nodes-few)
 
-goes-requires : tie.Need-goes-requires Inv-loop μ-loop
-goes-requires c κs = let s = start (c .before .before) in omega (arith, half-in (c .before .before), s .pre .0)
-
-spread-requires : tie.Need-spread-requires Inv-loop μ-loop
-spread-requires c κs = let t = turn c in let s = start t in let T = t .before .loop .inv .1 .tree in (
-  omega (arith, u-is c, T .rank-len, src-in (length (s .args .rank .now)) (net s) (s .args .flow .now) (s .args .free .now) (s .pre .0) (at c) (t .loop-test .taken)),
-  omega (arith, v-is c, T .rank-len, dst-in (length (s .args .rank .now)) (net s) (s .args .flow .now) (s .args .free .now) (s .pre .0) (at c) (t .loop-test .taken)),
-  omega (arith, v-is c, T .via-len, dst-in (length (s .args .rank .now)) (net s) (s .args .flow .now) (s .args .free .now) (s .pre .0) (at c) (t .loop-test .taken)),
-  omega (arith, s .pre .0 .nodes-few, count-le _ _ _ _ _ _ _ (t .before .loop .rank) (t .before .loop .via) (t .before .loop .n) T),
-)
-
-add-c-2 : tie.Need-add-c-2 Inv-loop μ-loop
-add-c-2 c = let t = turn (c .before .before .before .before .before) in omega (arith, t .loop-test .taken, start t .pre .0 .few)
-
-loop-less : tie.Need-loop-less Inv-loop μ-loop
-loop-less c = let t = turn (c .before .before .before .before .before) in omega (arith, t .loop-test .taken)
-
-loop-again : tie.Need-loop-again Inv-loop μ-loop
-loop-again c = let a = c .before .before .before .before .before in let t = turn a in let s = start t in (
-  omega (arith, t .before .loop .inv .0),
-  rw add-one (turn-step _ _ _ _ _ _ _ (t .before .loop .rank) (t .before .loop .via) (s .args .count) (t .before .loop .n) (at a) (t .before .loop .inv .1) (t .before .loop .inv .0) (t .loop-test .taken)
-      (src-in (length (s .args .rank .now)) (net s) (s .args .flow .now) (s .args .free .now) (s .pre .0) (at a) (t .loop-test .taken))
-      (dst-in (length (s .args .rank .now)) (net s) (s .args .flow .now) (s .args .free .now) (s .pre .0) (at a) (t .loop-test .taken))
-      _ _ _ (spread-at _ _ _ _ _ _ _ _ _ _ _ _ _ (on-is a) (u-is a) (v-is a) (c .before .before .before .before .spread .ensures))),
-)
+slice-read-p : tie.Need-slice-read-p Inv-loop μ-loop
+slice-read-p c = let d = c .before .before .before .before .before in omega (arith, start d .pre .1, rank-len d)
 
 same-length : tie.Need-same-length Inv-loop μ-loop
-same-length c = c .before .loop .inv .1 .tree .rank-len
+same-length c = rank-len (c .before .before .before .before .before .before)
 
 same-length-2 : tie.Need-same-length-2 Inv-loop μ-loop
-same-length-2 c = let s = c .before .before .before .before .before .before .before .before .before .before in c .before .loop .inv .1 .tree .via-len ∙ sym (s .pre .2 .via-len)
+same-length-2 c = via-len (c .before .before .before .before .before .before)
 
 returns : tie.Need-returns Inv-loop μ-loop
-returns c = round-done _ _ _ _ _ _ _ (c .before .loop .rank) (c .before .loop .via) (c .before .before .before .before .before .before .before .before .before .before .args .count) (c .before .loop .n) (c .before .loop .c) (c .before .loop .inv .1) (c .loop-test .left)
+returns c = let d = c .before .before .before .before .before .before in let s = start d in round-left _ _ _ _ _ _ _ (rank-of d) (via-of d) (s .args .t) (s .args .count) (d .spread-arc .result) _ (turn-of d) (c .if1 .taken)
+
+add-a : tie.Need-add-a Inv-loop μ-loop
+add-a c = let d = c .before .before .before .before .before .before in omega (arith, d .before .before .before .loop-test .taken, start d .pre .0 .few)
+
+loop-less : tie.Need-loop-less Inv-loop μ-loop
+loop-less c = omega (arith, c .before .before .before .before .before .before .before .before .before .loop-test .taken)
+
+loop-again : tie.Need-loop-again Inv-loop μ-loop
+loop-again c = let d = c .before .before .before .before .before .before in (omega (arith, d .before .before .before .before .loop .inv .0), turn-of d)
+
+same-length-3 : tie.Need-same-length-3 Inv-loop μ-loop
+same-length-3 c = c .before .loop .inv .1 .tree .rank-len
+
+same-length-4 : tie.Need-same-length-4 Inv-loop μ-loop
+same-length-4 c = let s = c .before .before .before .before .before .before .before .before .before .before in c .before .loop .inv .1 .tree .via-len ∙ sym (s .pre .2 .via-len)
+
+returns-2 : tie.Need-returns-2 Inv-loop μ-loop
+returns-2 c = let s = c .before .before .before .before .before .before .before .before .before .before in let a = c .before .loop in round-done _ _ _ _ _ _ _ (a .rank) (a .via) (s .args .t) (s .args .count) (a .n) (a .a + a .a) (a .inv .1) (omega (arith, c .loop-test .left))
 
 pub round-spec : {M : Type 1} → statement M
 round-spec =
@@ -107,16 +91,16 @@ round-spec =
     (tie.spec
     Inv-loop
     μ-loop
-    add-hi
-    add-c
     loop-holds
-    end-of-requires
-    end-of-requires-2
-    goes-requires
-    spread-requires
-    add-c-2
-    loop-less
-    loop-again
+    spread-arc-requires
+    mul-p
+    slice-read-p
     same-length
     same-length-2
-    returns)
+    returns
+    add-a
+    loop-less
+    loop-again
+    same-length-3
+    same-length-4
+    returns-2)

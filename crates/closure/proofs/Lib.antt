@@ -1,0 +1,3 @@
+mod NodeSet
+mod Closure
+mod Candidates

@@ -1,0 +1,29 @@
+-- The transitive closure of residual steps: a row for each node, with the nodes that it leads to.
+use mathlib.Core.Path.{_≡_}
+use mathlib.Core.List.{List}
+use mathlib.Core.Bool.{Bool, true}
+use Prim.Native.Nat.{ℕ, _+_, _≤_, _<_}
+use lib.ListN.{length, getD}
+use Rattle.network.specs.Network.{Net, arcs}
+use Rattle.network.specs.Residual.{src, dst}
+use Rattle.paths.specs.Reaching.{goes}
+use Rattle.closure.specs.NodeSet.{has}
+
+abbrev pub leads : List ℕ → ℕ → ℕ → Bool
+leads rows u v = has (getD rows u 0) v
+
+pub record Preorder (rows : List ℕ) : Type 0 where
+  pub rows-len : length rows ≡ 64
+  pub reflexive : (u : ℕ) → u < 64 → leads rows u u ≡ true
+  pub transitive : (u v w : ℕ) → leads rows u v ≡ true → leads rows v w ≡ true → leads rows u w ≡ true
+
+-- rows′ has what rows has, and the step from p to q if `on`
+pub record Extended (rows rows′ : List ℕ) (on : Bool) (p q : ℕ) : Type 0 where
+  pub preorder : Preorder rows′
+  pub keeps : (u v : ℕ) → leads rows u v ≡ true → leads rows′ u v ≡ true
+  pub new : on ≡ true → leads rows′ p q ≡ true
+
+-- the steps of the codes that go, from arc `from` on
+pub record Closure (N : Net) (f : List ℕ) (free : List Bool) (from : ℕ) (rows : List ℕ) : Type 0 where
+  pub preorder : Preorder rows
+  pub steps : (c : ℕ) → from + from ≤ c → c < arcs N + arcs N → goes N f free c ≡ true → leads rows (src N c) (dst N c) ≡ true

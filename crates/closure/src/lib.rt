@@ -1,0 +1,206 @@
+// Which arcs may be raised or lowered, by one walk over the arcs from the last down.
+// The walk keeps the transitive closure of the residual steps of the free arcs passed: a row of 64 bits for each node.
+ghost use mathlib.Core.Path.{_≡_};
+ghost use mathlib.Core.Bool.{false, _&&_, _||_};
+ghost use Prim.Native.Nat.{ℕ, suc, _≤_, _<_};
+ghost use lib.Dec.{eqb};
+ghost use lib.ListN.{length};
+ghost use Rattle.paths.specs.Graph.{graph};
+ghost use Rattle.paths.specs.Reaching.{Searchable};
+ghost use Rattle.closure.specs.NodeSet.{has};
+ghost use Rattle.closure.specs.Closure.{Preorder, Extended, Closure};
+ghost use Rattle.closure.specs.Candidates.{NotRaisable, NotLowerable, NoneRaisable, NoneLowerable};
+
+// Whether v is in s.
+fn has(s: u64, v: usize) -> bool
+    requires { ⌜ v < 64 ⌝ }
+    ensures { λ r. ⌜ r ≡ has s v ⌝ }
+{
+    (s >> v) & 1 == 1
+}
+
+// The set of v alone.
+fn only(v: usize) -> u64
+    requires { ⌜ v < 64 ⌝ }
+    ensures { λ r. ⌜ ((w : ℕ) → has r w ≡ eqb w v) ⌝ }
+{
+    1 << v
+}
+
+// s, with all of t if p is in s.
+fn joined(s: u64, t: u64, p: usize) -> u64
+    requires { ⌜ p < 64 ⌝ }
+    ensures { λ r. ⌜ ((w : ℕ) → has r w ≡ (has s w || (has s p && has t w))) ⌝ }
+{
+    if has(s, p) {
+        return s | t;
+    }
+    s
+}
+
+// Each node leads to itself alone.
+fn clear(rows: &mut [u64])
+    requires { ⌜ length (now rows) ≡ 64 ⌝ }
+    ensures { λ _. ⌜ Preorder (now (rows .exit)) ⌝ }
+{
+    let mut v = 0;
+    while v < rows.len() {
+        rows[v] = only(v);
+        v += 1;
+    }
+}
+
+// The step from p to q, if `on`: whatever leads to p now leads to all that q leads to.
+fn add(rows: &mut [u64], on: bool, p: usize, q: usize)
+    requires { ⌜ Preorder (now rows) × (p < 64) × (q < 64) ⌝ }
+    ensures { λ _. ⌜ Extended (now (rows .entry)) (now (rows .exit)) on p q ⌝ }
+{
+    if !on {
+        return;
+    }
+    let from = rows[p];
+    if has(from, q) {
+        return;
+    }
+    let all = rows[q];
+    let mut u = 0;
+    while u < rows.len() {
+        let row = rows[u];
+        rows[u] = joined(row, all, p);
+        u += 1;
+    }
+}
+
+// The steps of arc a.
+fn add_arc(
+    tails: &[u8],
+    heads: &[u8],
+    lows: &[u32],
+    ups: &[u32],
+    free: &[bool],
+    flow: &[u32],
+    rows: &mut [u64],
+    a: usize,
+)
+    requires { ⌜ Searchable 64 (graph (now tails) (now heads) (now lows) (now ups)) (now flow) (now free) × (a < length (now tails)) × Closure (graph (now tails) (now heads) (now lows) (now ups)) (now flow) (now free) (suc a) (now rows) ⌝ }
+    ensures { λ _. ⌜ Closure (graph (now (tails .entry)) (now (heads .entry)) (now (lows .entry)) (now (ups .entry))) (now (flow .entry)) (now (free .entry)) a (now (rows .exit)) ⌝ }
+{
+    if !free[a] {
+        return;
+    }
+    let p = tails[a] as usize;
+    let q = heads[a] as usize;
+    let f = flow[a];
+    let u = ups[a];
+    let l = lows[a];
+    add(rows, f < u, p, q);
+    add(rows, l < f, q, p);
+}
+
+// Whether arc a may be raised: false only if it cannot be.
+fn may_raise(
+    tails: &[u8],
+    heads: &[u8],
+    lows: &[u32],
+    ups: &[u32],
+    free: &[bool],
+    flow: &[u32],
+    rows: &[u64],
+    a: usize,
+) -> bool
+    requires { ⌜ Searchable 64 (graph (now tails) (now heads) (now lows) (now ups)) (now flow) (now free) × (a < length (now tails)) × Closure (graph (now tails) (now heads) (now lows) (now ups)) (now flow) (now free) (suc a) (now rows) ⌝ }
+    ensures { λ r. ⌜ (r ≡ false → NotRaisable (graph (now (tails .entry)) (now (heads .entry)) (now (lows .entry)) (now (ups .entry))) (now (flow .entry)) (now (free .entry)) a) ⌝ }
+{
+    if !free[a] {
+        return false;
+    }
+    let f = flow[a];
+    let u = ups[a];
+    if u <= f {
+        return false;
+    }
+    let p = tails[a] as usize;
+    let q = heads[a] as usize;
+    let row = rows[q];
+    has(row, p)
+}
+
+// Whether arc a may be lowered: false only if it cannot be.
+fn may_lower(
+    tails: &[u8],
+    heads: &[u8],
+    lows: &[u32],
+    ups: &[u32],
+    free: &[bool],
+    flow: &[u32],
+    rows: &[u64],
+    a: usize,
+) -> bool
+    requires { ⌜ Searchable 64 (graph (now tails) (now heads) (now lows) (now ups)) (now flow) (now free) × (a < length (now tails)) × Closure (graph (now tails) (now heads) (now lows) (now ups)) (now flow) (now free) (suc a) (now rows) ⌝ }
+    ensures { λ r. ⌜ (r ≡ false → NotLowerable (graph (now (tails .entry)) (now (heads .entry)) (now (lows .entry)) (now (ups .entry))) (now (flow .entry)) (now (free .entry)) a) ⌝ }
+{
+    if !free[a] {
+        return false;
+    }
+    let f = flow[a];
+    let l = lows[a];
+    if f <= l {
+        return false;
+    }
+    let p = tails[a] as usize;
+    let q = heads[a] as usize;
+    let row = rows[p];
+    has(row, q)
+}
+
+// One more than the last arc that may be raised; 0 if there is none.
+pub fn after_last_raisable(
+    tails: &[u8],
+    heads: &[u8],
+    lows: &[u32],
+    ups: &[u32],
+    free: &[bool],
+    flow: &[u32],
+) -> usize
+    requires { ⌜ Searchable 64 (graph (now tails) (now heads) (now lows) (now ups)) (now flow) (now free) ⌝ }
+    ensures { λ r. ⌜ NoneRaisable (graph (now (tails .entry)) (now (heads .entry)) (now (lows .entry)) (now (ups .entry))) (now (flow .entry)) (now (free .entry)) r ⌝ }
+{
+    let mut rows = [0u64; 64];
+    clear(&mut rows);
+    let mut a = tails.len();
+    while 0 < a {
+        if may_raise(tails, heads, lows, ups, free, flow, &rows, a - 1) {
+            return a;
+        }
+        a -= 1;
+        add_arc(tails, heads, lows, ups, free, flow, &mut rows, a);
+    }
+    a
+}
+
+// The first arc from `from` on that may be lowered; the number of arcs if there is none.
+pub fn first_lowerable(
+    tails: &[u8],
+    heads: &[u8],
+    lows: &[u32],
+    ups: &[u32],
+    free: &[bool],
+    flow: &[u32],
+    from: usize,
+) -> usize
+    requires { ⌜ Searchable 64 (graph (now tails) (now heads) (now lows) (now ups)) (now flow) (now free) × (from ≤ length (now tails)) ⌝ }
+    ensures { λ r. ⌜ NoneLowerable (graph (now (tails .entry)) (now (heads .entry)) (now (lows .entry)) (now (ups .entry))) (now (flow .entry)) (now (free .entry)) from r ⌝ }
+{
+    let mut rows = [0u64; 64];
+    clear(&mut rows);
+    let mut a = tails.len();
+    let mut first = a;
+    while from < a {
+        a -= 1;
+        if may_lower(tails, heads, lows, ups, free, flow, &rows, a) {
+            first = a;
+        }
+        add_arc(tails, heads, lows, ups, free, flow, &mut rows, a);
+    }
+    first
+}
