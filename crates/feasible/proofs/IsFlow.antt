@@ -1,12 +1,11 @@
 -- The test whether a list is a flow: bounds, then balances.
 use mathlib.Core.Path.{_≡_, refl, sym, subst, _∙_}
 use mathlib.Core.Bool.{Bool, true, false}
-use mathlib.Core.List.{List, _++_}
-use Prim.Native.Nat.{ℕ, _+_, _≤_, _<_}
+use mathlib.Core.List.{List}
+use Prim.Native.Nat.{ℕ, _+_, _<_}
 use native.Mathlib.Omega.{arith}
 use native.Mathlib.Decide.{ℕ-discrete}
-use lib.ListN.{length, getD, take, length-append}
-use lib.Seq.{take-at}
+use lib.ListN.{length, getD}
 use lib.IntN.{ℤ, pos, _-ℤ_}
 use Rattle.laws.specs.Linear.{lin, given}
 use Rattle.network.specs.Network.{netOut, balance, IsFlow}
@@ -25,10 +24,6 @@ one-more P i all here k h = go (ℕ-discrete k i)
 decides-same : {P Q : Type 0} (r : Bool) → (P → Q) → (Q → P) → Decides P r → Decides Q r
 decides-same true f g d = f d
 decides-same false f g d = λ q. d (g q)
-
--- the first part of an array, written over
-pub part-written : {A : Type 0} (l rest : List A) (n : ℕ) → length l ≡ n → (n ≤ length (l ++ rest)) × (take n (l ++ rest) ≡ l)
-part-written l rest n e = (omega (arith, length-append l rest), take-at l rest n e)
 
 -- an excess of 0 everywhere is balance everywhere
 module _ (b : List ℤ) (t h f : List ℕ) (l : List ℤ) (E : Excesses b t h f l) where

@@ -4,7 +4,7 @@ use mathlib.Core.List.{List, _∷_, _++_, map}
 use Prim.Native.Nat.{ℕ, suc, _+_, _-_, _≤_, _<_}
 use native.Mathlib.Numerals.{add-one}
 use native.Mathlib.Omega.{arith}
-use lib.ListN.{length, getD, take, set, replicate, length-map}
+use lib.ListN.{length, getD, take, set, replicate, length-map, length-append}
 use lib.Seq.{append-snoc, take-suc, take-length, length-take-le, take-at, set-at}
 use Rattle.laws.specs.Snoc.{map-more}
 use Rattle.laws.specs.Store.{set-cases}
@@ -15,6 +15,10 @@ padded k d l = l ++ replicate (k - length l) d
 -- the first places hold the list
 pub take-padded : {A : Type 0} (k : ℕ) (d : A) (l : List A) → take (length l) (padded k d l) ≡ l
 take-padded k d l = take-at l (replicate (k - length l) d) (length l) refl
+
+-- an array whose first places are written over
+pub part-written : {A : Type 0} (l rest : List A) (n : ℕ) → length l ≡ n → (n ≤ length (l ++ rest)) × (take n (l ++ rest) ≡ l)
+part-written l rest n e = (omega (arith, length-append l rest), take-at l rest n e)
 
 module _ {A B : Type 0} (f : A → B) (l : List A) (k : ℕ) (d : B) where
   -- f of the first i members of l, and d behind them

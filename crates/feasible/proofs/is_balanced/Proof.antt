@@ -3,7 +3,8 @@ use lib.ListN.{length, replicate, drop}
 use lib.Seq.{length-take-le}
 use lib.IntN.{pos}
 use borrow.Author.Needs.{needs}
-use Rattle.feasible.proofs.IsFlow.{part-written, balanced}
+use Rattle.laws.specs.Padded.{part-written}
+use Rattle.feasible.proofs.IsFlow.{balanced}
 use Rattle.feasible.proofs.is_balanced.Statement.{statement}
 use Rattle.feasible.proofs.is_balanced.Tie as tie
 
