@@ -96,7 +96,7 @@ fn lower(
     }
 }
 
-// Every arc from k on as low as it can be, in order.
+// Every arc from k on as low as it can be, in order. Only the arcs that may be lowered are tried.
 pub fn minimise(
     tails: &[u8],
     heads: &[u8],
@@ -161,7 +161,7 @@ fn raise(
     }
 }
 
-// The least-cost flow after this one; false, and the same flow, if it is the last.
+// The least-cost flow after this one; false, and the same flow, if it is the last. Every arc after the first one tried cannot be raised.
 pub fn next(
     tails: &[u8],
     heads: &[u8],
