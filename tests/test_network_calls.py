@@ -157,7 +157,6 @@ def large(rng, costs):
     return out, arcs
 
 
-@unittest.skipUnless(library.there(), "crates/desk is not there yet")
 class NetworkCalls(unittest.TestCase):
     @classmethod
     def setUpClass(cls):
