@@ -15,15 +15,16 @@ use Rattle.bytes32.specs.Words.{words}
 use Rattle.network.specs.Network.{Net, nodes, arcs}
 use Rattle.network.specs.FullList.{fullList, firstFlow, nextFlow, countFlows}
 use Rattle.network.specs.Questions.{refusal, numberOf}
-use Rattle.network.specs.Checked.{Checks, Sound, netIn}
+use Rattle.network.specs.Checked.{Checks, netIn}
 use Rattle.network.specs.declared.Network.{Network}
 use Rattle.network.specs.declared.Checked.{Checked}
 use Rattle.network.proofs.Accepted.{accepted-net, checked-net, checked-sound}
+use Rattle.desk.specs.declared.Begun.{Begun}
 use Rattle.desk.specs.declared.Reply.{Reply}
 use Rattle.desk.specs.Replies.{orElse, codeOf, sees, word, countUnless}
 use Rattle.desk.specs.NetworkCalls.{net, NetCall, lends, lent, room, roomIf, listed, number}
 use Rattle.desk.specs.NetworkRun.{RightNetwork, Answers}
-use Rattle.desk.specs.NetworkEntries.{HandedOut, PricesOut}
+use Rattle.desk.specs.NetworkEntries.{Ready, Begins, HandedOut, PricesOut}
 use Rattle.desk.proofs.Given.{next-given}
 
 -- the word where there is no line
@@ -31,23 +32,21 @@ abbrev pub wordOf : NetCall → Answer (List ℕ)
 wordOf (first l) = nothing
 wordOf (next g fs) = end
 
-all-passed : (n : ℕ) (b : Bool) → orElse n (ask b 7 0) ≡ 0 → (n ≡ 0) × (b ≡ true)
-all-passed zero true e = (refl, refl)
+all-passed : (n : ℕ) (b : Bool) → orElse n (ask b 7 0) ≡ 0 → b ≡ true
+all-passed zero true e = refl
 all-passed zero false e = absurd (omega arith)
 all-passed (suc n) b e = absurd (omega arith)
+
+fails-first : (n k r : ℕ) → r ≡ n → ¬ (r ≡ 0) → r ≡ orElse n k
+fails-first zero k r e h = absurd (h e)
+fails-first (suc n) k r e h = e
 
 unpriced : (N : Net) (o : Option (List ℕ)) → PricesOut N o none none
 unpriced N none = refl
 unpriced N (some f) = refl
 
 module _ (bs xs : List ℕ) where
-  -- past questions 1 to 6: the struct stands for the network
-  pub record Ready (s : Network) : Type 0 where
-    pub ok : refusal bs xs ≡ 0
-    pub sound : Sound s
-    pub is : netIn s ≡ net bs xs
-
-  pub ready : (v : Checked) → Checks bs xs v → numberOf (v .verdict) ≡ 0 → Ready (v .net)
+  pub ready : (v : Checked) → Checks bs xs v → numberOf (v .verdict) ≡ 0 → Ready bs xs (v .net)
   ready v h z =
       let q : refusal bs xs ≡ 0 = sym (h .number) ∙ z in
       record { ok = q; sound = checked-sound bs xs v h q; is = checked-net bs xs v h q }
@@ -63,30 +62,37 @@ module _ (bs xs : List ℕ) where
   says : (c : NetCall) (r : Reply) (k : ℕ) → number bs xs c ≡ suc k → r ≡ word (suc k) → Answers bs xs c (sees r (lent c))
   says c r k e q = rw (e, q) (record { number-is = refl; told-is = refl; cost-is = refl; lists-are = refl })
 
-  room-is : (s : Network) → Ready s → (b : Bool) (bytes : ℕ) → room (s .arcs) bytes ≡ b → room (arcs (net bs xs)) bytes ≡ b
+  room-is : (s : Network) → Ready bs xs s → (b : Bool) (bytes : ℕ) → room (s .arcs) bytes ≡ b → room (arcs (net bs xs)) bytes ≡ b
   room-is s ready b bytes e = ap (λ m. room m bytes) (sym (ready .sound .arcs-held ∙ ap arcs (ready .is))) ∙ e
 
-  -- questions 1 to 7 of the list for the flows
-  module _ (v : Checked) (checks : Checks bs xs v) where
-    fails-from : (c : NetCall) (r : Reply) (n : ℕ) (b : Bool) → numberOf (v .verdict) ≡ n → room (v .net .arcs) (length (lent c .flows)) ≡ b
-        → ¬ (orElse n (ask b 7 0) ≡ 0) → r ≡ word (orElse n (ask b 7 0)) → Answers bs xs c (sees r (lent c))
-    fails-from c r (suc n) b e h k q = says c r n (rw (sym (checks .number) ∙ e)) q
-    fails-from c r zero true e h k q = absurd (k refl)
-    fails-from c r zero false e h k q =
-        let ok = ready v checks e in
-        says c r 6 (rw (ok .ok, room-is (v .net) ok false (length (lent c .flows)) h)) q
+  -- questions 1 to 7 with a list of so many bytes for the flows: what `begin` hands back
+  module _ (v : Checked) (checks : Checks bs xs v) (bytes : ℕ) where
+    pub begins-refused : (k : ℕ) → k ≡ numberOf (v .verdict) → ¬ (k ≡ 0) → Begins bs xs bytes (record { number = k; net = v .net })
+    begins-refused k e n = record { number-is = fails-first (refusal bs xs) _ k (e ∙ checks .number) n; ready = λ z. absurd (n z) }
 
-    pub fails : (c : NetCall) (r : Reply) (k : ℕ) → k ≡ orElse (numberOf (v .verdict)) (ask (room (v .net .arcs) (length (lent c .flows))) 7 0) → ¬ (k ≡ 0) → r ≡ word k
-        → Answers bs xs c (sees r (lent c))
-    fails c r k e n q = fails-from c r (numberOf (v .verdict)) (room (v .net .arcs) (length (lent c .flows))) refl refl (λ z. n (e ∙ z)) (q ∙ ap word e)
+    pub begins : (b : Bool) → numberOf (v .verdict) ≡ 0 → room (v .net .arcs) bytes ≡ b → Begins bs xs bytes (record { number = ask b 7 0; net = v .net })
+    begins b z e =
+        let ok = ready v checks z in
+        record { number-is = rw (ok .ok, room-is (v .net) ok b bytes e); ready = λ _. ok }
 
-    pub passes : (bytes k : ℕ) → k ≡ orElse (numberOf (v .verdict)) (ask (room (v .net .arcs) bytes) 7 0) → k ≡ 0 → Ready (v .net) × (room (v .net .arcs) bytes ≡ true)
-    passes bytes k e z =
-        let (a, b) = all-passed (numberOf (v .verdict)) (room (v .net .arcs) bytes) (sym e ∙ z) in
-        (ready v checks a, b)
+  -- a call that fails one of them, or none
+  module _ (b : Begun) (bytes : ℕ) (h : Begins bs xs bytes b) where
+    pub passes : b .number ≡ 0 → Ready bs xs (b .net) × (room (b .net .arcs) bytes ≡ true)
+    passes z =
+        let ok = h .ready z in
+        let e = all-passed (refusal bs xs) (room (arcs (net bs xs)) bytes) (sym (h .number-is) ∙ z) in
+        (ok, ap (λ m. room m bytes) (ok .sound .arcs-held ∙ ap arcs (ok .is)) ∙ e)
+
+    pub fails : (c : NetCall) (r : Reply) → length (lent c .flows) ≡ bytes → ¬ (b .number ≡ 0) → r ≡ word (b .number) → Answers bs xs c (sees r (lent c))
+    fails c r l n q = go (refusal bs xs) (room (arcs (net bs xs)) bytes) refl refl (h .number-is)
+      where
+        go : (k : ℕ) (t : Bool) → refusal bs xs ≡ k → room (arcs (net bs xs)) bytes ≡ t → b .number ≡ orElse k (ask t 7 0) → Answers bs xs c (sees r (lent c))
+        go (suc k) t e f g = says c r k (rw e) (q ∙ ap word g)
+        go zero true e f g = absurd (n g)
+        go zero false e f g = says c r 6 (rw (e, l, f)) (q ∙ ap word g)
 
   -- past them
-  module _ (s : Network) (ready : Ready s) where
+  module _ (s : Network) (ready : Ready bs xs s) where
     prices-room-is : (b : Bool) (bytes : ℕ) → room (s .nodes) bytes ≡ b → room (nodes (net bs xs)) bytes ≡ b
     prices-room-is b bytes e = ap (λ n. room n bytes) (sym (ready .sound .nodes-held ∙ ap nodes (ready .is))) ∙ e
 

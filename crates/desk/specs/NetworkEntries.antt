@@ -4,13 +4,29 @@ use mathlib.Core.Bool.{Bool, true, false}
 use mathlib.Core.List.{List}
 use mathlib.Core.Option.{Option, none, some}
 use Prim.Native.Nat.{ℕ}
+use Rattle.laws.specs.Tests.{ask}
 use Rattle.bytes32.specs.Words.{encodeWords, over}
-use Rattle.network.specs.Network.{Net, costOf}
+use Rattle.network.specs.Network.{Net, arcs, costOf}
+use Rattle.network.specs.Questions.{refusal}
+use Rattle.network.specs.Checked.{Sound, netIn}
+use Rattle.network.specs.declared.Network.{Network}
 use Rattle.enumerator.specs.declared.Place.{Place}
 use Rattle.enumerator.specs.declared.Place.the-variants.{Start, Line, None, End}
+use Rattle.desk.specs.declared.Begun.{Begun}
 use Rattle.desk.specs.declared.Reply.{Reply}
-use Rattle.desk.specs.Replies.{word}
-use Rattle.desk.specs.NetworkCalls.{PricesAfter}
+use Rattle.desk.specs.Replies.{orElse, word}
+use Rattle.desk.specs.NetworkCalls.{net, room, PricesAfter}
+
+-- past questions 1 to 6: a struct that stands for the network of the bytes
+pub record Ready (bs xs : List ℕ) (s : Network) : Type 0 where
+  pub ok : refusal bs xs ≡ 0
+  pub sound : Sound s
+  pub is : netIn s ≡ net bs xs
+
+-- questions 1 to 7, with a list of so many bytes lent for the flows
+pub record Begins (bs xs : List ℕ) (bytes : ℕ) (r : Begun) : Type 0 where
+  pub number-is : r .number ≡ orElse (refusal bs xs) (ask (room (arcs (net bs xs)) bytes) 7 0)
+  pub ready : r .number ≡ 0 → Ready bs xs (r .net)
 
 -- a line is written to the first places of a list, and its cost replied; without one the reply is the word k
 abbrev pub HandedOut : Net → Option (List ℕ) → ℕ → List ℕ → Reply → List ℕ → Type 0

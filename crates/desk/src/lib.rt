@@ -4,19 +4,17 @@ ghost use mathlib.Core.Bool.{true, cond};
 ghost use mathlib.Core.Option.{none, some};
 ghost use lib.ListN.{length};
 ghost use Rattle.laws.specs.Run.{first, next};
-ghost use Rattle.laws.specs.Tests.{ask};
 ghost use Rattle.bytes32.specs.Words.{words};
 ghost use Rattle.network.specs.FullList.{fullList, countFlows};
 ghost use Rattle.network.specs.Questions.{numberOf, refusal};
 ghost use Rattle.network.specs.Checked.{Sound, netIn};
 ghost use Rattle.enumerator.specs.Enumerator.{Stands, lineOf};
-ghost use Rattle.desk.specs.Replies.{orElse, word, sees, countUnless};
+ghost use Rattle.desk.specs.Replies.{word, sees, countUnless};
 ghost use Rattle.desk.specs.NetworkCalls.{net, lends, room, listed};
 ghost use Rattle.desk.specs.NetworkRun.{Answers};
-ghost use Rattle.desk.specs.NetworkEntries.{HandedOut, PricesOut, onLine};
+ghost use Rattle.desk.specs.NetworkEntries.{Begins, HandedOut, PricesOut, onLine};
 use enumerator::Enumerator;
 use enumerator::Place;
-use network::Checked;
 use network::Network;
 use network::Verdict;
 
@@ -65,17 +63,36 @@ fn has_room(k: usize, bytes: usize) -> bool
     }
 }
 
-// Questions 1 to 7 of a list for the flows of so many bytes: the number of the first that fails, or 0.
-fn refusal_of(checked: Checked, bytes: usize) -> u32
-    ensures { λ r. ⌜ r ≡ orElse (numberOf (checked .verdict)) (ask (room (checked .net .arcs) bytes) 7 0) ⌝ }
+// The network of a call, and the number of the first of questions 1 to 7 that fails, or 0, where a list of so many bytes is lent for the flows.
+struct Begun {
+    number: u32,
+    net: Network,
+}
+
+fn begin(balances: &[u8], arcs: &[u8], bytes: usize) -> Begun
+    ensures { λ r. ⌜ Begins (now (balances .entry)) (now (arcs .entry)) bytes r ⌝ }
 {
+    let checked = network::check(balances, arcs);
     let verdict = checked.verdict;
     let number = number_of(verdict);
-    if number != 0 {
-        return number;
-    }
     let net = checked.net;
-    if has_room(net.arcs, bytes) { 0 } else { 7 }
+    if number != 0 {
+        return Begun {
+            number: number,
+            net: net,
+        };
+    }
+    if has_room(net.arcs, bytes) {
+        Begun {
+            number: 0,
+            net: net,
+        }
+    } else {
+        Begun {
+            number: 7,
+            net: net,
+        }
+    }
 }
 
 fn on_line(place: Place) -> bool
@@ -143,12 +160,12 @@ pub extern "C" fn desk_network_first(balances: &[u8], arcs: &[u8], flows: &mut [
     ensures { λ r. ⌜ Answers (now (balances .entry)) (now (arcs .entry)) (first (lends (now (flows .entry)) none))
         (sees r (lends (now (flows .exit)) none)) ⌝ }
 {
-    let checked = network::check(balances, arcs);
-    let number = refusal_of(checked, flows.len());
+    let begun = begin(balances, arcs, flows.len());
+    let number = begun.number;
     if number != 0 {
         return word(number);
     }
-    let net = checked.net;
+    let net = begun.net;
     let walk = enumerator::start(net).first();
     hand_out(walk, flows, 100)
 }
@@ -164,12 +181,12 @@ pub extern "C" fn desk_network_first_priced(
     ensures { λ r. ⌜ Answers (now (balances .entry)) (now (arcs .entry)) (first (lends (now (flows .entry)) (some (now (prices .entry)))))
         (sees r (lends (now (flows .exit)) (some (now (prices .exit))))) ⌝ }
 {
-    let checked = network::check(balances, arcs);
-    let number = refusal_of(checked, flows.len());
+    let begun = begin(balances, arcs, flows.len());
+    let number = begun.number;
     if number != 0 {
         return word(number);
     }
-    let net = checked.net;
+    let net = begun.net;
     if !has_room(net.nodes, prices.len()) {
         return word(7);
     }
@@ -189,12 +206,12 @@ pub extern "C" fn desk_network_next(
     ensures { λ r. ⌜ Answers (now (balances .entry)) (now (arcs .entry)) (next (now (given .entry)) (now (flows .entry)))
         (sees r (lends (now (flows .exit)) none)) ⌝ }
 {
-    let checked = network::check(balances, arcs);
-    let number = refusal_of(checked, flows.len());
+    let begun = begin(balances, arcs, flows.len());
+    let number = begun.number;
     if number != 0 {
         return word(number);
     }
-    let net = checked.net;
+    let net = begun.net;
     let walk = find(net, given);
     let place = walk.place;
     if !on_line(place) {

@@ -6,7 +6,8 @@ use Rattle.laws.specs.Count.{counted}
 use Rattle.network.specs.FullList.{countFlows}
 use Rattle.network.specs.Checked.{netIn}
 use Rattle.desk.specs.NetworkCalls.{net}
-use Rattle.desk.proofs.NetworkEntries.{Ready, ready, counts-refused, counts-all, counts-more}
+use Rattle.desk.specs.NetworkEntries.{Ready}
+use Rattle.desk.proofs.NetworkEntries.{ready, counts-refused, counts-all, counts-more}
 use borrow.Author.Needs.{needs}
 use Rattle.desk.proofs.desk_network_count.Statement.{statement}
 use Rattle.desk.proofs.desk_network_count.Tie as tie

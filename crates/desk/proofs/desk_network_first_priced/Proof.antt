@@ -1,4 +1,4 @@
-use mathlib.Core.Path.{_≡_, sym, ap, _∙_}
+use mathlib.Core.Path.{_≡_, refl, sym, ap, _∙_}
 use mathlib.Core.Bool.{true}
 use mathlib.Core.Option.{some}
 use lib.ListN.{length}
@@ -8,45 +8,42 @@ use Rattle.network.specs.FullList.{firstFlow}
 use Rattle.network.specs.Checked.{netIn}
 use Rattle.desk.specs.NetworkCalls.{lends, room}
 use Rattle.enumerator.specs.Enumerator.{lineOf}
-use Rattle.desk.proofs.NetworkEntries.{Ready, fails, passes, fails-prices, answers-first-priced}
+use Rattle.desk.specs.NetworkEntries.{Ready}
+use Rattle.desk.proofs.NetworkEntries.{fails, passes, fails-prices, answers-first-priced}
 use borrow.Author.Needs.{needs}
 use Rattle.desk.proofs.desk_network_first_priced.Statement.{statement}
 use Rattle.desk.proofs.desk_network_first_priced.Tie as tie
 
-abbrev entry : tie.After-refusal-of → tie.Start
-entry c = c .before .before .before .before .before .before
+abbrev entry : tie.After-begin → tie.Start
+entry c = c .before .before .before .before .before
 
 -- past questions 1 to 7
-past : (c : tie.Else1) → Ready (entry (c .before) .args .balances .now) (entry (c .before) .args .arcs .now) (c .before .before .check .result .net)
-    × (room (c .before .before .check .result .net .arcs) (length (entry (c .before) .args .flows .now)) ≡ true)
+past : (c : tie.Else1) → Ready (entry (c .before) .args .balances .now) (entry (c .before) .args .arcs .now) (c .before .begin .result .net)
+    × (room (c .before .begin .result .net .arcs) (length (entry (c .before) .args .flows .now)) ≡ true)
 past c =
-    let n = c .before in
-    let a = entry n .args in
-    passes (a .balances .now) (a .arcs .now) (n .before .check .result) (n .before .check .ensures) (length (a .flows .now)) (n .refusal-of .result) (n .refusal-of .ensures) (c .if1 .left)
+    let b = c .before in
+    let a = entry b .args in
+    passes (a .balances .now) (a .arcs .now) (b .begin .result) (length (a .flows .now)) (b .begin .ensures) (c .if1 .left)
 
 -- past 7 of the prices
-fits-prices : (c : tie.Else2) → room (c .before .before .before .before .before .check .result .net .nodes) (length (entry (c .before .before .before .before) .args .prices .now)) ≡ true
+fits-prices : (c : tie.Else2) → room (c .before .before .before .before .begin .result .net .nodes) (length (entry (c .before .before .before .before) .args .prices .now)) ≡ true
 fits-prices c = sym (c .before .has-room .ensures) ∙ not-false (c .before .has-room .result) (c .if2 .left)
 
 -- the state is one of the checked network
-same : (c : tie.After-first) → c .first .result .net ≡ c .before .before .before .before .before .before .before .check .result .net
+same : (c : tie.After-first) → c .first .result .net ≡ c .before .before .before .before .before .before .begin .result .net
 same c = c .first .ensures .net-is ∙ c .before .start .ensures .1
 
-check-requires : tie.Need-check-requires
-check-requires c κs = search needs
-
-refusal-of-requires : tie.Need-refusal-of-requires
-refusal-of-requires c κs = search needs
+begin-requires : tie.Need-begin-requires
+begin-requires c κs = search needs
 
 word-requires : tie.Need-word-requires
 word-requires c κs = search needs
 
 returns : tie.Need-returns
 returns c =
-    let n = c .before .before in
-    let a = entry n .args in
-    fails (a .balances .now) (a .arcs .now) (n .before .check .result) (n .before .check .ensures) (first (lends (a .flows .now) (some (a .prices .now)))) (c .word .result)
-    (n .refusal-of .result) (n .refusal-of .ensures) (c .before .if1 .taken) (c .word .ensures)
+    let b = c .before .before in
+    let a = entry b .args in
+    fails (a .balances .now) (a .arcs .now) (b .begin .result) (length (a .flows .now)) (b .begin .ensures) (first (lends (a .flows .now) (some (a .prices .now)))) (c .word .result) refl (c .before .if1 .taken) (c .word .ensures)
 
 has-room-requires : tie.Need-has-room-requires
 has-room-requires c κs = search needs
@@ -60,7 +57,7 @@ returns-2 c =
     let e = h .before .before in
     let a = entry (e .before) .args in
     let (ready, fits) = past e in
-    fails-prices (a .balances .now) (a .arcs .now) (e .before .before .check .result .net) ready (a .flows .now) fits (a .prices .now) (c .word2 .result)
+    fails-prices (a .balances .now) (a .arcs .now) (e .before .begin .result .net) ready (a .flows .now) fits (a .prices .now) (c .word2 .result)
     (sym (h .has-room .ensures) ∙ not-true (h .has-room .result) (c .before .if2 .taken)) (c .word2 .ensures)
 
 start-requires : tie.Need-start-requires
@@ -98,17 +95,16 @@ returns-3 c =
     let e = k .before .before .before in
     let a = entry (e .before) .args in
     let (ready, fits) = past e in
-    let state = f .first .result in
-    answers-first-priced (a .balances .now) (a .arcs .now) (e .before .before .check .result .net) ready (a .flows .now) fits
-    (netIn (state .net)) (lineOf state) (ap netIn (same f) ∙ ready .is) (f .first .ensures .line-is ∙ ap firstFlow (ap netIn (f .before .start .ensures .1) ∙ ready .is))
+    let walk = f .first .result in
+    answers-first-priced (a .balances .now) (a .arcs .now) (e .before .begin .result .net) ready (a .flows .now) fits
+    (netIn (walk .net)) (lineOf walk) (ap netIn (same f) ∙ ready .is) (f .first .ensures .line-is ∙ ap firstFlow (ap netIn (f .before .start .ensures .1) ∙ ready .is))
     (h .hand-out .result) _ (h .hand-out .ensures) (a .prices .now) _ (fits-prices k) (p .hand-prices .ensures)
 
 pub desk-network-first-priced-spec : {M : Type 1} → statement M
 desk-network-first-priced-spec =
     tie.close
     (tie.spec
-    check-requires
-    refusal-of-requires
+    begin-requires
     word-requires
     returns
     has-room-requires

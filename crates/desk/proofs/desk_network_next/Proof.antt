@@ -1,4 +1,4 @@
-use mathlib.Core.Path.{_≡_, sym, ap, _∙_}
+use mathlib.Core.Path.{_≡_, refl, sym, ap, _∙_}
 use mathlib.Core.Bool.{true, cond}
 use mathlib.Core.Option.{none, some}
 use lib.ListN.{length}
@@ -11,21 +11,22 @@ use Rattle.desk.specs.NetworkCalls.{net, room, listed}
 use Rattle.enumerator.specs.Enumerator.{lineOf, flowIn, following}
 use Rattle.desk.proofs.HandingOut.{no-line, a-line}
 use Rattle.desk.proofs.Given.{on-none, on-some}
-use Rattle.desk.proofs.NetworkEntries.{Ready, fails, passes, fails-given, answers-next}
+use Rattle.desk.specs.NetworkEntries.{Ready}
+use Rattle.desk.proofs.NetworkEntries.{fails, passes, fails-given, answers-next}
 use borrow.Author.Needs.{needs}
 use Rattle.desk.proofs.desk_network_next.Statement.{statement}
 use Rattle.desk.proofs.desk_network_next.Tie as tie
 
-abbrev entry : tie.After-refusal-of → tie.Start
-entry c = c .before .before .before .before .before .before
+abbrev entry : tie.After-begin → tie.Start
+entry c = c .before .before .before .before .before
 
 -- past questions 1 to 7
-past : (c : tie.Else1) → Ready (entry (c .before) .args .balances .now) (entry (c .before) .args .arcs .now) (c .before .before .check .result .net)
-    × (room (c .before .before .check .result .net .arcs) (length (entry (c .before) .args .flows .now)) ≡ true)
+past : (c : tie.Else1) → Ready (entry (c .before) .args .balances .now) (entry (c .before) .args .arcs .now) (c .before .begin .result .net)
+    × (room (c .before .begin .result .net .arcs) (length (entry (c .before) .args .flows .now)) ≡ true)
 past c =
-    let n = c .before in
-    let a = entry n .args in
-    passes (a .balances .now) (a .arcs .now) (n .before .check .result) (n .before .check .ensures) (length (a .flows .now)) (n .refusal-of .result) (n .refusal-of .ensures) (c .if1 .left)
+    let b = c .before in
+    let a = entry b .args in
+    passes (a .balances .now) (a .arcs .now) (b .begin .result) (length (a .flows .now)) (b .begin .ensures) (c .if1 .left)
 
 -- what question 8 found
 found : (c : tie.After-find) → lineOf (c .find .result) ≡ cond (listed (entry (c .before .before .before) .args .given .now)
@@ -36,21 +37,17 @@ found c =
     let g = entry (e .before) .args .given .now in
     c .find .ensures .2 ∙ ap (λ N. cond (listed g (fullList N)) (some (words g)) none) (past e .0 .is)
 
-check-requires : tie.Need-check-requires
-check-requires c κs = search needs
-
-refusal-of-requires : tie.Need-refusal-of-requires
-refusal-of-requires c κs = search needs
+begin-requires : tie.Need-begin-requires
+begin-requires c κs = search needs
 
 word-requires : tie.Need-word-requires
 word-requires c κs = search needs
 
 returns : tie.Need-returns
 returns c =
-    let n = c .before .before in
-    let a = entry n .args in
-    fails (a .balances .now) (a .arcs .now) (n .before .check .result) (n .before .check .ensures) (next (a .given .now) (a .flows .now)) (c .word .result)
-    (n .refusal-of .result) (n .refusal-of .ensures) (c .before .if1 .taken) (c .word .ensures)
+    let b = c .before .before in
+    let a = entry b .args in
+    fails (a .balances .now) (a .arcs .now) (b .begin .result) (length (a .flows .now)) (b .begin .ensures) (next (a .given .now) (a .flows .now)) (c .word .result) refl (c .before .if1 .taken) (c .word .ensures)
 
 find-requires : tie.Need-find-requires
 find-requires c κs = past (c .before) .0 .sound
@@ -69,7 +66,7 @@ returns-2 c =
     let a = entry (e .before) .args in
     let (ready, fits) = past e in
     let s = f .find .result in
-    fails-given (a .balances .now) (a .arcs .now) (e .before .before .check .result .net) ready (a .flows .now) fits (a .given .now) (c .word2 .result)
+    fails-given (a .balances .now) (a .arcs .now) (e .before .begin .result .net) ready (a .flows .now) fits (a .given .now) (c .word2 .result)
     (on-none _ (words (a .given .now)) (lineOf s) (found f) (no-line (s .place) (flowIn s) (sym (l .on-line .ensures) ∙ not-true (l .on-line .result) (c .before .if2 .taken))))
     (c .word2 .ensures)
 
@@ -100,7 +97,7 @@ returns-3 c =
     let g = a .given .now in
     let (given, on-it) = on-some _ (words g) (flowIn s) (lineOf s) (found f) (a-line (s .place) (flowIn s) (sym (l .on-line .ensures) ∙ not-false (l .on-line .result) (n .before .if2 .left))) in
     let same : netIn (s .net) ≡ net (a .balances .now) (a .arcs .now) = ap netIn (f .find .ensures .1) ∙ ready .is in
-    answers-next (a .balances .now) (a .arcs .now) (e .before .before .check .result .net) ready (a .flows .now) fits g
+    answers-next (a .balances .now) (a .arcs .now) (e .before .begin .result .net) ready (a .flows .now) fits g
     (netIn (n .next .result .net)) (lineOf (n .next .result)) (ap netIn (n .next .ensures .net-is) ∙ same) given
     (n .next .ensures .line-is ∙ ap (following (netIn (s .net))) on-it ∙ ap (λ N. nextFlow N (words g)) same)
     (h .hand-out .result) _ (h .hand-out .ensures)
@@ -109,8 +106,7 @@ pub desk-network-next-spec : {M : Type 1} → statement M
 desk-network-next-spec =
     tie.close
     (tie.spec
-    check-requires
-    refusal-of-requires
+    begin-requires
     word-requires
     returns
     find-requires
