@@ -31,6 +31,12 @@ class Networks(unittest.TestCase):
                 if flows:
                     self.assertEqual(trial.prices(balances, arcs, flows[0]), list(prices))
 
+    def test_is_first(self):
+        for name, balances, arcs, cost, flows, prices in networks():
+            with self.subTest(name):
+                everything = list(trial.flows(balances, arcs))
+                self.assertEqual([f for f in everything if trial.is_first(balances, arcs, f)], flows[:1])
+
 
 if __name__ == "__main__":
     unittest.main()

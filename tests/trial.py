@@ -45,3 +45,85 @@ def prices(balances, arcs, f):
     for _ in balances:
         walk = [min([walk[v]] + [walk[s] + c for s, t, c in steps if t == v]) for v in range(len(balances))]
     return walk
+
+
+def is_first(balances, arcs, f):
+    """Whether f is the first flow, for networks too large to try all: within the bounds, balanced, and without a residual cycle of weight below 0,
+    where the cost weighs more than all places of the flow together and each place more than all later ones."""
+    out = [0] * len(balances)
+    for (t, h, l, u, c), x in zip(arcs, f):
+        if not l <= x <= u: return False
+        out[t] += x
+        out[h] -= x
+    if out != list(balances) or len(f) != len(arcs): return False
+    place = 21                             # bits for a place: 2 * BOUND < 2 ** 21
+    weights = [(c << place * len(arcs)) + (1 << place * (len(arcs) - 1 - a)) for a, (t, h, l, u, c) in enumerate(arcs)]
+    steps = [(t, h, w) for (t, h, l, u, c), x, w in zip(arcs, f, weights) if x < u] + [(h, t, -w) for (t, h, l, u, c), x, w in zip(arcs, f, weights) if x > l]
+    walk = [0] * len(balances)
+    for _ in range(len(balances) + 1):
+        before = list(walk)
+        for s, t, w in steps:
+            if walk[s] + w < walk[t]: walk[t] = walk[s] + w
+        if walk == before: return True
+    return False
+
+
+class Reader:
+    """Document 01's reader with a finger on the full list of a network. Lists are bytes; an answer is (code, value) and the lent lists after the call."""
+    OK, NONE, END, MORE = 0, 100, 101, 102
+
+    def __init__(self, balances, arcs):
+        self.finger = None                 # on no line
+        self.refused = refusal(balances, arcs)
+        self.lines, self.place, self.cost, self.prices = [], {}, 0, []
+        if not self.refused:
+            b = self._numbers(balances)
+            x = self._numbers(arcs)
+            rows = [x[i:i + 5] for i in range(0, len(x), 5)]
+            self.n, self.m = len(b), len(rows)
+            flows, self.cost = full_list(b, rows)
+            self.lines = [self._bytes(f) for f in flows]
+            self.place = {line: i for i, line in enumerate(self.lines)}
+            if flows: self.prices = self._bytes(prices(b, rows, flows[0]))
+
+    @staticmethod
+    def _numbers(data):
+        return [int.from_bytes(data[i:i + 4], "little", signed=True) for i in range(0, len(data), 4)]
+
+    @staticmethod
+    def _bytes(values):
+        return b"".join(v.to_bytes(4, "little", signed=True) for v in values)
+
+    @staticmethod
+    def _short(lent, places):
+        return len(lent) % 4 != 0 or len(lent) < 4 * places
+
+    def _question(self, flows, prices=None):
+        """The first question, 1 to 7, that a call fails, or 0."""
+        if self.refused: return self.refused
+        return 7 if self._short(flows, self.m) or prices is not None and self._short(prices, self.n) else 0
+
+    def _line(self):
+        return self.lines[self.finger]
+
+    def first(self, flows, prices=None):
+        lent = [flows] if prices is None else [flows, prices]
+        question = self._question(flows, prices)
+        if question: return (question, 0), lent
+        if not self.lines: return (self.NONE, 0), lent
+        self.finger = 0
+        written = [self._line(), self.prices][:len(lent)]
+        return (self.OK, self.cost), [w + l[len(w):] for w, l in zip(written, lent)]
+
+    def next(self, given, flows):
+        question = self._question(flows)
+        if question: return (question, 0), [flows]
+        if given not in self.place: return (8, 0), [flows]
+        assert self.finger is not None and given == self._line(), "the line last written, or a list that is not on the full list"
+        if self.finger + 1 == len(self.lines): return (self.END, 0), [flows]
+        self.finger += 1
+        return (self.OK, self.cost), [self._line() + flows[len(self._line()):]]
+
+    def count(self, cap):
+        if self.refused: return self.refused, 0
+        return (self.OK, len(self.lines)) if len(self.lines) <= cap else (self.MORE, 0)

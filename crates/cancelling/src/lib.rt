@@ -47,8 +47,8 @@ fn cancel_all(
     }
 }
 
-// A flow without a negative cycle, from any flow: those with room for 524,288 are cancelled first, then for half as much, down to 1.
-pub fn cheapen(
+// Every negative cycle cancelled: those with room for 524,288 first, then for half as much, down to 1.
+fn cancel_by_scaling(
     tails: &[u8],
     heads: &[u8],
     lows: &[u32],
@@ -67,4 +67,22 @@ pub fn cheapen(
         }
         need = need / 2;
     }
+}
+
+// A flow without a negative cycle, from any flow; one search is enough where it has none.
+pub fn cheapen(
+    tails: &[u8],
+    heads: &[u8],
+    lows: &[u32],
+    ups: &[u32],
+    costs: &[i32],
+    flow: &mut [u32],
+)
+    requires { ⌜ Relaxable (costGraph (now tails) (now heads) (now lows) (now ups) (now costs)) (now flow) ⌝ }
+    ensures { λ _. ⌜ Rerouted (costGraph (now (tails .entry)) (now (heads .entry)) (now (lows .entry)) (now (ups .entry)) (now (costs .entry))) (now (flow .entry)) (now (flow .exit)) × Settled (costGraph (now (tails .entry)) (now (heads .entry)) (now (lows .entry)) (now (ups .entry)) (now (costs .entry))) (now (flow .exit)) 1 ⌝ }
+{
+    if !cancel(tails, heads, lows, ups, costs, flow, 1) {
+        return;
+    }
+    cancel_by_scaling(tails, heads, lows, ups, costs, flow);
 }

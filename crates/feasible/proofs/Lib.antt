@@ -2,3 +2,4 @@ mod Widths
 mod Excess
 mod Sending
 mod Answer
+pub mod IsFlow

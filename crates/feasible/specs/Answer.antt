@@ -1,4 +1,4 @@
--- The search for a flow: what it asks, and what it answers.
+-- The search for a flow and the test of one: what they ask, and what they answer.
 use mathlib.Core.Path.{_≡_}
 use mathlib.Core.List.{List}
 use mathlib.Core.Bool.{Bool, true, false}
@@ -29,3 +29,13 @@ pub record AllFree (t : List ℕ) (free : List Bool) : Type 0 where
 pub record Answer (b : List ℤ) (t h l u : List ℕ) (f : List ℕ) (r : Bool) : Type 0 where
   pub found : r ≡ true → (c : List ℤ) → length c ≡ length t → IsFlow (netWith b t h l u c) f
   pub none : r ≡ false → (c : List ℤ) → length c ≡ length t → (g : List ℕ) → ¬ IsFlow (netWith b t h l u c) g
+
+-- the answer to whether P
+abbrev pub Decides : Type 0 → Bool → Type 0
+Decides P true = P
+Decides P false = ¬ P
+
+-- whatever the costs: f is a flow, or it is none
+pub record IsFlowTest (b : List ℤ) (t h l u : List ℕ) (f : List ℕ) (r : Bool) : Type 0 where
+  pub yes : r ≡ true → (c : List ℤ) → length c ≡ length t → IsFlow (netWith b t h l u c) f
+  pub no : r ≡ false → (c : List ℤ) → length c ≡ length t → ¬ IsFlow (netWith b t h l u c) f

@@ -1,5 +1,5 @@
 // The search for a flow. It starts at the lower bounds and sends from nodes with an excess to nodes with a deficit, until there is
-// no excess, or none of it can be sent: the nodes reached then certify that there is no flow.
+// no excess, or none of it can be sent: the nodes reached then certify that there is no flow. And the test whether a list is a flow.
 ghost use mathlib.Core.Path.{_≡_};
 ghost use Prim.Native.Nat.{ℕ, _≤_, _<_};
 ghost use lib.ListN.{length, getD, set};
@@ -9,11 +9,13 @@ ghost use mir.Syntax.{w64};
 ghost use mir.Val.{SFits};
 ghost use Rattle.laws.specs.Range.{Bounded};
 ghost use Rattle.laws.specs.Sum.{sum};
+ghost use Rattle.network.specs.Network.{netOut, balance};
+ghost use Rattle.certificates.specs.Push.{InBounds};
 ghost use Rattle.paths.specs.Graph.{graph};
 ghost use Rattle.paths.specs.Pushing.{Ready};
-ghost use Rattle.feasible.specs.Excess.{SmallNumbers, Excesses, FirstExcess};
+ghost use Rattle.feasible.specs.Excess.{supplies, SmallNumbers, Excesses, FirstExcess};
 ghost use Rattle.feasible.specs.Sending.{Capped, SendsTo, Sends};
-ghost use Rattle.feasible.specs.Answer.{Given, AllFree, Answer};
+ghost use Rattle.feasible.specs.Answer.{Given, AllFree, Answer, Decides, IsFlowTest};
 
 // The same number in 64 bits.
 fn wide(c: i32) -> i64
@@ -241,4 +243,67 @@ pub fn feasible(
         flow,
         &mut excess[..n],
     )
+}
+
+// Whether each number is within the bounds of its arc.
+fn within_bounds(lows: &[u32], ups: &[u32], flow: &[u32]) -> bool
+    requires { ⌜ (length (now lows) ≡ length (now flow)) × (length (now ups) ≡ length (now flow)) ⌝ }
+    ensures { λ r. ⌜ Decides (InBounds (graph (now (flow .entry)) (now (flow .entry)) (now (lows .entry)) (now (ups .entry))) (now (flow .entry))) r ⌝ }
+{
+    let mut a = 0;
+    while a < flow.len() {
+        let f = flow[a];
+        if f < lows[a] {
+            return false;
+        }
+        if ups[a] < f {
+            return false;
+        }
+        a += 1;
+    }
+    true
+}
+
+// Whether every number is 0.
+fn all_zero(excess: &[i64]) -> bool
+    ensures { λ r. ⌜ Decides ((v : ℕ) → v < length (now (excess .entry)) → getD (now (excess .entry)) v (pos 0) ≡ pos 0) r ⌝ }
+{
+    let mut v = 0;
+    while v < excess.len() {
+        let x = excess[v];
+        if x != 0 {
+            return false;
+        }
+        v += 1;
+    }
+    true
+}
+
+// Whether the flow out less the flow in is the balance at every node.
+fn is_balanced(tails: &[u8], heads: &[u8], balances: &[i32], flow: &[u32]) -> bool
+    requires { ⌜ SmallNumbers (now balances) (now tails) (now heads) (now flow) × (length (now balances) ≤ 64) ⌝ }
+    ensures { λ r. ⌜ Decides ((v : ℕ) → v < length (now (balances .entry)) → netOut (supplies (now (balances .entry)) (now (tails .entry)) (now (heads .entry))) (now (flow .entry)) v ≡ balance (supplies (now (balances .entry)) (now (tails .entry)) (now (heads .entry))) v) r ⌝ }
+{
+    let mut excess = [0i64; 64];
+    let n = balances.len();
+    excess_of(tails, heads, balances, flow, &mut excess[..n]);
+    all_zero(&excess[..n])
+}
+
+// Whether the numbers are a flow.
+pub fn is_flow(
+    tails: &[u8],
+    heads: &[u8],
+    lows: &[u32],
+    ups: &[u32],
+    balances: &[i32],
+    flow: &[u32],
+) -> bool
+    requires { ⌜ Given (now balances) (now tails) (now heads) (now lows) (now ups) (now flow) ⌝ }
+    ensures { λ r. ⌜ IsFlowTest (now (balances .entry)) (now (tails .entry)) (now (heads .entry)) (now (lows .entry)) (now (ups .entry)) (now (flow .entry)) r ⌝ }
+{
+    if !within_bounds(lows, ups, flow) {
+        return false;
+    }
+    is_balanced(tails, heads, balances, flow)
 }

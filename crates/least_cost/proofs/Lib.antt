@@ -1,4 +1,3 @@
 pub mod Premises
 pub mod Marked
-pub mod Tests
 mod Question8

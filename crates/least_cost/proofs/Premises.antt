@@ -13,7 +13,6 @@ use Rattle.certificates.specs.Push.{InBounds}
 use Rattle.search.specs.Labels.{costGraph, Relaxable}
 use Rattle.paths.specs.Graph.{graph, netWith}
 use Rattle.paths.specs.Pushing.{Ready, SmallBounds}
-use Rattle.feasible.specs.Excess.{SmallNumbers}
 use Rattle.feasible.specs.Answer.{Given}
 
 module _ (b : List ℤ) (t h l u : List ℕ) (c : List ℤ) (ok : AcceptedNet (netWith b t h l u c)) where
@@ -77,15 +76,4 @@ module _ (b : List ℤ) (t h l u : List ℕ) (c : List ℤ) (ok : AcceptedNet (n
       };
       small = small;
       bounds = record { all-arcs = bounds .all-arcs; above = bounds .above; below = bounds .below };
-    }
-
-    pub small-numbers : SmallNumbers b t h f
-    small-numbers = record {
-      few = ok .few-arcs;
-      heads-len = ok .well-formed .heads-len;
-      flow-len = bounds .all-arcs;
-      tail-in = ok .well-formed .tail-in;
-      head-in = ok .well-formed .head-in;
-      flow-small = λ a k. omega (arith, bounds .below a k, ok .up-small a k);
-      balance-small = balance-small;
     }

@@ -14,11 +14,6 @@ abbrev pub FirstFlow : Net → List ℕ → List Bool → Bool → Type 0
 FirstFlow N f tight true = (firstFlow N ≡ some f) × Marked N tight f
 FirstFlow N f tight false = firstFlow N ≡ none
 
--- the answer to whether P
-abbrev pub Decides : Type 0 → Bool → Type 0
-Decides P true = P
-Decides P false = ¬ P
-
 -- whether f is a least-cost flow; if so, no negative cycle has room for 1
 abbrev pub Tested : Net → List ℕ → Bool → Type 0
 Tested N f true = LeastCost N f × Settled N f 1

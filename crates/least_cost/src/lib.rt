@@ -1,16 +1,12 @@
 // The first least-cost flow of a network, and the test of a given flow.
 ghost use mathlib.Core.Path.{_≡_};
-ghost use Prim.Native.Nat.{ℕ, _≤_, _<_};
-ghost use lib.ListN.{length, getD};
-ghost use lib.IntN.{pos};
-ghost use Rattle.network.specs.Network.{netOut, balance, LeastCost};
+ghost use lib.ListN.{length};
+ghost use Rattle.network.specs.Network.{LeastCost};
 ghost use Rattle.network.specs.Checked.{AcceptedNet};
-ghost use Rattle.certificates.specs.Push.{InBounds};
 ghost use Rattle.search.specs.Search.{Settled};
-ghost use Rattle.paths.specs.Graph.{graph, netWith};
-ghost use Rattle.feasible.specs.Excess.{supplies, SmallNumbers};
+ghost use Rattle.paths.specs.Graph.{netWith};
 ghost use Rattle.least_cost.specs.Marked.{Marked};
-ghost use Rattle.least_cost.specs.Answers.{FirstFlow, Decides, Tested, MarkedIfLeast};
+ghost use Rattle.least_cost.specs.Answers.{FirstFlow, Tested, MarkedIfLeast};
 
 // Marks the arcs of reduced cost 0 under the prices of a least-cost flow.
 fn mark(
@@ -53,51 +49,6 @@ pub fn first_flow(
     true
 }
 
-// Whether each number is within the bounds of its arc.
-fn within_bounds(lows: &[u32], ups: &[u32], flow: &[u32]) -> bool
-    requires { ⌜ (length (now lows) ≡ length (now flow)) × (length (now ups) ≡ length (now flow)) ⌝ }
-    ensures { λ r. ⌜ Decides (InBounds (graph (now (flow .entry)) (now (flow .entry)) (now (lows .entry)) (now (ups .entry))) (now (flow .entry))) r ⌝ }
-{
-    let mut a = 0;
-    while a < flow.len() {
-        let f = flow[a];
-        if f < lows[a] {
-            return false;
-        }
-        if ups[a] < f {
-            return false;
-        }
-        a += 1;
-    }
-    true
-}
-
-// Whether every number is 0.
-fn all_zero(excess: &[i64]) -> bool
-    ensures { λ r. ⌜ Decides ((v : ℕ) → v < length (now (excess .entry)) → getD (now (excess .entry)) v (pos 0) ≡ pos 0) r ⌝ }
-{
-    let mut v = 0;
-    while v < excess.len() {
-        let x = excess[v];
-        if x != 0 {
-            return false;
-        }
-        v += 1;
-    }
-    true
-}
-
-// Whether the flow out less the flow in is the balance at every node.
-fn is_balanced(tails: &[u8], heads: &[u8], balances: &[i32], flow: &[u32]) -> bool
-    requires { ⌜ SmallNumbers (now balances) (now tails) (now heads) (now flow) × (length (now balances) ≤ 64) ⌝ }
-    ensures { λ r. ⌜ Decides ((v : ℕ) → v < length (now (balances .entry)) → netOut (supplies (now (balances .entry)) (now (tails .entry)) (now (heads .entry))) (now (flow .entry)) v ≡ balance (supplies (now (balances .entry)) (now (tails .entry)) (now (heads .entry))) v) r ⌝ }
-{
-    let mut excess = [0i64; 64];
-    let n = balances.len();
-    feasible::excess_of(tails, heads, balances, flow, &mut excess[..n]);
-    all_zero(&excess[..n])
-}
-
 // Question 8, of m numbers: whether they are a least-cost flow.
 fn is_least_cost(
     tails: &[u8],
@@ -111,10 +62,7 @@ fn is_least_cost(
     requires { ⌜ AcceptedNet (netWith (now balances) (now tails) (now heads) (now lows) (now ups) (now costs)) × (length (now flow) ≡ length (now tails)) ⌝ }
     ensures { λ r. ⌜ Tested (netWith (now (balances .entry)) (now (tails .entry)) (now (heads .entry)) (now (lows .entry)) (now (ups .entry)) (now (costs .entry))) (now (flow .entry)) r ⌝ }
 {
-    if !within_bounds(lows, ups, flow) {
-        return false;
-    }
-    if !is_balanced(tails, heads, balances, flow) {
+    if !feasible::is_flow(tails, heads, lows, ups, balances, flow) {
         return false;
     }
     let mut codes = [0usize; 64];

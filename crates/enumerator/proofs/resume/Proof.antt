@@ -10,7 +10,7 @@ use mir.Facts.{toZ-ofZ}
 use borrow.Author.Tests.{not-true, not-false}
 use Rattle.network.specs.Checked.{netIn}
 use Rattle.least_cost.specs.Marked.{Marked}
-use Rattle.least_cost.proofs.Tests.{part-written}
+use Rattle.feasible.proofs.IsFlow.{part-written}
 use Rattle.enumerator.proofs.Held.{few, in-tails, in-heads, in-lows, in-ups, in-costs, in-balances, as-many, small-costs}
 use Rattle.enumerator.proofs.Steps.{on-line, cost-summed, marked-yes, not-marked, resume-off}
 use Rattle.enumerator.proofs.resume.Statement.{statement}

@@ -11,7 +11,7 @@ use native.Mathlib.Omega.{arith}
 use Rattle.network.specs.Checked.{netIn}
 use Rattle.least_cost.specs.Marked.{Marked}
 use Rattle.least_cost.specs.Answers.{FirstFlow}
-use Rattle.least_cost.proofs.Tests.{part-written}
+use Rattle.feasible.proofs.IsFlow.{part-written}
 use Rattle.costs.specs.Costs.{SmallCosts}
 use Rattle.enumerator.specs.declared.Place.the-variants.{None}
 use Rattle.enumerator.proofs.Held.{few, in-tails, in-heads, in-lows, in-ups, in-costs, in-balances, as-many, small-costs}

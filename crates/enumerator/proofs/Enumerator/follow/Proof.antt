@@ -10,7 +10,7 @@ use borrow.Author.Tests.{not-true, not-false}
 use Rattle.flows.specs.Following.{Next}
 use Rattle.least_cost.specs.Marked.{Marked}
 use Rattle.least_cost.proofs.Marked.{marked-any}
-use Rattle.least_cost.proofs.Tests.{part-written}
+use Rattle.feasible.proofs.IsFlow.{part-written}
 use Rattle.enumerator.specs.Enumerator.{netOf, flowIn}
 use Rattle.enumerator.specs.declared.Place.the-variants.{End}
 use Rattle.enumerator.proofs.Held.{few, in-tails, in-heads, in-lows, in-ups}

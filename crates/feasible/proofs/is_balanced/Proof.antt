@@ -3,9 +3,9 @@ use lib.ListN.{length, replicate, drop}
 use lib.Seq.{length-take-le}
 use lib.IntN.{pos}
 use borrow.Author.Needs.{needs}
-use Rattle.least_cost.proofs.Tests.{part-written, balanced}
-use Rattle.least_cost.proofs.is_balanced.Statement.{statement}
-use Rattle.least_cost.proofs.is_balanced.Tie as tie
+use Rattle.feasible.proofs.IsFlow.{part-written, balanced}
+use Rattle.feasible.proofs.is_balanced.Statement.{statement}
+use Rattle.feasible.proofs.is_balanced.Tie as tie
 
 array-borrow-prefix-excess : tie.Need-array-borrow-prefix-excess
 array-borrow-prefix-excess c = search needs
