@@ -3,6 +3,10 @@
 ghost use mathlib.Core.Path.{_≡_};
 ghost use Prim.Native.Nat.{_+_, _≤_, _<_, _%_, _^_};
 ghost use lib.ListN.{length};
+ghost use mir.Syntax.{w32};
+ghost use mir.Val.{ofZ};
+ghost use Rattle.feasible.specs.Answer.{Given, Answer};
+ghost use Rattle.simplex.specs.Lengths.{SameLengths};
 
 // The nodes of the tree are those of the network and the root; arc m + v joins node v to the root.
 const ROOT: u8 = 64;
@@ -27,6 +31,16 @@ fn negated(x: u32) -> u32
     ensures { λ r. ⌜ (r + x) % 2 ^ 32 ≡ 0 ⌝ }
 {
     std::num::wrapping_sub_u32(0, x)
+}
+
+// The bits of a signed number.
+fn bits(x: i32) -> u32
+    ensures { λ r. ⌜ r ≡ ofZ w32 x ⌝ }
+{
+    if x < 0 {
+        return negated((-(x as i64)) as u32);
+    }
+    x as u32
 }
 
 // x and d more, or d less.
@@ -512,4 +526,213 @@ fn improve(
         );
         from = e + 1;
     }
+}
+
+// The balances, and their sum.
+fn copy_balances(balances: &[i32], excess: &mut [u32; 256]) -> u32
+    requires { ⌜ length (now balances) ≤ 64 ⌝ }
+{
+    let mut sum: u32 = 0;
+    let mut v = 0;
+    while v < balances.len() {
+        let x = bits(balances[v]);
+        excess[v] = x;
+        sum = std::num::wrapping_add_u32(sum, x);
+        v += 1;
+    }
+    sum
+}
+
+// Takes x from node t to node h.
+fn carry(excess: &mut [u32; 256], t: u8, h: u8, x: u32) {
+    let out = excess[t as usize];
+    excess[t as usize] = std::num::wrapping_sub_u32(out, x);
+    let into = excess[h as usize];
+    excess[h as usize] = std::num::wrapping_add_u32(into, x);
+}
+
+// The arcs of the network, with what lies above the lower bounds; the lower bounds themselves are carried.
+fn plant_arcs(
+    tails: &[u8],
+    heads: &[u8],
+    lows: &[u32],
+    ups: &[u32],
+    costs: &[i32],
+    tail: &mut [u8; 1024],
+    head: &mut [u8; 1024],
+    room: &mut [u32; 1024],
+    cost: &mut [u32; 1024],
+    excess: &mut [u32; 256],
+)
+    requires { ⌜ SameLengths (length (now tails)) (now tails) (now heads) (now lows) (now ups) (now costs) ⌝ }
+{
+    let mut a = 0;
+    while a < tails.len() {
+        let t = tails[a];
+        let h = heads[a];
+        let low = lows[a];
+        tail[a] = t;
+        head[a] = h;
+        room[a] = std::num::wrapping_sub_u32(ups[a], low);
+        cost[a] = bits(costs[a]);
+        carry(excess, t, h, low);
+        a += 1;
+    }
+}
+
+// Node v hangs on the root by the arc a, which carries its excess x.
+fn plant_node(
+    tail: &mut [u8; 1024],
+    head: &mut [u8; 1024],
+    state: &mut [u8; 1024],
+    flow: &mut [u32; 1024],
+    pred: &mut [usize; 256],
+    price: &mut [u32; 256],
+    below: &mut [u64; 256],
+    x: u32,
+    v: u8,
+    a: usize,
+)
+    requires { ⌜ (v < 64) × (a < 1024) ⌝ }
+{
+    let into = is_negative(x);
+    tail[a] = if into { ROOT } else { v };
+    head[a] = if into { v } else { ROOT };
+    state[a] = IN_TREE;
+    flow[a] = changed(0, x, !into);
+    pred[v as usize] = a;
+    price[v as usize] = changed(0, BIG, into);
+    below[v as usize] = 1 << v;
+}
+
+// Every node hangs on the root.
+fn plant_nodes(
+    tail: &mut [u8; 1024],
+    head: &mut [u8; 1024],
+    state: &mut [u8; 1024],
+    flow: &mut [u32; 1024],
+    pred: &mut [usize; 256],
+    price: &mut [u32; 256],
+    below: &mut [u64; 256],
+    excess: &[u32; 256],
+    m: usize,
+    n: usize,
+)
+    requires { ⌜ (m ≤ 512) × (n ≤ 64) ⌝ }
+{
+    let mut v = 0;
+    while v < n {
+        plant_node(
+            tail,
+            head,
+            state,
+            flow,
+            pred,
+            price,
+            below,
+            excess[v],
+            v as u8,
+            m + v,
+        );
+        v += 1;
+    }
+}
+
+// What the tree's arcs carry, above the lower bounds.
+fn write_flow(lows: &[u32], above: &[u32; 1024], flow: &mut [u32])
+    requires { ⌜ (length (now lows) ≤ 512) × (length (now flow) ≡ length (now lows)) ⌝ }
+{
+    let mut a = 0;
+    while a < lows.len() {
+        flow[a] = std::num::wrapping_add_u32(lows[a], above[a]);
+        a += 1;
+    }
+}
+
+// A guess of a least-cost flow. The caller tests it.
+fn guess(
+    tails: &[u8],
+    heads: &[u8],
+    lows: &[u32],
+    ups: &[u32],
+    costs: &[i32],
+    balances: &[i32],
+    flow: &mut [u32],
+)
+    requires { ⌜ SameLengths (length (now flow)) (now tails) (now heads) (now lows) (now ups) (now costs) × (length (now balances) ≤ 64) ⌝ }
+{
+    let mut excess = [0u32; 256];
+    if copy_balances(balances, &mut excess) != 0 {
+        return;
+    }
+    let m = tails.len();
+    let n = balances.len();
+    let mut tail = [ROOT; 1024];
+    let mut head = [ROOT; 1024];
+    let mut state = [EMPTY; 1024];
+    let mut room = [u32::MAX; 1024];
+    let mut above = [0u32; 1024];
+    let mut cost = [BIG; 1024];
+    let mut parent = [ROOT; 256];
+    let mut pred = [0usize; 256];
+    let mut price = [0u32; 256];
+    let mut below = [u64::MAX; 256];
+    plant_arcs(
+        tails,
+        heads,
+        lows,
+        ups,
+        costs,
+        &mut tail,
+        &mut head,
+        &mut room,
+        &mut cost,
+        &mut excess,
+    );
+    plant_nodes(
+        &mut tail,
+        &mut head,
+        &mut state,
+        &mut above,
+        &mut pred,
+        &mut price,
+        &mut below,
+        &excess,
+        m,
+        n,
+    );
+    improve(
+        &tail,
+        &head,
+        &mut state,
+        &room,
+        &mut above,
+        &cost,
+        &mut parent,
+        &mut pred,
+        &mut price,
+        &mut below,
+        m,
+    );
+    write_flow(lows, &above, flow);
+}
+
+// A flow, and a least-cost one where the guess is right; false if there is none.
+pub fn starting_flow(
+    tails: &[u8],
+    heads: &[u8],
+    lows: &[u32],
+    ups: &[u32],
+    costs: &[i32],
+    balances: &[i32],
+    flow: &mut [u32],
+) -> bool
+    requires { ⌜ Given (now balances) (now tails) (now heads) (now lows) (now ups) (now flow) × (length (now costs) ≡ length (now tails)) ⌝ }
+    ensures { λ r. ⌜ Answer (now (balances .entry)) (now (tails .entry)) (now (heads .entry)) (now (lows .entry)) (now (ups .entry)) (now (flow .exit)) r ⌝ }
+{
+    guess(tails, heads, lows, ups, costs, balances, flow);
+    if feasible::is_flow(tails, heads, lows, ups, balances, flow) {
+        return true;
+    }
+    feasible::feasible(tails, heads, lows, ups, balances, flow)
 }
