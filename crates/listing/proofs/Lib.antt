@@ -1,1 +1,3 @@
+pub mod Pieces
+mod Decimal
 mod Examples
