@@ -37,3 +37,10 @@ module _ {b : List ℕ} {at : ℕ} {p c : List ℕ} {m : ℕ} (d : Appended b at
         within = omega (arith, f .within, appended-long);
         is = f .is ∙ rw (f .end, rest (length q), ap (take m) (d .is), take-at (take at b ++ p) (drop m b) m front-long, append-assoc (take at b) p q);
       }
+
+-- the room that two pieces need, at the first and at the second
+pub room-first : (p q : List ℕ) (at n : ℕ) → at + length (p ++ q) ≤ n → at + length p ≤ n
+room-first p q at n h = omega (arith, length-append p q)
+
+pub room-next : {b : List ℕ} {at : ℕ} (p q : List ℕ) {c : List ℕ} {m : ℕ} → at + length (p ++ q) ≤ length b → Appended b at p c m → m + length q ≤ length c
+room-next p q h d = omega (arith, length-append p q, d .end, appended-long d)

@@ -1,12 +1,12 @@
 -- `listing::put_number` meets its contract: the number falls at each call. Assumes nothing.
 use Prim.Native.Nat.{ℕ, _+_, _/_, _%_, _≤_, _<_}
-use mathlib.Core.Path.{_≡_, ap, _∙_}
-use mathlib.Core.List.{List, [], _∷_}
+use mathlib.Core.Path.{_≡_, ap}
+use mathlib.Core.List.{List}
 use native.Mathlib.Omega.{arith}
 use borrow.Author.Needs.{needs}
 use borrow.Fn.Kinds.{In}
 use borrow.Fn.PlainCycle.{Measures, is, falls, and}
-use lib.ListN.{length, set, length-set}
+use lib.ListN.{length, set}
 use Rattle.listing.specs.Lines.{decimal}
 use Rattle.listing.specs.Appended.{Appended}
 use Rattle.listing.proofs.Pieces.{appended-byte, appended-then, appended-long}
