@@ -185,11 +185,12 @@ fn climb(
 }
 
 // What leaves the tree: the predecessor arc of `leave`, or the entering arc itself if that is ROOT. Of the entering arc, q is the end
-// below `leave` and p the other.
+// below `leave` and p the other; the cycle is closed at `meet`.
 struct Leaving {
     leave: u8,
     q: u8,
     p: u8,
+    meet: u8,
     amount: u32,
 }
 
@@ -204,12 +205,13 @@ fn climb_back(
     w: u8,
     first: Walked,
 ) -> Leaving {
+    let meet = first.meet;
     let mut x = w;
     let mut leave = first.leave;
     let mut q = u;
     let mut amount = first.amount;
     for _ in 0..65usize {
-        if x == first.meet {
+        if x == meet {
             break;
         }
         let r = tree_room(tail, room, flow, pred, x, true);
@@ -225,8 +227,25 @@ fn climb_back(
         leave,
         q,
         p,
+        meet,
         amount,
     }
+}
+
+// What leaves when `most` can enter from u to w.
+fn leaving_arc(
+    tail: &[u8; 1024],
+    room: &[u32; 1024],
+    flow: &[u32; 1024],
+    pred: &[usize; 256],
+    parent: &[u8; 256],
+    below: &[u64; 256],
+    u: u8,
+    w: u8,
+    most: u32,
+) -> Leaving {
+    let first = climb(tail, room, flow, pred, parent, below, u, w, most);
+    climb_back(tail, room, flow, pred, parent, u, w, first)
 }
 
 // Sends d round the cycle of the entering arc e.
@@ -411,21 +430,9 @@ fn pivot(
     let ends = ends_of(tail[e], head[e], forward);
     let u = ends.from;
     let w = ends.to;
-    let first = climb(tail, room, flow, pred, parent, below, u, w, room[e]);
-    let last = climb_back(tail, room, flow, pred, parent, u, w, first);
-    send_round(
-        tail,
-        flow,
-        pred,
-        parent,
-        u,
-        w,
-        first.meet,
-        e,
-        forward,
-        last.amount,
-    );
-    if last.leave == ROOT {
+    let l = leaving_arc(tail, room, flow, pred, parent, below, u, w, room[e]);
+    send_round(tail, flow, pred, parent, u, w, l.meet, e, forward, l.amount);
+    if l.leave == ROOT {
         state[e] = opposite(s);
         return;
     }
@@ -439,10 +446,10 @@ fn pivot(
         price,
         below,
         e,
-        last.leave,
-        last.q,
-        last.p,
-        first.meet,
+        l.leave,
+        l.q,
+        l.p,
+        l.meet,
     );
 }
 

@@ -5,7 +5,7 @@ use Rattle.simplex.proofs.pivot.Tie as tie
 
 -- where the pivot begins, from where the leaving arc is known
 abbrev start : tie.After-struct-known → tie.Start
-start c = c .before .before .before .before .before .before .before .before .before .before .before .before .before .before .before .before .before .before .before
+start c = c .before .before .before .before .before .before .before .before .before .before .before .before .before .before .before
 
 element-copy-out-s : tie.Need-element-copy-out-s
 element-copy-out-s c = search needs
@@ -19,17 +19,14 @@ element-copy-out-ends-of-2 c = search needs
 ends-of-requires : tie.Need-ends-of-requires
 ends-of-requires c κs = search needs
 
-mul-climb : tie.Need-mul-climb
-mul-climb c = search needs
+mul-leaving-arc : tie.Need-mul-leaving-arc
+mul-leaving-arc c = search needs
 
-element-copy-out-climb : tie.Need-element-copy-out-climb
-element-copy-out-climb c = search needs
+element-copy-out-leaving-arc : tie.Need-element-copy-out-leaving-arc
+element-copy-out-leaving-arc c = search needs
 
-climb-requires : tie.Need-climb-requires
-climb-requires c κs = search needs
-
-climb-back-requires : tie.Need-climb-back-requires
-climb-back-requires c κs = search needs
+leaving-arc-requires : tie.Need-leaving-arc-requires
+leaving-arc-requires c κs = search needs
 
 send-round-requires : tie.Need-send-round-requires
 send-round-requires c κs = search needs
@@ -57,10 +54,9 @@ pivot-spec =
     element-copy-out-ends-of
     element-copy-out-ends-of-2
     ends-of-requires
-    mul-climb
-    element-copy-out-climb
-    climb-requires
-    climb-back-requires
+    mul-leaving-arc
+    element-copy-out-leaving-arc
+    leaving-arc-requires
     send-round-requires
     opposite-requires
     element-write-state
