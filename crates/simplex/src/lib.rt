@@ -129,15 +129,29 @@ fn push_up(
     }
 }
 
-// A walk up the tree: the node where it ended, the least room on the way, and the node whose predecessor arc has it; ROOT if none has
-// less than the entering arc.
+// The ends of an arc, in the direction in which it is used.
+struct Ends {
+    from: u8,
+    to: u8,
+}
+
+// The ends, turned round where the arc is not used forward.
+fn ends_of(t: u8, h: u8, forward: bool) -> Ends {
+    if forward {
+        return Ends { from: t, to: h };
+    }
+    Ends { from: h, to: t }
+}
+
+// A walk up the tree: the node where it ended, the least room on the way, and the node whose predecessor arc has it; ROOT if the
+// entering arc itself has no more.
 struct Walked {
     meet: u8,
     leave: u8,
     amount: u32,
 }
 
-// From u up to the first node whose subtree has w.
+// From u up to the first node whose subtree has w, where `most` can enter.
 fn climb(
     tail: &[u8; 1024],
     room: &[u32; 1024],
@@ -170,20 +184,32 @@ fn climb(
     }
 }
 
-// From w up to `meet`; the arc nearest to the root leaves, so r <= amount.
+// What leaves the tree: the predecessor arc of `leave`, or the entering arc itself if that is ROOT. Of the entering arc, q is the end
+// below `leave` and p the other; the cycle is closed at `meet`.
+struct Leaving {
+    leave: u8,
+    q: u8,
+    p: u8,
+    meet: u8,
+    amount: u32,
+}
+
+// From w up to the same node. Of the arcs with the least room, the last on the way round leaves: so no pivots repeat.
 fn climb_back(
     tail: &[u8; 1024],
     room: &[u32; 1024],
     flow: &[u32; 1024],
     pred: &[usize; 256],
     parent: &[u8; 256],
+    u: u8,
     w: u8,
-    meet: u8,
-    most: u32,
-) -> Walked {
+    first: Walked,
+) -> Leaving {
+    let meet = first.meet;
     let mut x = w;
-    let mut leave = ROOT;
-    let mut amount = most;
+    let mut leave = first.leave;
+    let mut q = u;
+    let mut amount = first.amount;
     for _ in 0..65usize {
         if x == meet {
             break;
@@ -192,14 +218,34 @@ fn climb_back(
         if r <= amount {
             amount = r;
             leave = x;
+            q = w;
         }
         x = parent_of(parent, x);
     }
-    Walked {
-        meet,
+    let p = if q == w { u } else { w };
+    Leaving {
         leave,
+        q,
+        p,
+        meet,
         amount,
     }
+}
+
+// What leaves when `most` can enter from u to w.
+fn leaving_arc(
+    tail: &[u8; 1024],
+    room: &[u32; 1024],
+    flow: &[u32; 1024],
+    pred: &[usize; 256],
+    parent: &[u8; 256],
+    below: &[u64; 256],
+    u: u8,
+    w: u8,
+    most: u32,
+) -> Leaving {
+    let first = climb(tail, room, flow, pred, parent, below, u, w, most);
+    climb_back(tail, room, flow, pred, parent, u, w, first)
 }
 
 // Sends d round the cycle of the entering arc e.
@@ -317,6 +363,22 @@ fn shift_prices(price: &mut [u32; 256], part: u64, d: u32) {
     }
 }
 
+// The state of an arc that leaves the tree.
+fn state_of(flow: u32) -> u8 {
+    if flow == 0 {
+        return EMPTY;
+    }
+    FULL
+}
+
+// The other bound.
+fn opposite(state: u8) -> u8 {
+    if state == EMPTY {
+        return FULL;
+    }
+    EMPTY
+}
+
 // Brings e into the tree in the place of the predecessor arc of `leave`; q is the end of e that hangs below `leave`, p the other.
 fn exchange(
     tail: &[u8; 1024],
@@ -336,7 +398,7 @@ fn exchange(
     requires { ⌜ e < 1024 ⌝ }
 {
     let gone = arc_of(pred, leave);
-    state[gone] = if flow[gone] == 0 { EMPTY } else { FULL };
+    state[gone] = state_of(flow[gone]);
     state[e] = IN_TREE;
     let part = subtree_of(below, leave);
     change_below(parent, below, parent_of(parent, leave), meet, !part, 0);
@@ -347,7 +409,7 @@ fn exchange(
     shift_prices(price, part, d);
 }
 
-// Lets e enter: sends round its cycle what can go, and takes the first arc that is then full or empty out of the tree.
+// Lets e enter: sends round its cycle what can go, and takes an arc that is then full or empty out of the tree.
 fn pivot(
     tail: &[u8; 1024],
     head: &[u8; 1024],
@@ -363,62 +425,32 @@ fn pivot(
 )
     requires { ⌜ e < 1024 ⌝ }
 {
-    let forward = state[e] == EMPTY;
-    let u = if forward { tail[e] } else { head[e] };
-    let w = if forward { head[e] } else { tail[e] };
-    let most = room[e];
-    let first = climb(tail, room, flow, pred, parent, below, u, w, most);
-    let meet = first.meet;
-    let second = climb_back(tail, room, flow, pred, parent, w, meet, first.amount);
-    send_round(
+    let s = state[e];
+    let forward = s == EMPTY;
+    let ends = ends_of(tail[e], head[e], forward);
+    let u = ends.from;
+    let w = ends.to;
+    let l = leaving_arc(tail, room, flow, pred, parent, below, u, w, room[e]);
+    send_round(tail, flow, pred, parent, u, w, l.meet, e, forward, l.amount);
+    if l.leave == ROOT {
+        state[e] = opposite(s);
+        return;
+    }
+    exchange(
         tail,
+        state,
         flow,
-        pred,
+        cost,
         parent,
-        u,
-        w,
-        meet,
+        pred,
+        price,
+        below,
         e,
-        forward,
-        second.amount,
+        l.leave,
+        l.q,
+        l.p,
+        l.meet,
     );
-    if second.leave != ROOT {
-        exchange(
-            tail,
-            state,
-            flow,
-            cost,
-            parent,
-            pred,
-            price,
-            below,
-            e,
-            second.leave,
-            w,
-            u,
-            meet,
-        );
-        return;
-    }
-    if first.leave != ROOT {
-        exchange(
-            tail,
-            state,
-            flow,
-            cost,
-            parent,
-            pred,
-            price,
-            below,
-            e,
-            first.leave,
-            u,
-            w,
-            meet,
-        );
-        return;
-    }
-    state[e] = if forward { FULL } else { EMPTY };
 }
 
 // Whether the cost falls if a enters.
@@ -596,8 +628,9 @@ fn plant_node(
     requires { ⌜ (v < 64) × (a < 1024) ⌝ }
 {
     let into = is_negative(x);
-    tail[a] = if into { ROOT } else { v };
-    head[a] = if into { v } else { ROOT };
+    let ends = ends_of(v, ROOT, !into);
+    tail[a] = ends.from;
+    head[a] = ends.to;
     state[a] = IN_TREE;
     flow[a] = changed(0, x, !into);
     pred[v as usize] = a;

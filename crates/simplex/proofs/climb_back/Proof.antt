@@ -1,17 +1,16 @@
 use Prim.Native.Nat.{_-_, _≤_}
-use native.Mathlib.Omega.{arith}
 use borrow.Author.Needs.{needs}
 use Rattle.simplex.proofs.climb_back.Statement.{statement}
 use Rattle.simplex.proofs.climb_back.Tie as tie
 
 abbrev Inv-loop : tie.InvT-loop
-Inv-loop tail room flow pred parent w meet most x₀ leave₀ amount₀ counter₀ x leave amount counter = counter ≤ 65
+Inv-loop tail room flow pred parent u w first x₀ leave₀ q₀ amount₀ counter₀ x leave q amount counter = counter ≤ 65
 
 abbrev μ-loop : tie.MeasureT-loop
-μ-loop tail room flow pred parent w meet most x₀ leave₀ amount₀ counter₀ x leave amount counter = 65 - counter
+μ-loop tail room flow pred parent u w first x₀ leave₀ q₀ amount₀ counter₀ x leave q amount counter = 65 - counter
 
 loop-holds : tie.Need-loop-holds Inv-loop μ-loop
-loop-holds c = omega arith
+loop-holds c = search needs
 
 tree-room-requires : tie.Need-tree-room-requires Inv-loop μ-loop
 tree-room-requires c κs = search needs
@@ -23,10 +22,10 @@ add-counter : tie.Need-add-counter Inv-loop μ-loop
 add-counter c = search needs
 
 loop-less : tie.Need-loop-less Inv-loop μ-loop
-loop-less c = omega (arith, c .before .before .before .before .loop-test .taken)
+loop-less c = search needs
 
 loop-again : tie.Need-loop-again Inv-loop μ-loop
-loop-again c = omega (arith, c .before .before .before .before .loop-test .taken)
+loop-again c = search needs
 
 returns : tie.Need-returns Inv-loop μ-loop
 returns c = search needs
