@@ -310,7 +310,7 @@ class WayCalls(unittest.TestCase):
 
     def test_large(self):
         """28 entries: the first way is that of the first flow, and so line by line."""
-        rng, flows, found = random.Random(13), network_library.Desk(way_library.desk_library.load()), set()
+        rng, flows, found = random.Random(13), network_library.load(), set()
         for k in range(40):
             text = large(rng)
             book = book_reader.read(text)

@@ -31,11 +31,15 @@ def ways(book):
     return found
 
 
+def cheapest(found):
+    """Of ways with their costs those of the least cost, and that cost (0 where there are none)."""
+    least = min((c for c, w in found), default=0)
+    return [w for c, w in found if c == least], least
+
+
 def full_list(book):
-    """The least-cost ways in order, and their cost (0 where there are none)."""
-    everything = ways(book)
-    least = min((c for c, w in everything), default=0)
-    return [w for c, w in everything if c == least], least
+    """The least-cost ways in order, and their cost."""
+    return cheapest(ways(book))
 
 
 def listing(text):
@@ -83,5 +87,4 @@ class Reader(trial.Reader):
         self.refused, self.told, book = book_reader.refusal(text)
         self.n, self.m = 0, len(book.entries) if book else 0
         self.everything = ways(book) if book else []
-        self.cost = min((c for c, w in self.everything), default=0)
-        self._take([w for c, w in self.everything if c == self.cost], self.cost)
+        self._take(*cheapest(self.everything))
