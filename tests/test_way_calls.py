@@ -12,7 +12,7 @@ from desk_library import END, MORE, NONE, OK, numbers
 from test_books import EXAMPLE, made, sized
 from test_network_calls import CAP, Session, caps
 from test_way_trial import examples
-from way_books import HALVES, MOST, THOUSAND, damaged, large, named, refused, small
+from way_books import HALVES, MOST, THOUSAND, damaged, large, named, paired, refused, small
 
 ONE = EXAMPLE.replace(b"(players 2)", b"(players 1)")
 LATE = (b"1 0 96)", b"1 0 97)")
@@ -307,6 +307,17 @@ class WayCalls(unittest.TestCase):
         for more in (16, 17, 26): self.assertEqual([self.desk.count(pair(more), cap) for cap in (0, 1, 1000, CAP)], [(MORE, 0)] * 4)
         for length, (moves, entries) in HALVES.items(): self.assertEqual(len(way_trial.full_list(book_reader.read(made(4, 1000, moves, named(entries))))[0]), length)
         self.assertEqual([self.desk.count(MOST, cap) for cap in (CAP - 1, CAP)], [(MORE, 0), (OK, CAP)])
+
+    def test_paired(self):
+        """Up to 28 entries, all lines."""
+        rng, lengths = random.Random(14), {}
+        for k in range(60):
+            run = self.session(paired(rng), k)
+            run.walk(0.05, most=300)
+            run.counts()
+            lengths[len(run.reader.lines)] = lengths.get(len(run.reader.lines), 0) + 1
+            self.assertEqual(self.desk.listed(run.net), way_trial.listing(run.net))
+        self.assertTrue(lengths[0] > 2 and lengths[1] > 2 and sum(n for length, n in lengths.items() if length > 10) > 10, lengths)
 
     def test_large(self):
         """28 entries: the first way is that of the first flow, and so line by line."""

@@ -4,6 +4,10 @@ import re
 from test_books import EXAMPLE, made
 
 
+def named(entries):
+    return [(b"e%d" % j, *rest) for j, rest in enumerate(entries, 1)]
+
+
 def small(rng, most=7):
     """Up to 7 entries: entries that touch with and without a move, few costs so that many ways tie, in the order of time and not."""
     e = rng.choice([n for n in (0, 1, 2, 2, 3, 3, 4, 4, 4, 5, 5, 5, 6, 6, 7) if n <= most])
@@ -37,6 +41,17 @@ def large(rng, entries=28):
         lines.append((b"e%d" % (k + 1), rng.randint(1, instruments), start, start + 96 * rng.randint(1, 4) - rng.choice((0, 12))))
     if rng.random() < 0.5: rng.shuffle(lines)
     return made(rng.randint(4, 8), rng.randint(0, 9), moves, lines)
+
+
+def paired(rng):
+    """8 to 28 entries in pairs that overlap, for two players: so few ways that all can be tried."""
+    pairs, instruments = rng.choice((4, 5, 6, 7, 8, 9, 10, 14)), rng.randint(2, 5)
+    ticks, costs = rng.choice(([0, 24], [24, 48], [48], [0, 96], [0] * 9 + [97])), rng.choice(([1], [1, 2], [0, 1, 2, 3]))
+    moves = [(a, b, rng.choice(ticks), rng.choice(costs)) for a in range(1, instruments + 1) for b in range(1, instruments + 1) if a != b and rng.random() < 0.97]
+    entries, ends = [], rng.choice(([384], [336, 384], [384, 408], [384, 456], [384] * 9 + [480]))
+    for k in range(pairs):
+        entries += [(rng.randint(1, instruments), 480 * k + rng.choice((0, 0, 24)), 480 * k + rng.choice(ends)) for _ in range(2)]
+    return made(2, rng.choice((0, 3, 50)), moves, named(entries))
 
 
 def refused():
@@ -81,10 +96,6 @@ def damaged(rng):
             number = rng.choice(list(re.finditer(rb"\d+", book)) or [re.match(b"", book)])
             book = book[:number.start()] + rng.choice((b"0", b"1", b"8", b"9", b"16", b"17", b"1000000", b"1000001", b"9999999")) + book[number.end():]
     return book
-
-
-def named(entries):
-    return [(b"e%d" % j, *rest) for j, rest in enumerate(entries, 1)]
 
 
 # Books by the number of their cheapest ways, found by trial.
