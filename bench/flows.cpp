@@ -1,63 +1,7 @@
 // The flow engine beside LEMON's network simplex: first, next, count, hostile networks, stack. bench/run builds and runs it.
-#include "networks.h"
-#include <cstdio>
-#include <cstring>
-#include <functional>
+#include "measure.h"
 #include <lemon/network_simplex.h>
 #include <lemon/smart_graph.h>
-#include <pthread.h>
-#include <sys/mman.h>
-#include <time.h>
-
-extern "C" {
-typedef struct { uint32_t code, line; int64_t value; } desk_reply;
-desk_reply desk_network_first(const uint8_t *balances, size_t balances_len, const uint8_t *arcs, size_t arcs_len, uint8_t *flows, size_t flows_len);
-desk_reply desk_network_first_priced(const uint8_t *balances, size_t balances_len, const uint8_t *arcs, size_t arcs_len, uint8_t *flows, size_t flows_len, uint8_t *prices, size_t prices_len);
-desk_reply desk_network_next(const uint8_t *balances, size_t balances_len, const uint8_t *arcs, size_t arcs_len, const uint8_t *given, size_t given_len, uint8_t *flows, size_t flows_len);
-desk_reply desk_network_count(const uint8_t *balances, size_t balances_len, const uint8_t *arcs, size_t arcs_len, uint16_t cap);
-}
-enum { OK = 0, NONE = 100, END = 101, MORE = 102 };
-
-static double now() {                      // microseconds of this thread
-    timespec t;
-    clock_gettime(CLOCK_THREAD_CPUTIME_ID, &t);
-    return double(t.tv_sec) * 1e6 + double(t.tv_nsec) / 1e3;
-}
-
-static double median(std::vector<double> x) {
-    if (x.empty()) return 0;
-    std::sort(x.begin(), x.end());
-    return x[x.size() / 2];
-}
-
-static double largest(const std::vector<double> &x) { return x.empty() ? 0 : *std::max_element(x.begin(), x.end()); }
-
-// The median time of a call: at least three calls, more while they are short.
-template <class F> static double time_of(F call) {
-    std::vector<double> times;
-    double start = now();
-    do {
-        double t = now();
-        call();
-        times.push_back(now() - t);
-    } while (times.size() < 3 || (times.size() < 31 && now() - start < 20000));
-    return median(times);
-}
-
-// A network as C lends it: numbers of four bytes, lowest first.
-struct Lent {
-    std::vector<uint8_t> balances, arcs, flows, prices;
-
-    static void put(std::vector<uint8_t> &to, int x) { for (int k = 0; k < 4; k++) to.push_back(uint8_t(uint32_t(x) >> 8 * k)); }
-    explicit Lent(const Network &n) : flows(4 * n.arcs.size()), prices(4 * n.balances.size()) {
-        for (int b : n.balances) put(balances, b);
-        for (const Arc &a : n.arcs) for (int x : {a.tail, a.head, a.low, a.up, a.cost}) put(arcs, x);
-    }
-    desk_reply first() { return desk_network_first(balances.data(), balances.size(), arcs.data(), arcs.size(), flows.data(), flows.size()); }
-    desk_reply first_priced() { return desk_network_first_priced(balances.data(), balances.size(), arcs.data(), arcs.size(), flows.data(), flows.size(), prices.data(), prices.size()); }
-    desk_reply next(std::vector<uint8_t> &to) { return desk_network_next(balances.data(), balances.size(), arcs.data(), arcs.size(), flows.data(), flows.size(), to.data(), to.size()); }
-    desk_reply count(uint16_t cap) { return desk_network_count(balances.data(), balances.size(), arcs.data(), arcs.size(), cap); }
-};
 
 // LEMON's answer: whether there is a flow, and the least cost.
 struct Answer { bool flow; long long cost; };
@@ -204,29 +148,6 @@ static void hostile(const std::vector<Network> &set) {
     }
 }
 
-// ---- stack: the call runs on a thread whose stack was painted; the bytes no longer painted, less those of a thread that does nothing ----
-
-static const size_t STACK = 8 << 20;
-
-static void *on_thread(void *call) {
-    (*static_cast<std::function<void()> *>(call))();
-    return nullptr;
-}
-
-static size_t touched(std::function<void()> call) {
-    uint8_t *stack = static_cast<uint8_t *>(mmap(nullptr, STACK, PROT_READ | PROT_WRITE, MAP_PRIVATE | MAP_ANONYMOUS, -1, 0));
-    if (stack == MAP_FAILED) abort();
-    memset(stack, 0xa5, STACK);
-    pthread_attr_t attributes;
-    pthread_t thread;
-    pthread_attr_init(&attributes);
-    if (pthread_attr_setstack(&attributes, stack, STACK) || pthread_create(&thread, &attributes, on_thread, &call) || pthread_join(thread, nullptr)) abort();
-    size_t low = 0;
-    while (low < STACK && stack[low] == 0xa5) low++;
-    munmap(stack, STACK);
-    return STACK - low;
-}
-
 static void stack(const std::vector<Network> &set) {
     size_t use[4] = {0, 0, 0, 0}, empty = touched([] {});
     for (const Network &n : set) {
@@ -261,7 +182,7 @@ int main() {
         few.back().name = "random, few costs, " + std::to_string(seed);
     }
     for (uint64_t seed = 1; seed <= 100; seed++) tied.push_back(network_of(random_book(2000 + seed, 28, 1)));
-    level.push_back(level_book(28, 8));
+    level.push_back(level_network(28, 8));
 
     printf("Medians, in microseconds. LEMON: NetworkSimplex of a graph that is there already, maps and reading the flows included.\nfirst\n");
     first("28-entry books", dense);

@@ -77,6 +77,21 @@ inline Book random_book(uint64_t seed, int bars, int dearest = 3) {
     return b;
 }
 
+// The book as bytes.
+inline std::string text_of(const Book &b) {
+    auto form = [](const std::string &head, const std::vector<int> &numbers) {
+        std::string line = head;
+        for (int x : numbers) line += " " + std::to_string(x);
+        return line + ")\n";
+    };
+    std::string text = "(book\n" + form("(players", {b.players}) + form("(fee", {b.fee});
+    for (int i = 1; i <= 16; i++)
+        for (int j = 1; j <= 16; j++)
+            if (b.ticks[i][j] >= 0 && i != j) text += form("(move", {i, j, b.ticks[i][j], b.costs[i][j]});
+    for (size_t k = 0; k < b.entries.size(); k++) text += form("(entry (name e" + std::to_string(k + 1) + ")", {b.entries[k].instrument, b.entries[k].start, b.entries[k].finish});
+    return text + ")\n";
+}
+
 // Document 01, "The book's network".
 inline Network network_of(const Book &b) {
     const int e = int(b.entries.size()), last = 2 * e + 1;
@@ -257,14 +272,18 @@ inline Network narrowly_none(Network n, uint64_t seed) {
 }
 
 // The book that lists most: every entry may follow every earlier one at one cost.
-inline Network level_book(int entries, int players) {
+inline Book level_book(int entries, int players) {
     Book b;
     b.players = players;
     b.fee = 1;
     for (auto &row : b.ticks) std::fill(std::begin(row), std::end(row), 0);
     for (auto &row : b.costs) std::fill(std::begin(row), std::end(row), 1);
     for (int k = 0; k < entries; k++) b.entries.push_back({k % 16 + 1, 10 * k, 10 * k + 10});
-    Network n = network_of(b);
+    return b;
+}
+
+inline Network level_network(int entries, int players) {
+    Network n = network_of(level_book(entries, players));
     n.name = "level book";
     return n;
 }
@@ -304,7 +323,7 @@ inline std::vector<Network> hostile_networks() {
         }
     for (bool r : {false, true}) all.push_back(diamonds(r));
     for (uint64_t seed : {1, 2, 3}) all.push_back(rings(seed));
-    all.push_back(level_book(28, 8));
+    all.push_back(level_network(28, 8));
     for (bool f : {false, true}) all.push_back(long_lists(f));
     for (uint64_t seed : {1, 2, 3, 4, 5}) {
         all.push_back(random_network(1000 + seed));

@@ -1,63 +1,25 @@
-"""The network entries of the C surface, by ctypes. Every list stands between guard bytes, at no multiple of four, and is looked at after the call."""
+"""The network entries of the C surface."""
 import ctypes
-import os
-import pathlib
-import struct
-import subprocess
-import tempfile
 
-ROOT = pathlib.Path(__file__).parent.parent
-OK, NONE, END, MORE = 0, 100, 101, 102
-
-
-class Reply(ctypes.Structure):
-    _fields_ = [("code", ctypes.c_uint32), ("line", ctypes.c_uint32), ("value", ctypes.c_int64)]
-
-
-def numbers(values):
-    return struct.pack(f"<{len(values)}i", *values)
+import desk_library
+from desk_library import END, MORE, NONE, OK, Entry, Reply, numbers
 
 
 def network(balances, arcs):
     return numbers(balances), numbers([x for a in arcs for x in a])
 
 
-class List:
-    """A list of bytes as C sees it: a pointer and a length, bytes of its own around it. An empty one is (NULL, 0)."""
-    GUARD = 13
-
-    def __init__(self, data):
-        self.data = data
-        self.whole = b"\xa5" * self.GUARD + data + b"\x5a" * self.GUARD
-        self.memory = ctypes.create_string_buffer(self.whole, len(self.whole))
-        self.pointer = ctypes.addressof(self.memory) + self.GUARD if data else None
-
-    def after(self):
-        """What the list holds, if the bytes around it are as they were."""
-        whole = self.memory.raw
-        assert whole[:self.GUARD] == self.whole[:self.GUARD] and whole[self.GUARD + len(self.data):] == self.whole[self.GUARD + len(self.data):], "bytes around a list changed"
-        return whole[self.GUARD:self.GUARD + len(self.data)]
-
-    def kept(self):
-        assert self.memory.raw == self.whole, "a list that is only read changed"
-
-
 class Desk:
     """Each call answers (code, value) and the lent lists after it."""
 
     def __init__(self, library):
-        self._entries = {}
-        for name, lists, more in [("first", 3, []), ("first_priced", 4, []), ("next", 4, []), ("count", 2, [ctypes.c_uint16])]:
-            entry = getattr(library, "desk_network_" + name)
-            entry.restype, entry.argtypes = Reply, [ctypes.c_void_p, ctypes.c_size_t] * lists + more
-            self._entries[name] = entry
+        self._entries = {name: Entry(library, "desk_network_" + name, Reply, lists, *more)
+                         for name, lists, more in [("first", 3, []), ("first_priced", 4, []), ("next", 4, []), ("count", 2, [ctypes.c_uint16])]}
 
     def _call(self, name, read, lent, *more):
-        read, lent = [List(d) for d in read], [List(d) for d in lent]
-        reply = self._entries[name](*(x for l in read + lent for x in (l.pointer, len(l.data))), *more)
-        for l in read: l.kept()
+        reply, after = self._entries[name](read, lent, *more)
         assert reply.line == 0, "a network call told a line"
-        return (reply.code, reply.value), [l.after() for l in lent]
+        return (reply.code, reply.value), after
 
     def first(self, network, flows):
         return self._call("first", network, [flows])
@@ -72,17 +34,5 @@ class Desk:
         return self._call("count", network, [], cap)[0]
 
 
-def there():
-    return "DESK_ARCHIVE" in os.environ or (ROOT / "crates/desk").exists()
-
-
 def load():
-    """Builds the archive and loads it; DESK_ARCHIVE names another one to try instead."""
-    archive = os.environ.get("DESK_ARCHIVE")
-    if not archive:
-        subprocess.run(["rt", "staticlib", "desk"], cwd=ROOT, check=True, stdout=subprocess.DEVNULL)
-        archive = ROOT / "target/staticlib/libdesk.a"
-    with tempfile.TemporaryDirectory() as dir:
-        shared = dir + "/library.so"
-        subprocess.run(["cc", "-shared", "-o", shared, "-Wl,--whole-archive", archive, "-Wl,--no-whole-archive"], check=True)
-        return Desk(ctypes.CDLL(shared))
+    return Desk(desk_library.load())

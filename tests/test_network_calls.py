@@ -19,17 +19,20 @@ def caps(length):
 class Session:
     """A run of calls on one network, each answered by the library and by the reader."""
 
-    def __init__(self, test, desk, rng, net):
+    def __init__(self, test, desk, rng, net, reader=None):
         self.test, self.desk, self.rng, self.net = test, desk, rng, net
-        self.reader = trial.Reader(*net)
+        self.reader = reader or trial.Reader(*net)
         self.written = None                # the line last written, as bytes
         self.calls = {}
 
     def same(self, what, got, wanted):
         self.calls[wanted[0][0]] = self.calls.get(wanted[0][0], 0) + 1
         if got != wanted:
-            self.test.fail("%s of %s: %r, and not %r" % (what, [struct.unpack(f"<{len(x) // 4}i", x[:len(x) // 4 * 4]) for x in self.net], got, wanted))
+            self.test.fail("%s of %s: %r, and not %r" % (what, self.shown(), got, wanted))
         if wanted[0][0] == OK: self.written = wanted[1][0][:4 * self.reader.m]
+
+    def shown(self):
+        return [struct.unpack(f"<{len(x) // 4}i", x[:len(x) // 4 * 4]) for x in self.net]
 
     def lent(self, places):
         """A list to lend, as long as it must be or longer."""
@@ -55,7 +58,7 @@ class Session:
     def counts(self):
         for cap in caps(len(self.reader.lines)):
             got, wanted = self.desk.count(self.net, cap), self.reader.count(cap)
-            if got != wanted: self.test.fail("count of %r to %d: %r, and not %r" % (self.net, cap, got, wanted))
+            if got != wanted: self.test.fail("count of %s to %d: %r, and not %r" % (self.shown(), cap, got, wanted))
 
     def short(self, places):
         """A list that is too short, or of a length that is no multiple of four."""

@@ -71,20 +71,25 @@ def is_first(balances, arcs, f):
 class Reader:
     """Document 01's reader with a finger on the full list of a network. Lists are bytes; an answer is (code, value) and the lent lists after the call."""
     OK, NONE, END, MORE = 0, 100, 101, 102
+    SHORT, WRONG = 7, 8                    # the questions about a lent list and about a given one
 
     def __init__(self, balances, arcs):
-        self.finger = None                 # on no line
         self.refused = refusal(balances, arcs)
-        self.lines, self.place, self.cost, self.prices = [], {}, 0, []
+        self._take([], 0)
         if not self.refused:
             b = self._numbers(balances)
             x = self._numbers(arcs)
             rows = [x[i:i + 5] for i in range(0, len(x), 5)]
             self.n, self.m = len(b), len(rows)
-            flows, self.cost = full_list(b, rows)
-            self.lines = [self._bytes(f) for f in flows]
-            self.place = {line: i for i, line in enumerate(self.lines)}
+            flows, cost = full_list(b, rows)
+            self._take(flows, cost)
             if flows: self.prices = self._bytes(prices(b, rows, flows[0]))
+
+    def _take(self, lines, cost):
+        """The finger on no line of the list."""
+        self.finger, self.cost, self.prices = None, cost, []
+        self.lines = [self._bytes(l) for l in lines]
+        self.place = {line: i for i, line in enumerate(self.lines)}
 
     @staticmethod
     def _numbers(data):
@@ -99,9 +104,9 @@ class Reader:
         return len(lent) % 4 != 0 or len(lent) < 4 * places
 
     def _question(self, flows, prices=None):
-        """The first question, 1 to 7, that a call fails, or 0."""
+        """The first question, up to that about the lent lists, that a call fails, or 0."""
         if self.refused: return self.refused
-        return 7 if self._short(flows, self.m) or prices is not None and self._short(prices, self.n) else 0
+        return self.SHORT if self._short(flows, self.m) or prices is not None and self._short(prices, self.n) else 0
 
     def _line(self):
         return self.lines[self.finger]
@@ -118,7 +123,7 @@ class Reader:
     def next(self, given, flows):
         question = self._question(flows)
         if question: return (question, 0), [flows]
-        if given not in self.place: return (8, 0), [flows]
+        if given not in self.place: return (self.WRONG, 0), [flows]
         assert self.finger is not None and given == self._line(), "the line last written, or a list that is not on the full list"
         if self.finger + 1 == len(self.lines): return (self.END, 0), [flows]
         self.finger += 1

@@ -1,0 +1,345 @@
+"""The book entries of the C surface beside the reader of way_trial.py: document 01's books, the stored examples, thousands of small books, the limits. Deterministic."""
+import random
+import struct
+import unittest
+
+import book_reader
+import network_library
+import trial
+import way_library
+import way_trial
+from desk_library import END, MORE, NONE, OK, numbers
+from test_books import EXAMPLE, made, sized
+from test_network_calls import CAP, Session, caps
+from test_way_trial import examples
+from way_books import HALVES, MOST, THOUSAND, damaged, large, named, paired, refused, small
+
+ONE = EXAMPLE.replace(b"(players 2)", b"(players 1)")
+LATE = (b"1 0 96)", b"1 0 97)")
+DOCUMENT = [                           # name, book, cost, ways
+    ("the book", EXAMPLE, 12, [(0, 0, 1), (0, 1, 2)]),
+    ("one player", ONE, 12, [(0, 1, 2)]),
+    ("one player, snare to 97", ONE.replace(*LATE), 0, []),
+    ("two players, snare to 97", EXAMPLE.replace(*LATE), 12, [(0, 0, 1)]),
+    ("no entries", made(), 0, [()]),
+]
+REFUSED = list(refused())
+
+
+class WaySession(Session):
+    """A run of calls on one book, each answered by the library and by the reader."""
+
+    def __init__(self, test, desk, rng, book):
+        super().__init__(test, desk, rng, book, way_trial.Reader(book))
+        self.dearer = [numbers(w) for c, w in self.reader.everything if c != self.reader.cost]
+
+    def shown(self):
+        return self.net.decode()
+
+    def either_first(self):
+        self.first()
+
+    def wrong(self):
+        """A list to give that is not on the full list: a way that costs more, or no way."""
+        return self.rng.choice(self.dearer) if self.dearer and self.rng.random() < 0.4 else super().wrong()
+
+    def refused(self):
+        """A call that fails a question, of this book or of another. The finger stays."""
+        e, kind = self.reader.m, self.rng.randrange(6)
+        if kind == 0: self.first(self.short(e))
+        elif kind == 1: self.next(self.wrong())
+        elif kind == 2: self.next(self.wrong(), self.short(e))
+        elif kind == 3 and self.written is not None: self.next(None, self.short(e))
+        else:
+            question, book = self.rng.choice(REFUSED)
+            lent = self.lent(e)
+            got = self.desk.first(book, lent) if kind == 4 else self.desk.next(book, self.written or b"", lent)
+            if got != ((question, 0), [lent]): self.test.fail("a book that fails %d: %r" % (question, got))
+            self.calls[question] = self.calls.get(question, 0) + 1
+
+
+class WayCalls(unittest.TestCase):
+    @classmethod
+    def setUpClass(cls):
+        cls.desk = way_library.load()
+
+    def session(self, book, seed):
+        return WaySession(self, self.desk, random.Random(seed), book)
+
+    def walked(self, book, length):
+        """Every line of the list, by first and next, with the cost; at most so many."""
+        lent = b"\x5c" * 120
+        (code, cost), (after,) = self.desk.first(book, lent)
+        lines = []
+        while code == OK and len(lines) < length:
+            e = len(book_reader.read(book).entries)
+            lines.append(struct.unpack(f"<{e}i", after[:4 * e]))
+            self.assertEqual(after[4 * e:], lent[4 * e:])
+            (code, value), (after,) = self.desk.next(book, after[:4 * e], lent)
+            self.assertEqual(value, cost if code == OK else 0)
+        return code, cost, lines
+
+    def listed(self, book, listing):
+        """The listing, into lists that are shorter, as long and longer."""
+        size = len(listing)
+        for room in sorted({0, 1, size // 2, size - 1}):
+            text = bytes((7 * k + 1) % 256 for k in range(room))
+            self.assertEqual(self.desk.listing(book, text), (size, text))
+        for room in (size, size + 1, size + 30):
+            text = bytes((7 * k + 1) % 256 for k in range(room))
+            self.assertEqual(self.desk.listing(book, text), (size, listing + text[size:]))
+
+    def test_document_01(self):
+        for name, book, cost, ways in DOCUMENT:
+            with self.subTest(name):
+                e = book.count(b"(entry")
+                for more in (0, 4, 40):
+                    lent = bytes(range(100, 100 + 4 * e + more))
+                    for given, line in zip([None, *ways], [*ways, None]):
+                        wanted = lent if line is None else numbers(line) + lent[4 * e:]
+                        if given is not None: self.assertEqual(self.desk.next(book, numbers(given), lent), ((END, 0) if line is None else (OK, cost), [wanted]))
+                        else: self.assertEqual(self.desk.first(book, lent), ((NONE, 0) if line is None else (OK, cost), [wanted]))
+                if not ways: self.assertEqual(self.desk.next(book, numbers([0] * e), lent), ((18, 0), [lent]))
+                for cap in caps(len(ways)): self.assertEqual(self.desk.count(book, cap), (OK, len(ways)) if len(ways) <= cap else (MORE, 0))
+                text = "".join("(way%s)\n" % "".join(" %d" % i for i in w) for w in ways)
+                self.listed(book, ("(cost %d)\n%s(end %d)\n" % (cost, text, len(ways)) if ways else "(none)\n").encode())
+                run = self.session(book, name)
+                run.walk(0.4)
+                run.counts()
+
+    def test_examples(self):
+        """Every stored listing: as desk_listing writes it, and as first, next and count give it."""
+        for name, book, listing in examples():
+            with self.subTest(name):
+                self.listed(book, listing)
+                rows = listing.decode().split("\n")
+                if rows[0].startswith("(refused"):
+                    self.assertEqual(self.desk.count(book, 1), (int(rows[0][9:-1]), 0))
+                    continue
+                code, cost, lines = self.walked(book, 1000)
+                self.assertEqual(["(way%s)" % "".join(" %d" % i for i in w) for w in lines], rows[1:-2])
+                if rows[0] == "(none)": self.assertEqual((code, cost, self.desk.count(book, 0)), (NONE, 0, (OK, 0)))
+                else:
+                    self.assertEqual(rows[0], "(cost %d)" % cost)
+                    more = rows[-2] == "(more 1000)"
+                    self.assertEqual((code, self.desk.count(book, 1000)), (OK, (MORE, 0)) if more else (END, (OK, len(lines))))
+
+    def test_small(self):
+        rng, seen, calls = random.Random(20261115), {}, {}
+        for k in range(4000):
+            book = small(rng)
+            run = self.session(book, k)
+            run.walk(0.15, 0.02 if k % 4 == 0 else 0.0, most=100)
+            run.counts()
+            self.assertEqual(run.reader.refused, 0)
+            listing = way_trial.listing(book)
+            text = run.rng.randbytes(len(listing) + run.rng.randint(0, 5))
+            self.assertEqual(self.desk.listing(book, text), (len(listing), listing + text[len(listing):]), book)
+            length = len(run.reader.lines)
+            seen[min(length, 20)] = seen.get(min(length, 20), 0) + 1
+            for code, times in run.calls.items(): calls[code] = calls.get(code, 0) + times
+        # the books are of all kinds, without a line, with one, few and many; and so are the calls
+        self.assertTrue(all(seen[length] > 100 for length in (0, 1, 2, 3, 4, 20)), seen)
+        self.assertTrue(all(calls[code] > 100 for code in (OK, NONE, END, *range(11, 19))), calls)
+
+    def test_any_line_given(self):
+        """Next gives the line after any line, whatever was written last."""
+        rng = random.Random(7)
+        for k in range(400):
+            run = self.session(small(rng), k)
+            for _ in range(min(5, len(run.reader.lines))):
+                run.reader.finger = rng.randrange(len(run.reader.lines))
+                run.next(run.reader.lines[run.reader.finger])
+
+    def test_all_lists_given(self):
+        """Of all lists of E numbers from 0 to E just the least-cost ways are accepted."""
+        rng = random.Random(11)
+        for k in range(60):
+            run = self.session(small(rng, 3), k)
+            e = run.reader.m
+            for place in range((e + 1) ** e):
+                given = numbers([place // (e + 1) ** k % (e + 1) for k in range(e)])
+                self.assertEqual(self.desk.next(run.net, given, numbers([7] * e))[0][0] == 18, given not in run.reader.place)
+
+    def test_many_refused(self):
+        """Runs in which most calls are refused."""
+        rng = random.Random(8)
+        for k in range(200):
+            run = self.session(small(rng), k)
+            run.walk(0.8, 0.1, most=12)
+
+    def refused_book(self, book, question=None):
+        """Every entry refuses with the question, whatever is lent and given, tells a line that fails it, and changes nothing."""
+        wanted, lines, _ = book_reader.refusal(book)
+        if question is not None: self.assertEqual(wanted, question)
+        full = bytes(range(120))
+        for lent in (full, b"", b"\x33"):
+            for got in (self.desk.first(book, lent), self.desk.next(book, numbers([0] * 3), lent), self.desk.next(book, b"\x33" * 5, lent), self.desk.next(book, b"", lent)):
+                self.assertEqual(got, ((wanted, 0), [lent]), book)
+                self.assertIn(self.desk.line, lines, book)
+        for cap in (0, 1, CAP):
+            self.assertEqual(self.desk.count(book, cap), (wanted, 0), book)
+            self.assertIn(self.desk.line, lines, book)
+        self.listed(book, b"(refused %d)\n" % wanted)
+        for entry in (0, 1, 29, 2**32 - 1):
+            self.assertEqual((self.desk.name(book, entry), self.desk.name_refusal(book, entry)), ((0, 0), wanted), book)
+
+    def test_refused_books(self):
+        for question, book in REFUSED:
+            with self.subTest(question=question, book=book[:60]): self.refused_book(book, question)
+
+    def test_damaged_books(self):
+        """Damaged books: refused as the reader refuses, listed as the trial lists."""
+        rng, seen = random.Random(9), {}
+        for _ in range(1500):
+            book = damaged(rng)
+            question = book_reader.refusal(book)[0]
+            seen[question] = seen.get(question, 0) + 1
+            if question: self.refused_book(book)
+            else: self.assertEqual(self.desk.listed(book), way_trial.listing(book), book)
+        self.assertTrue(all(seen[q] > 20 for q in (0, 12, 13, 14, 15)), seen)
+
+    def test_order_of_questions(self):
+        """Each fault with each other: the lowest decides."""
+        for mask in range(16):
+            on = [q for k, q in enumerate((13, 14, 15, 16)) if mask >> k & 1]
+            moves = [(1, 2, 0, 0), (3, 3, 0, 0) if 14 in on else (2, 1, 0, 0)]
+            entries = [(b"a", 1, 0, 1)] * (27 if 16 in on else 1) + [(b"b", 1, 5, 5 if 15 in on else 6), (b"c", 1, 0, 1)]
+            for broken in (False, True):
+                for long in (False, True):
+                    book = made(9 if 13 in on else 3, 6, moves, entries)
+                    if broken: book = book[:-1]
+                    if long: book += b" " * 16384
+                    question = 11 if long else 12 if broken else on[0] if on else 0
+                    if question: self.refused_book(book, question)
+                    else: self.assertEqual(self.desk.count(book, CAP), (OK, len(way_trial.full_list(book_reader.read(book))[0])))
+
+    def test_before_the_search(self):
+        """A book without a way: a short list is 17, a list given is 18, and 17 comes first."""
+        book = made(1, 0, [], [(b"a", 1, 0, 2), (b"b", 1, 1, 3)])
+        lent = b"\x55" * 8
+        for bad in (b"", lent[:4], lent[:7], b"\x55" * 9, b"\x55" * 10, b"\x55" * 11):
+            self.assertEqual(self.desk.first(book, bad), ((17, 0), [bad]))
+            for given in (b"", lent, numbers([0, 0]), numbers([0, 1])): self.assertEqual(self.desk.next(book, given, bad), ((17, 0), [bad]))
+        self.assertEqual(self.desk.first(book, lent), ((NONE, 0), [lent]))
+        for given in (b"", lent, numbers([0, 0]), numbers([0, 1]), numbers([0]), numbers([0, 0, 0]), b"\0"): self.assertEqual(self.desk.next(book, given, lent), ((18, 0), [lent]))
+        self.assertEqual([self.desk.count(book, cap) for cap in (0, CAP)], [(OK, 0)] * 2)
+        self.listed(book, b"(none)\n")
+
+    def test_no_entries(self):
+        """Empty lists are (NULL, 0)."""
+        book = made(8, 1000000, [(1, 2, 0, 0)])
+        self.assertEqual(self.desk.first(book, b""), ((OK, 0), [b""]))
+        self.assertEqual(self.desk.next(book, b"", b""), ((END, 0), [b""]))
+        for lent in (b"\x55", b"\x55" * 2, b"\x55" * 3, b"\x55" * 5):
+            self.assertEqual(self.desk.first(book, lent), ((17, 0), [lent]))
+            self.assertEqual(self.desk.next(book, b"", lent), ((17, 0), [lent]))
+        self.assertEqual(self.desk.first(book, b"\x55" * 8), ((OK, 0), [b"\x55" * 8]))
+        for given in (b"\0", b"\0" * 4): self.assertEqual(self.desk.next(book, given, b"\x55" * 4), ((18, 0), [b"\x55" * 4]))
+        self.assertEqual([self.desk.count(book, cap) for cap in (0, 1, CAP)], [(MORE, 0), (OK, 1), (OK, 1)])
+        self.assertEqual((self.desk.name(book, 0), self.desk.name_refusal(book, 0), self.desk.name_refusal(book, 1)), ((0, 0), 19, 19))
+
+    def names(self, book, entries):
+        for entry in entries:
+            question, (start, end) = book_reader.name(book, entry)
+            self.assertEqual(self.desk.name(book, entry), (start, end - start), book)
+            self.assertEqual(self.desk.name_refusal(book, entry), question, book)
+
+    def test_names(self):
+        self.assertEqual([self.desk.name(EXAMPLE, j) for j in (1, 2, 3)], [(EXAMPLE.index(w), len(w) - 1) for w in (b"snare)", b"xylo)", b"snare2)")])
+        self.assertEqual([self.desk.name_refusal(EXAMPLE, j) for j in (0, 1, 2, 3, 4)], [19, 0, 0, 0, 19])
+        twice = made(entries=[(b"drum", 1, 0, 1), (b"drum", 2, 3, 4), (b"a", 1, 0, 1), (b"0123456789abcdef", 1, 0, 1)])
+        self.assertNotEqual(self.desk.name(twice, 1), self.desk.name(twice, 2))
+        rng = random.Random(12)
+        for book in [EXAMPLE, twice, made(), *(small(rng) for _ in range(300)), *(large(rng) for _ in range(10))]:
+            self.names(book, (0, 1, 2, 3, 4, 5, 7, 8, 27, 28, 29, 256, 257, 2**16 + 1, 2**31, 2**31 + 1, 2**32 - 1))
+
+    def test_limits(self):
+        """28 and 29 entries, 16,384 and 16,385 bytes, 1 to 8 players, 1 to 16 instruments, the largest numbers."""
+        row = lambda count: [(b"e%d" % j, 1, j, j + 1) for j in range(count)]
+        for players in range(1, 9):
+            book = made(players, 1000000, [], row(28))
+            self.assertEqual(self.walked(book, 9), (END, 1000000, [tuple(range(28))]))
+            self.assertEqual(self.desk.count(book, 1), (OK, 1))
+            self.refused_book(made(players, 1000000, [], row(29)), 16)
+        for size, question in ((16384, 14), (16385, 11)):
+            book = sized(size)
+            self.assertEqual(len(book), size)
+            self.refused_book(book, question)
+        entry = b"(entry (name a) 1 0 1)\n"
+        few = made()[:-2]
+        pad = (16384 - len(few) - 2) % len(entry)
+        longest = few + entry * ((16384 - len(few) - 2) // len(entry) - 1) + entry.replace(b"(name a) 1 0 1", b"(name a" + b"b" * min(pad, 15) + b") 1 0 1" + b"0" * max(0, pad - 15)) + b")\n"
+        self.assertEqual(len(longest), 16384)
+        self.refused_book(longest, 16)
+        # eight at once, and a ninth
+        crowd = [(b"c%d" % j, 1 + j, 0, 1) for j in range(9)]
+        self.assertEqual(self.walked(made(8, 1000000, [], crowd[:8]), 9), (END, 8000000, [(0,) * 8]))
+        self.assertEqual(self.walked(made(8, 1000000, [], crowd), 9), (NONE, 0, []))
+        # the dearest: 28 entries, 27 joins at 1,000,000 each
+        dear = made(1, 1000000, [(1, 16, 0, 1000000), (16, 1, 0, 1000000)], [(b"d", 16 if j % 2 else 1, j, j + 1) for j in range(28)])
+        self.assertEqual(self.walked(dear, 9), (END, 28000000, [tuple(range(28))]))
+        # ticks to the limit
+        for ticks, ways in ((999998, [(0, 1)]), (999999, [])):
+            self.assertEqual(self.walked(made(1, 0, [(1, 2, ticks, 0)], [(b"a", 1, 0, 1), (b"b", 2, 999999, 1000000)]), 9), (END if ways else NONE, 0, ways))
+        far = made(2, 1, [(1, 2, 1000000, 0)], [(b"a", 1, 0, 1000000), (b"b", 2, 999999, 1000000)])
+        self.assertEqual(self.walked(far, 9), (END, 2, [(0, 0)]))
+        # all 240 moves
+        every = [(a, b, 0, a) for a in range(1, 17) for b in range(1, 17) if a != b]
+        self.assertEqual(self.walked(made(1, 0, every, [(b"x", 16, 5, 6), (b"y", 3, 4, 5), (b"z", 9, 6, 7)]), 9), (END, 19, [(2, 0, 1)]))
+
+    def test_thousand(self):
+        """999, 1,000 and 1,001 ways, and how the listing ends."""
+        for length, book in THOUSAND.items():
+            lines, cost = way_trial.full_list(book_reader.read(book))
+            self.assertEqual(len(lines), length)
+            listing = way_trial.listing(book)
+            self.assertEqual(listing.split(b"\n")[-2], b"(more 1000)" if length > 1000 else b"(end %d)" % length)
+            self.listed(book, listing)
+            self.assertEqual(self.walked(book, 2000), (END, cost, lines))
+            self.assertEqual([self.desk.count(book, cap) for cap in (length - 1, length)], [(MORE, 0), (OK, length)])
+
+    def test_counts(self):
+        """Two players are both needed at the start, and each later entry may go to either: twice as many ways for each."""
+        pair = lambda more: made(2, 5, [], [(b"a", 1, 0, 1), (b"b", 1, 0, 1)] + [(b"c", 1, j, j + 1) for j in range(1, more + 1)])
+        for more in (0, 1, 9, 10, 15):
+            self.assertEqual([self.desk.count(pair(more), cap) for cap in (2**more - 1, 2**more, CAP)], [(MORE, 0), (OK, 2**more), (OK, 2**more)])
+        for more in (16, 17, 26): self.assertEqual([self.desk.count(pair(more), cap) for cap in (0, 1, 1000, CAP)], [(MORE, 0)] * 4)
+        for length, (moves, entries) in HALVES.items(): self.assertEqual(len(way_trial.full_list(book_reader.read(made(4, 1000, moves, named(entries))))[0]), length)
+        self.assertEqual([self.desk.count(MOST, cap) for cap in (CAP - 1, CAP)], [(MORE, 0), (OK, CAP)])
+
+    def test_paired(self):
+        """Up to 28 entries, all lines."""
+        rng, lengths = random.Random(14), {}
+        for k in range(60):
+            run = self.session(paired(rng), k)
+            run.walk(0.05, most=300)
+            run.counts()
+            lengths[len(run.reader.lines)] = lengths.get(len(run.reader.lines), 0) + 1
+            self.assertEqual(self.desk.listed(run.net), way_trial.listing(run.net))
+        self.assertTrue(lengths[0] > 2 and lengths[1] > 2 and sum(n for length, n in lengths.items() if length > 10) > 10, lengths)
+
+    def test_large(self):
+        """28 entries: the first way is that of the first flow, and so line by line."""
+        rng, flows, found = random.Random(13), network_library.load(), set()
+        for k in range(40):
+            text = large(rng)
+            book = book_reader.read(text)
+            balances, arcs = way_trial.network_of(book)
+            net, lent = network_library.network(balances, arcs), b"\x11" * (4 * len(arcs))
+            code, cost, lines = self.walked(text, 50)
+            (answer, value), (flow,) = flows.first(net, lent)
+            self.assertEqual((answer, value), (OK if lines else NONE, cost))
+            if lines and k < 8: self.assertTrue(trial.is_first(balances, arcs, way_trial.flow_of(book, arcs, lines[0])))
+            for way in lines:
+                self.assertEqual(flow, numbers(way_trial.flow_of(book, arcs, way)))
+                (answer, value), (following,) = flows.next(net, flow, lent)
+                flow = following
+            if lines and code == END: self.assertEqual(answer, END)
+            self.assertEqual(self.desk.count(text, 2000), flows.count(net, 2000))
+            found.add(code if lines else NONE)
+        self.assertEqual(found, {OK, END, NONE})
+
+
+if __name__ == "__main__":
+    unittest.main()

@@ -1,0 +1,117 @@
+"""Books to try: small random ones, larger ones, refused ones. Each is a function of the generator of random numbers."""
+import re
+
+from test_books import EXAMPLE, made
+
+
+def named(entries):
+    return [(b"e%d" % j, *rest) for j, rest in enumerate(entries, 1)]
+
+
+def small(rng, most=7):
+    """Up to 7 entries: entries that touch with and without a move, few costs so that many ways tie, in the order of time and not."""
+    e = rng.choice([n for n in (0, 1, 2, 2, 3, 3, 4, 4, 4, 5, 5, 5, 6, 6, 7) if n <= most])
+    instruments = rng.sample(range(1, 17), rng.choice((1, 1, 2, 2, 3, 4)))
+    unit, span = rng.choice(((1, 4), (1, 8), (1, 14), (24, 10), (7, 30), (83333, 12)))
+    fee = rng.choice((0, 0, 1, 1, 2, 6, 10**6))
+    costs = rng.choice(([0], [0], [0, 1], [fee], [fee], [0, fee], [1, 2, 3], [10**6]))
+    ticks = rng.choice(([0], [0], [0, unit], [unit], [1], [0, 1, unit, 2 * unit], [10**6, 0]))
+    share = rng.choice((0.0, 0.5, 0.9, 1.0))
+    moves = [(a, b, rng.choice(ticks), rng.choice(costs)) for a in instruments for b in instruments if a != b and rng.random() < share]
+    rng.shuffle(moves)
+    entries = []
+    for _ in range(e):
+        touching = [f for _, _, _, f in entries if f < span * unit]
+        if touching and rng.random() < 0.4: start = rng.choice(touching) // unit     # from where an entry ends
+        else: start = rng.randrange(span)
+        finish = min(span, start + rng.choice((1, 1, 1, 2, 3, span)))
+        entries.append((rng.choice((b"a", b"drum", b"x1", b"0123456789abcdef")), rng.choice(instruments), start * unit, finish * unit))
+    order = rng.randrange(3)
+    if order: entries.sort(key=lambda x: x[2], reverse=order == 2)
+    return made(rng.choice((1, 2, 2, 3, 3, 4, 5, 6, 7, 8)), fee, moves, entries)
+
+
+def large(rng, entries=28):
+    """A movement of 28 entries on a few instruments, with most of the moves."""
+    instruments = rng.randint(2, 16)
+    moves = [(a, b, 24 * rng.randint(0, 4), rng.randint(1, 3)) for a in range(1, instruments + 1) for b in range(1, instruments + 1) if a != b and rng.random() < 0.9]
+    lines = []
+    for k in range(entries):
+        start = 96 * (k * rng.choice((1, 2, 4)) + rng.randint(0, 3))
+        lines.append((b"e%d" % (k + 1), rng.randint(1, instruments), start, start + 96 * rng.randint(1, 4) - rng.choice((0, 12))))
+    if rng.random() < 0.5: rng.shuffle(lines)
+    return made(rng.randint(4, 8), rng.randint(0, 9), moves, lines)
+
+
+def paired(rng):
+    """8 to 28 entries in pairs that overlap, for two players: so few ways that all can be tried."""
+    pairs, instruments = rng.choice((4, 5, 6, 7, 8, 9, 10, 14)), rng.randint(2, 5)
+    ticks, costs = rng.choice(([0, 24], [24, 48], [48], [0, 96], [0] * 9 + [97])), rng.choice(([1], [1, 2], [0, 1, 2, 3]))
+    moves = [(a, b, rng.choice(ticks), rng.choice(costs)) for a in range(1, instruments + 1) for b in range(1, instruments + 1) if a != b and rng.random() < 0.97]
+    entries, ends = [], rng.choice(([384], [336, 384], [384, 408], [384, 456], [384] * 9 + [480]))
+    for k in range(pairs):
+        entries += [(rng.randint(1, instruments), 480 * k + rng.choice((0, 0, 24)), 480 * k + rng.choice(ends)) for _ in range(2)]
+    return made(2, rng.choice((0, 3, 50)), moves, named(entries))
+
+
+def refused():
+    """Books that fail a question, with its number."""
+    entry = (b"a", 1, 0, 1)
+    yield 11, EXAMPLE + b" " * (16385 - len(EXAMPLE))
+    yield 11, b"\xff" * 16385
+    yield 11, made(9, 6, [(1, 1, 0, 0)], [(b"a", 0, 1, 1)] * 800)
+    yield 12, b""
+    yield 12, EXAMPLE[:-1]
+    yield 12, EXAMPLE + b"\n"
+    yield 12, EXAMPLE.replace(b"(fee 6)", b"(fee 06)")
+    yield 12, made(9, 6, [(1, 1, 0, 0)], [(b"A", 0, 1, 1)] * 29)
+    yield 12, b"\xff" * 16384
+    yield 13, made(0)
+    yield 13, made(9, 1000001, [(1, 1, 0, 0)], [(b"a", 0, 1, 1)] * 29)
+    yield 13, made(8, 1000001)
+    yield 14, made(1, 0, [(1, 2, 0, 0), (2, 1, 0, 0), (1, 2, 0, 0), (3, 3, 0, 0)], [entry])
+    yield 14, made(1, 0, [(17, 2, 0, 0)], [(b"a", 17, 0, 1)] * 29)
+    yield 14, made(1, 0, [(1, 2, 1000001, 0), (2, 1, 0, 0)])
+    yield 14, made(1, 0, [(2, 1, 0, 0), (1, 2, 0, 1000001)])
+    yield 15, made(1, 0, [(1, 2, 0, 0)], [entry, (b"b", 1, 5, 5), entry, (b"b", 1, 6, 5)])
+    yield 15, made(1, 0, [], [entry] * 28 + [(b"b", 17, 0, 1)])
+    yield 15, made(1, 0, [], [(b"a", 1, 0, 1000001)])
+    yield 16, made(1, 0, [], [entry] * 29)
+    yield 16, made(8, 0, [(1, 2, 0, 0)], [(b"a", 1, j, j + 1) for j in range(300)])
+
+
+def damaged(rng):
+    """A small book with a byte, a number or a line changed, added or taken away."""
+    book = small(rng, 4)
+    for _ in range(rng.choice((1, 1, 2))):
+        kind, at = rng.randrange(7), rng.randrange(len(book))
+        if kind == 0: book = book[:at] + rng.randbytes(1) + book[at + 1:]
+        elif kind == 1: book = book[:at] + book[at + 1:]
+        elif kind == 2: book = book[:at] + rng.choice((b"0", b"1", b" ", b"(", b")", b"\n")) + book[at:]
+        elif kind == 3:
+            lines = book.split(b"\n")
+            lines.insert(rng.randrange(len(lines)), rng.choice(lines))
+            book = b"\n".join(lines)
+        else:
+            number = rng.choice(list(re.finditer(rb"\d+", book)) or [re.match(b"", book)])
+            book = book[:number.start()] + rng.choice((b"0", b"1", b"8", b"9", b"16", b"17", b"1000000", b"1000001", b"9999999")) + book[number.end():]
+    return book
+
+
+# Books by the number of their cheapest ways, found by trial.
+THOUSAND = {
+    999: made(7, 0, [(1, 2, 1, 1), (1, 3, 0, 0), (2, 1, 1, 0), (2, 3, 1, 0), (3, 1, 0, 0), (3, 2, 1, 0)],
+              named([(3, 7, 8), (3, 6, 8), (3, 8, 9), (2, 11, 13), (2, 7, 8), (3, 4, 5), (1, 3, 4), (3, 11, 12)])),
+    1000: made(8, 0, [(1, 2, 1, 0), (1, 3, 0, 1), (2, 1, 0, 0), (2, 3, 0, 0), (3, 1, 0, 1), (3, 2, 0, 0)],
+               named([(2, 0, 1), (3, 2, 3), (1, 4, 5), (2, 4, 7), (1, 7, 8), (2, 8, 9), (2, 8, 9), (1, 9, 12)])),
+    1001: made(6, 0, [(1, 3, 0, 0), (1, 4, 0, 1), (2, 3, 2, 1), (2, 4, 2, 0), (3, 1, 1, 0), (3, 2, 1, 0), (3, 4, 2, 0), (4, 1, 2, 1), (4, 2, 2, 0), (4, 3, 1, 1)],
+               named([(2, 1, 2), (3, 3, 5), (1, 4, 5), (2, 6, 7), (1, 10, 11), (1, 11, 12), (3, 12, 13), (2, 13, 14), (2, 14, 17)])),
+}
+# Two books on different instruments, 255 and 257 ways with as few players as can be; in one book 255 times 257, which is 65,535.
+HALVES = {
+    255: ([(1, 2, 1, 1), (1, 3, 2, 0), (1, 4, 0, 0), (2, 1, 2, 1), (2, 3, 2, 0), (2, 4, 2, 0), (3, 1, 0, 1), (3, 2, 1, 0), (3, 4, 0, 0), (4, 1, 1, 0), (4, 2, 0, 0), (4, 3, 0, 0)],
+          [(2, 2, 4), (2, 4, 5), (1, 7, 8), (3, 8, 9), (3, 10, 13), (4, 11, 14), (4, 11, 12), (1, 12, 13), (1, 13, 15), (2, 14, 15)]),
+    257: ([(5, 6, 1, 0), (6, 5, 0, 0), (6, 7, 2, 1), (7, 5, 1, 0), (7, 6, 0, 0)],
+          [(6, 1, 3), (7, 2, 3), (5, 3, 4), (7, 5, 7), (5, 9, 10), (7, 10, 11), (5, 11, 13), (6, 12, 14), (5, 13, 14), (6, 13, 14), (7, 14, 15)]),
+}
+MOST = made(8, 1000, HALVES[255][0] + HALVES[257][0], named(HALVES[255][1] + HALVES[257][1]))

@@ -1,0 +1,90 @@
+"""Search by trial: document 01's ways, straight from its text and independent of the library. Books are those of book_reader."""
+import book_reader
+import trial
+
+SHOWN = 1000                           # the most ways of a listing
+
+
+def join(book, i, j):
+    """The cost of entry j after entry i, or None where it may not follow."""
+    (a, _, finish), (b, start, _) = book.entries[i - 1], book.entries[j - 1]
+    if i == j: return None
+    if a == b: return 0 if finish <= start else None
+    return next((c for x, y, t, c in book.moves if (x, y) == (a, b) and finish + t <= start), None)
+
+
+def ways(book):
+    """Every way with its cost, in the order of ways: a predecessor for entry 1, then for entry 2, and so on, each from 0 to E."""
+    e, found = len(book.entries), []
+    offers = [[(0, book.fee)] + [(i, join(book, i, j)) for i in range(1, e + 1) if join(book, i, j) is not None] for j in range(1, e + 1)]
+
+    def rest(way, cost):
+        if len(way) == e:
+            found.append((cost, tuple(way)))
+            return
+        for i, c in offers[len(way)]:
+            if i not in way if i else way.count(0) < book.players:
+                way.append(i)
+                rest(way, cost + c)
+                way.pop()
+    rest([], 0)
+    return found
+
+
+def cheapest(found):
+    """Of ways with their costs those of the least cost, and that cost (0 where there are none)."""
+    least = min((c for c, w in found), default=0)
+    return [w for c, w in found if c == least], least
+
+
+def full_list(book):
+    """The least-cost ways in order, and their cost."""
+    return cheapest(ways(book))
+
+
+def listing(text):
+    """What `ways` prints of these bytes."""
+    refused, _, book = book_reader.refusal(text)
+    if refused: return b"(refused %d)\n" % refused
+    lines, cost = full_list(book)
+    if not lines: return b"(none)\n"
+    shown = [b"(way%s)\n" % b"".join(b" %d" % i for i in way) for way in lines[:SHOWN]]
+    last = b"(more %d)\n" % SHOWN if len(lines) > SHOWN else b"(end %d)\n" % len(lines)
+    return b"(cost %d)\n" % cost + b"".join(shown) + last
+
+
+def network_of(book):
+    """The book's network: balances and arcs."""
+    e = len(book.entries)
+    last = 2 * e + 1
+    arcs = []
+    for j in range(1, e + 1):
+        arcs += [(2 * i, 2 * j - 1, 0, 1, join(book, i, j)) for i in range(e, 0, -1) if join(book, i, j) is not None]
+        arcs.append((0, 2 * j - 1, 0, 1, book.fee))
+    arcs += [(2 * j - 1, 2 * j, 1, 1, 0) for j in range(1, e + 1)]
+    arcs += [(2 * j, last, 0, 1, 0) for j in range(1, e + 1)]
+    arcs.append((0, last, 0, book.players, 0))
+    return [book.players] + [0] * (2 * e) + [-book.players], arcs
+
+
+def flow_of(book, arcs, way):
+    """The flow of a way on the arcs of the book's network."""
+    e = len(book.entries)
+
+    def on(tail, head):
+        if (tail, head) == (0, 2 * e + 1): return book.players - way.count(0)
+        if head == 2 * e + 1: return int(tail // 2 not in way)
+        if tail % 2: return 1              # an entry arc
+        return int(way[head // 2] == tail // 2)
+    return [on(t, h) for t, h, l, u, c in arcs]
+
+
+class Reader(trial.Reader):
+    """Document 01's reader with a finger on the full list of a book. `told` are the lines that a refusal may tell."""
+    SHORT, WRONG = 17, 18
+
+    def __init__(self, text):
+        self.refused, self.told, book = book_reader.refusal(text)
+        self.n, self.m = 0, len(book.entries) if book else 0
+        self.everything = ways(book) if book else []
+        self._take(*cheapest(self.everything))
