@@ -1,5 +1,5 @@
-// The search for a flow. It starts at the lower bounds and sends from nodes with an excess to nodes with a deficit, until there is
-// no excess, or none of it can be sent: the nodes reached then certify that there is no flow. And the test whether a list is a flow.
+// The search for a flow. It starts at a list within the bounds and sends from nodes with an excess to nodes with a deficit, until
+// there is no excess, or none of it can be sent: the nodes reached then certify that there is no flow. And the test whether a list is a flow.
 ghost use mathlib.Core.Path.{_≡_};
 ghost use Prim.Native.Nat.{ℕ, _≤_, _<_};
 ghost use lib.ListN.{length, getD, set};
@@ -187,8 +187,19 @@ fn total(balances: &[i32]) -> i64
     sum
 }
 
+// The numbers as they are if they are within the bounds, or else the lower bounds.
+fn bring_in_bounds(lows: &[u32], ups: &[u32], flow: &mut [u32])
+    requires { ⌜ (length (now lows) ≡ length (now flow)) × (length (now ups) ≡ length (now flow)) × ((a : ℕ) → a < length (now flow) → getD (now lows) a 0 ≤ getD (now ups) a 0) ⌝ }
+    ensures { λ _. ⌜ InBounds (graph (now (flow .exit)) (now (flow .exit)) (now (lows .entry)) (now (ups .entry))) (now (flow .exit)) ⌝ }
+{
+    if within_bounds(lows, ups, flow) {
+        return;
+    }
+    copy(lows, flow);
+}
+
 // A flow, where the balances sum to 0; false if there is none. `excess` is room to work in.
-fn from_lower_bounds(
+fn from_bounds(
     tails: &[u8],
     heads: &[u8],
     lows: &[u32],
@@ -201,7 +212,7 @@ fn from_lower_bounds(
     requires { ⌜ Given (now balances) (now tails) (now heads) (now lows) (now ups) (now flow) × AllFree (now tails) (now free) × (length (now excess) ≡ length (now balances)) × (sum (length (now balances)) (λ v. getD (now balances) v (pos 0)) ≡ pos 0) ⌝ }
     ensures { λ r. ⌜ Answer (now (balances .entry)) (now (tails .entry)) (now (heads .entry)) (now (lows .entry)) (now (ups .entry)) (now (flow .exit)) r ⌝ }
 {
-    copy(lows, flow);
+    bring_in_bounds(lows, ups, flow);
     loop {
         excess_of(tails, heads, balances, flow, excess);
         let s = first_excess(excess);
@@ -214,7 +225,7 @@ fn from_lower_bounds(
     }
 }
 
-// A flow; false if there is none.
+// A flow; false if there is none. It starts from `flow` if that is within the bounds: a good guess saves the work.
 pub fn feasible(
     tails: &[u8],
     heads: &[u8],
@@ -233,7 +244,7 @@ pub fn feasible(
     let mut excess = [0i64; 64];
     let m = tails.len();
     let n = balances.len();
-    from_lower_bounds(
+    from_bounds(
         tails,
         heads,
         lows,

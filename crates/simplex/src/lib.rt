@@ -1,5 +1,5 @@
-// A good start: the primal network simplex. Its numbers are unsigned and wrap, and nothing is promised of them: what it leaves is
-// tested, and if it is no flow, the search that is proved starts anew.
+// A good start: the primal network simplex. Its numbers are unsigned and wrap, and nothing is promised of them: the search that is
+// proved starts from what it leaves, and finds it to be a flow, mends it, or shows that there is none.
 ghost use mathlib.Core.Path.{_≡_};
 ghost use Prim.Native.Nat.{_+_, _≤_, _<_, _%_, _^_};
 ghost use lib.ListN.{length};
@@ -682,7 +682,7 @@ fn write_flow(lows: &[u32], above: &[u32; 1024], flow: &mut [u32])
     }
 }
 
-// A guess of a least-cost flow. The caller tests it.
+// A guess of a least-cost flow. The caller goes on from it.
 fn guess(
     tails: &[u8],
     heads: &[u8],
@@ -764,8 +764,5 @@ pub fn starting_flow(
     ensures { λ r. ⌜ Answer (now (balances .entry)) (now (tails .entry)) (now (heads .entry)) (now (lows .entry)) (now (ups .entry)) (now (flow .exit)) r ⌝ }
 {
     guess(tails, heads, lows, ups, costs, balances, flow);
-    if feasible::is_flow(tails, heads, lows, ups, balances, flow) {
-        return true;
-    }
     feasible::feasible(tails, heads, lows, ups, balances, flow)
 }

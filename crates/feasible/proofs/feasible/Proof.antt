@@ -25,17 +25,17 @@ returns c =
 array-share-prefix-free : tie.Need-array-share-prefix-free
 array-share-prefix-free c = search needs
 
-slice-aggregate-from-lower-bounds : tie.Need-slice-aggregate-from-lower-bounds
-slice-aggregate-from-lower-bounds c = let s = c .before .before .before .before .before .before .before .before in sym (all-free (s .args .tails .now) (s .pre .small .few) .free-len)
+slice-aggregate-from-bounds : tie.Need-slice-aggregate-from-bounds
+slice-aggregate-from-bounds c = let s = c .before .before .before .before .before .before .before .before in sym (all-free (s .args .tails .now) (s .pre .small .few) .free-len)
 
 array-borrow-prefix-excess : tie.Need-array-borrow-prefix-excess
 array-borrow-prefix-excess c = search needs
 
-slice-aggregate-from-lower-bounds-2 : tie.Need-slice-aggregate-from-lower-bounds-2
-slice-aggregate-from-lower-bounds-2 c = sym (length-take-le (length (start c .args .balances .now)) (replicate 64 (pos 0)) (start c .pre .nodes))
+slice-aggregate-from-bounds-2 : tie.Need-slice-aggregate-from-bounds-2
+slice-aggregate-from-bounds-2 c = sym (length-take-le (length (start c .args .balances .now)) (replicate 64 (pos 0)) (start c .pre .nodes))
 
-from-lower-bounds-requires : tie.Need-from-lower-bounds-requires
-from-lower-bounds-requires c κs =
+from-bounds-requires : tie.Need-from-bounds-requires
+from-bounds-requires c κs =
     let s = start c in
     let t = c .before .before .before .before .total in (
       s .pre,
@@ -48,7 +48,7 @@ same-length : tie.Need-same-length
 same-length c = search needs
 
 returns-2 : tie.Need-returns-2
-returns-2 c = c .before .before .before .from-lower-bounds .ensures
+returns-2 c = c .before .before .before .from-bounds .ensures
 
 pub feasible-spec : {M : Type 1} → statement M
 feasible-spec =
@@ -57,9 +57,9 @@ feasible-spec =
     total-requires
     returns
     array-share-prefix-free
-    slice-aggregate-from-lower-bounds
+    slice-aggregate-from-bounds
     array-borrow-prefix-excess
-    slice-aggregate-from-lower-bounds-2
-    from-lower-bounds-requires
+    slice-aggregate-from-bounds-2
+    from-bounds-requires
     same-length
     returns-2)

@@ -8,8 +8,8 @@ use Rattle.certificates.specs.Feasible.{lacks as excesses}
 use Rattle.paths.specs.Graph.{graph}
 use Rattle.feasible.specs.Excess.{supplies}
 use Rattle.feasible.proofs.Answer.{start-bounds, small-of, ready-of, all-sent, no-flow-left, falls}
-use Rattle.feasible.proofs.from_lower_bounds.Statement.{statement}
-use Rattle.feasible.proofs.from_lower_bounds.Tie as tie
+use Rattle.feasible.proofs.from_bounds.Statement.{statement}
+use Rattle.feasible.proofs.from_bounds.Tie as tie
 
 abbrev Inv-loop : tie.InvT-loop
 Inv-loop tails heads lows ups free balances flow₀ excess₀ flow excess = InBounds (graph tails heads lows ups) flow × (length excess ≡ length balances)
@@ -17,11 +17,11 @@ Inv-loop tails heads lows ups free balances flow₀ excess₀ flow excess = InBo
 abbrev μ-loop : tie.MeasureT-loop
 μ-loop tails heads lows ups free balances flow₀ excess₀ flow excess = plus (excesses (supplies balances tails heads) flow)
 
-copy-requires : tie.Need-copy-requires Inv-loop μ-loop
-copy-requires c κs = let s = c .before .before .before .before .before .before .before in s .pre .0 .flow-len ∙ sym (s .pre .0 .small .lows-len)
+bring-in-bounds-requires : tie.Need-bring-in-bounds-requires Inv-loop μ-loop
+bring-in-bounds-requires c κs = let s = c .before .before .before .before .before .before .before in let g = s .pre .0 in (g .small .lows-len ∙ sym (g .flow-len), g .small .ups-len ∙ sym (g .flow-len), λ a k. g .ordered a (omega (arith, g .flow-len)))
 
 loop-holds : tie.Need-loop-holds Inv-loop μ-loop
-loop-holds c = let s = c .before .before .before .before .before .before .before .before .before .before in (start-bounds (s .args .balances .now) (s .args .tails .now) (s .args .heads .now) (s .args .lows .now) (s .args .ups .now) (s .args .flow .now) (s .pre .0) _ (c .before .before .copy .ensures), s .pre .2)
+loop-holds c = let s = c .before .before .before .before .before .before .before .before .before .before in (start-bounds (s .args .balances .now) (s .args .tails .now) (s .args .heads .now) (s .args .lows .now) (s .args .ups .now) (s .args .flow .now) (s .pre .0) (c .before .before .bring-in-bounds .last .1 .1 .0) (c .before .before .bring-in-bounds .kept .1 .1 .0) (c .before .before .bring-in-bounds .ensures), s .pre .2)
 
 excess-of-requires : tie.Need-excess-of-requires Inv-loop μ-loop
 excess-of-requires c κs = let s = c .before .before .before .before .before .before .before .before .before .before .before .before .before in let a = c .before .before in (small-of (s .args .balances .now) (s .args .tails .now) (s .args .heads .now) (s .args .lows .now) (s .args .ups .now) (s .args .flow .now) (s .pre .0) (a .loop .flow) (a .loop .inv .0), a .loop .inv .1)
@@ -57,13 +57,13 @@ loop-less c = let s = c .before .before .before .before .before .before .before 
 loop-again : tie.Need-loop-again Inv-loop μ-loop
 loop-again c = (c .before .before .before .send .ensures .bounds, c .before .before .before .before .before .before .before .before .before .before .excess-of .ensures .len)
 
-pub from-lower-bounds-spec : {M : Type 1} → statement M
-from-lower-bounds-spec =
+pub from-bounds-spec : {M : Type 1} → statement M
+from-bounds-spec =
     tie.close
     (tie.spec
     Inv-loop
     μ-loop
-    copy-requires
+    bring-in-bounds-requires
     loop-holds
     excess-of-requires
     first-excess-requires
