@@ -2,7 +2,7 @@
 use mathlib.Core.Path.{_≡_, refl, sym, subst, _∙_}
 use mathlib.Core.Logic.{_⊎_, inl, inr}
 use mathlib.Core.List.{List, [], _∷_, _++_, map}
-use Prim.Native.Nat.{ℕ, zero, suc, _+_, _*_, _≤_, _<_}
+use Prim.Native.Nat.{ℕ, zero, suc, _≤_, _<_}
 use native.Mathlib.Omega.{arith}
 use lib.ListN.{length, getD, length-map, List·getD-map}
 use lib.IntN.{pos}
@@ -52,7 +52,7 @@ module _ (book : Book) where
         one (inl m) = let (i, j, b, c, l, q) = joins-member book (size book) 1 a m in subst P (sym q) (holds .joins i j l b (omega arith))
         one (inr m) = two (append-cases (map entryArc (numbers book)) (map (endArc book) (numbers book) ++ (lastArc book ∷ [])) a m)
 
-    arc-holds : (k : ℕ) → k < arcs (bookNet book) → P (getD (bookArcs book) k noArc)
+    pub arc-holds : (k : ℕ) → k < arcs (bookNet book) → P (getD (bookArcs book) k noArc)
     arc-holds k h = all-hold (getD (bookArcs book) k noArc) (getD-member (bookArcs book) k noArc (subst (λ n. k < n) (count-arcs book) h))
 
   -- of a number that arcs have, as the network holds it

@@ -1,5 +1,5 @@
 -- Counting the predecessors of a way: each place holds 0 or one entry, so as many entries are nobody's predecessor as open a part.
-use mathlib.Core.Path.{_≡_, refl, ap₂}
+use mathlib.Core.Path.{_≡_, refl}
 use mathlib.Core.Logic.{inl, inr}
 use mathlib.Core.List.{List, [], _∷_, map}
 use Prim.Native.Nat.{ℕ, zero, suc, _+_, _-_, _≤_, _<_}
@@ -16,7 +16,7 @@ abbrev pub tot : (ℕ → ℕ) → List ℕ → ℕ
 tot φ [] = 0
 tot φ (a ∷ l) = φ a + tot φ l
 
-tot-add : (φ χ : ℕ → ℕ) (l : List ℕ) → tot (λ a. φ a + χ a) l ≡ tot φ l + tot χ l
+pub tot-add : (φ χ : ℕ → ℕ) (l : List ℕ) → tot (λ a. φ a + χ a) l ≡ tot φ l + tot χ l
 tot-add φ χ [] = refl
 tot-add φ χ (a ∷ l) = let h = tot-add φ χ l in omega arith
 

@@ -1,8 +1,7 @@
 -- The joins of a list of predecessors, laid on the arcs with any numbers on the arcs to the last node: the sums at each node, and the cost.
 use mathlib.Core.Path.{_≡_, refl, sym, ap₂, subst, _∙_}
-use mathlib.Core.Logic.{_⊎_, inl, inr}
 use mathlib.Core.List.{List, [], _∷_, _++_, map}
-use Prim.Native.Nat.{ℕ, zero, suc, _+_, _*_, _-_, _≤_, _<_}
+use Prim.Native.Nat.{ℕ, suc, _+_, _*_, _-_, _≤_, _<_}
 use native.Mathlib.Omega.{arith}
 use native.Mathlib.Decide.{ℕ-discrete}
 use lib.ListN.{length, getD, length-append}
@@ -19,7 +18,7 @@ use Rattle.allocation.specs.WayFlow.{hit, marked, joinFlow, entryFlow}
 use Rattle.allocation.proofs.Weights.{hit-same, hit-other, hit-iff, hit-small, total, weigh, weigh-none}
 use Rattle.allocation.proofs.Rows.{row-at, row-length}
 use Rattle.allocation.proofs.Blocks.{along, outOf, into, weigh-joins, joinFlow-length}
-use Rattle.allocation.proofs.Nodes.{whole, Fits, parts, out-zero, in-zero, out-last, in-last, out-odd, in-odd, out-even, in-even, netOut-weigh, nodes-count, balance-inner, balance-last}
+use Rattle.allocation.proofs.Nodes.{Place, origin, odd, even, last, place, whole, Fits, parts, out-zero, in-zero, out-last, in-last, out-odd, in-odd, out-even, in-even, netOut-weigh, nodes-count, balance-inner, balance-last}
 use Rattle.allocation.proofs.Bounds.{Bounds, bounds-append, bounds-map}
 
 -- whole numbers out of a node and into it
@@ -31,30 +30,6 @@ pos-diff o i b e = given e (simp lin (λ h. omega arith))
 
 diff-neg : (o i b : ℕ) → o + b ≡ i → pos o -ℤ pos i ≡ negℤ (pos b)
 diff-neg o i b e = simp lin (omega arith)
-
--- every node is the first, the last, or one of an entry's two
-data Place (n v : ℕ) : Type 0 where
-  origin : v ≡ 0 → Place n v
-  odd : (i : ℕ) → 1 ≤ i → i ≤ n → v ≡ 2 * i - 1 → Place n v
-  even : (i : ℕ) → 1 ≤ i → i ≤ n → v ≡ 2 * i → Place n v
-  last : v ≡ 2 * n + 1 → Place n v
-
-half : (v : ℕ) → (k : ℕ) × ((v ≡ 2 * k) ⊎ (v ≡ 2 * k + 1))
-half zero = (0, inl refl)
-half (suc v) = let (k, c) = half v in step k c
-  where
-    step : (k : ℕ) → (v ≡ 2 * k) ⊎ (v ≡ 2 * k + 1) → (k : ℕ) × ((suc v ≡ 2 * k) ⊎ (suc v ≡ 2 * k + 1))
-    step k (inl e) = (k, inr (omega arith))
-    step k (inr e) = (suc k, inl (omega arith))
-
-place : (n v : ℕ) → v < 2 * n + 2 → Place n v
-place n v h = let (k, c) = half v in step k c (ℕ-discrete k 0) (ℕ-discrete k n)
-  where
-    step : (k : ℕ) → (v ≡ 2 * k) ⊎ (v ≡ 2 * k + 1) → Dec (k ≡ 0) → Dec (k ≡ n) → Place n v
-    step k (inl e) (yes q) d = origin (omega arith)
-    step k (inl e) (no q) d = even k (omega arith) (omega arith) e
-    step k (inr e) c (yes q) = last (omega arith)
-    step k (inr e) c (no q) = odd (suc k) (omega arith) (omega arith) (omega arith)
 
 -- how often each entry is a predecessor
 along-count : (ψ : ℕ → ℕ → ℕ) (i j : ℕ) (w : List ℕ) → ((p k : ℕ) → ψ p k ≡ hit p i) → along ψ j w ≡ times i w

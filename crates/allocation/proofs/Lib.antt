@@ -11,3 +11,6 @@ pub mod WayBack
 pub mod Matched
 pub mod LineByLine
 pub mod Examples
+pub mod Fair
+pub mod Size
+pub mod Accepted

@@ -1,23 +1,48 @@
 -- What a list of numbers on a book's arcs carries out of each node and into it.
 use mathlib.Core.Path.{_≡_, refl, sym, ap, ap₂, _∙_}
+use mathlib.Core.Logic.{_⊎_, inl, inr}
 use mathlib.Core.List.{List, [], _∷_, _++_, map}
 use Prim.Native.Nat.{ℕ, zero, suc, _+_, _*_, _-_, _≤_, _<_}
 use native.Mathlib.Omega.{arith}
 use native.Mathlib.Decide.{ℕ-discrete}
 use lib.ListN.{length, getD, length-map, length-append, length-replicate, replicate, getD-replicate, List·getD-append, List·getD-map}
 use lib.Seq.{getD-at}
-use lib.IntN.{ℤ, pos, negℤ, _-ℤ_, _*ℤ_, pos-*ℤ-pos}
+use lib.IntN.{pos, negℤ, _-ℤ_, _*ℤ_, pos-*ℤ-pos}
 use Rattle.laws.specs.Divergence.{at, at-same, at-other}
 use Rattle.laws.specs.Within.{from-member}
 use Rattle.network.specs.Network.{nodes, arcs, netOut, balance, costOf}
 use Rattle.book.specs.Book.{Book}
 use Rattle.allocation.specs.Follow.{size}
 use Rattle.allocation.specs.FullWays.{numbers}
-use Rattle.allocation.specs.BookNet.{Arc, lastNode, joinArcs, joinArc, entryArc, endArc, lastArc, bookArcs, bookNet}
+use Rattle.allocation.specs.BookNet.{Arc, lastNode, joinArcs, entryArc, endArc, lastArc, bookArcs, bookNet}
 use Rattle.allocation.specs.WayFlow.{hit}
 use Rattle.allocation.proofs.Weights.{hit-same, hit-other, total, weigh, weigh-append, weigh-none, weigh-ones, weigh-map, weigh-from, sum-weigh}
 use Rattle.allocation.proofs.Blocks.{outOf, into, joins-none}
 use Rattle.allocation.proofs.Rows.{from-length, row-length}
+
+-- every node is the first, the last, or one of an entry's two
+pub data Place (n v : ℕ) : Type 0 where
+  origin : v ≡ 0 → Place n v
+  odd : (i : ℕ) → 1 ≤ i → i ≤ n → v ≡ 2 * i - 1 → Place n v
+  even : (i : ℕ) → 1 ≤ i → i ≤ n → v ≡ 2 * i → Place n v
+  last : v ≡ 2 * n + 1 → Place n v
+
+half : (v : ℕ) → (k : ℕ) × ((v ≡ 2 * k) ⊎ (v ≡ 2 * k + 1))
+half zero = (0, inl refl)
+half (suc v) = let (k, c) = half v in step k c
+  where
+    step : (k : ℕ) → (v ≡ 2 * k) ⊎ (v ≡ 2 * k + 1) → (k : ℕ) × ((suc v ≡ 2 * k) ⊎ (suc v ≡ 2 * k + 1))
+    step k (inl e) = (k, inr (omega arith))
+    step k (inr e) = (suc k, inl (omega arith))
+
+pub place : (n v : ℕ) → v < 2 * n + 2 → Place n v
+place n v h = let (k, c) = half v in step k c (ℕ-discrete k 0) (ℕ-discrete k n)
+  where
+    step : (k : ℕ) → (v ≡ 2 * k) ⊎ (v ≡ 2 * k + 1) → Dec (k ≡ 0) → Dec (k ≡ n) → Place n v
+    step k (inl e) (yes q) d = origin (omega arith)
+    step k (inl e) (no q) d = even k (omega arith) (omega arith) e
+    step k (inr e) c (yes q) = last (omega arith)
+    step k (inr e) c (no q) = odd (suc k) (omega arith) (omega arith) (omega arith)
 
 -- the four parts of a list of numbers on the arcs
 abbrev pub whole : List ℕ → List ℕ → List ℕ → ℕ → List ℕ
