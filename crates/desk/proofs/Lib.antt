@@ -1,4 +1,6 @@
 mod Lines
+mod NetworkLines
+mod Turns
 pub mod NetworkRun
 pub mod FirstFlow
 mod Given

@@ -1,4 +1,5 @@
 pub mod Replies
+pub mod ByteLists
 pub mod NetworkCalls
 pub mod NetworkRun
 pub mod NetworkEntries
