@@ -2,12 +2,12 @@
 use mathlib.Core.Path.{_≡_, refl, sym, ap, _∙_}
 use mathlib.Core.Bool.{Bool, true, false, _||_}
 use mathlib.Core.List.{List, [], _∷_}
-use mathlib.Core.Logic.{inl, inr}
-use mathlib.Core.Option.{some}
+use mathlib.Core.Logic.{inl, inr, _↔_}
+use mathlib.Core.Option.{none, some}
 use Prim.Native.Nat.{ℕ, suc, _*_, _<_}
 use native.Mathlib.Omega.{arith}
 use lib.ListN.{length, getD, getElem?}
-use Rattle.laws.specs.Members.{_∈_, Every, at-member}
+use Rattle.laws.specs.Members.{_∈_, Every, first?, every-member, at-member, none-some}
 use Rattle.laws.specs.Tests.{test}
 use Rattle.laws.specs.Equality.{same-list}
 use Rattle.laws.specs.Lexicographic.{_<lex_, lex-irrefl, lex-trans}
@@ -55,6 +55,19 @@ not-listed g (v ∷ l) h = step (same-list (encodeWords v) g) (not-listed g l (�
     step : (t : Dec (encodeWords v ≡ g)) → listed g l ≡ false → test t || listed g l ≡ false
     step (yes p) e = absurd (h 0 v refl p)
     step (no p) e = e
+
+-- the first line is one, and none comes before it
+pub first-least : (l : List (List ℕ)) (f : List ℕ) → first? l ≡ some f → Ascending _<lex_ l → (f ∈ l) × ((g : List ℕ) → g ∈ l → ¬ (g <lex f))
+first-least [] f e h = absurd (none-some f e)
+first-least (a ∷ l) f e h = let q : a ≡ f = cc in (inl (sym q), λ g m. rw (← q) (before g m))
+  where
+    before : (g : List ℕ) → g ∈ (a ∷ l) → ¬ (g <lex a)
+    before g (inl p) k = lex-irrefl a (rw p at k)
+    before g (inr m) k = lex-irrefl a (lex-trans a g a (every-member (_<lex_ a) l (h .0) g m) k)
+
+pub first-none : (l : List (List ℕ)) → (first? l ≡ none) ↔ (l ≡ [])
+first-none [] = (λ e. refl, λ e. refl)
+first-none (a ∷ l) = (λ e. absurd (none-some a (sym e)), λ e. ap first? e)
 
 -- a full list: in order, each line of k numbers that fit 32 bits
 pub record FullOf (k : ℕ) (L : List (List ℕ)) : Type 0 where

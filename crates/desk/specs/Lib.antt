@@ -4,3 +4,6 @@ pub mod NetworkCalls
 pub mod NetworkRun
 pub mod NetworkEntries
 pub mod FirstFlow
+pub mod BookCalls
+pub mod BookRun
+pub mod FirstWay
