@@ -1,0 +1,4 @@
+pub mod Pieces
+mod Decimal
+mod Spaced
+mod Examples
