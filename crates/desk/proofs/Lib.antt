@@ -10,3 +10,4 @@ mod Given
 mod HandingOut
 mod NetworkEntries
 mod NetworkExamples
+mod BookExamples

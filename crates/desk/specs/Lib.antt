@@ -7,3 +7,4 @@ pub mod FirstFlow
 pub mod BookCalls
 pub mod BookRun
 pub mod FirstWay
+pub mod Listing
