@@ -8,3 +8,4 @@ pub mod BookCalls
 pub mod BookRun
 pub mod FirstWay
 pub mod Listing
+pub mod BookNames
