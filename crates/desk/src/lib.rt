@@ -14,7 +14,9 @@ ghost use Rattle.desk.specs.ByteLists.{room, listed};
 ghost use Rattle.desk.specs.NetworkCalls.{net, lends};
 ghost use Rattle.desk.specs.NetworkRun.{Answers};
 ghost use Rattle.desk.specs.NetworkEntries.{Begins, HandedOut, PricesOut, onLine};
+
 pub mod books;
+
 use enumerator::Enumerator;
 use enumerator::Place;
 use network::Network;
