@@ -20,12 +20,13 @@ use Rattle.book.specs.Book.{Book}
 use Rattle.book.proofs.Accepted.{Accepted}
 use Rattle.book.proofs.Judging.{column-at}
 use Rattle.allocation.specs.Follow.{size, entryAt, stay, link, inTime}
-use Rattle.allocation.specs.Ways.{offer}
+use Rattle.allocation.specs.Ways.{offer, orNone}
+use Rattle.allocation.proofs.Accepted.{price-small}
 use Rattle.allocation.proofs.Fair.{FairEntry, fair-entry, cost-high}
 use Rattle.book_network.specs.declared.Join.{Join}
 use Rattle.book_network.specs.declared.Join.the-variants.{No, At}
 use Rattle.book_network.specs.Held.{Tables, HasTables}
-use Rattle.book_network.specs.Joins.{joinOf, moveBy, linkBy}
+use Rattle.book_network.specs.Joins.{joinOf, costIn, moveBy, linkBy, Joins}
 
 -- the ways through `join_by`
 module _ (a b t c finish start : ℕ) where
@@ -62,7 +63,7 @@ valueOf-high f B (some m) h = h m refl
 padded-length : {A : Type 0} (k : ℕ) (d : A) (l : List A) → length l ≤ k → length (padded k d l) ≡ k
 padded-length k d l h = length-append l (replicate (k - length l) d) ∙ omega (arith, length-replicate (k - length l) d)
 
-module _ (b : Book) (ticks costs instruments starts finishes : List ℕ) (T : Tables b ticks costs instruments starts finishes) where
+module _ (b : Book) (e : ℕ) (ticks costs instruments starts finishes : List ℕ) (T : Tables b e ticks costs instruments starts finishes) where
   column-long : (f : Entry → ℕ) → length (column f (b .entries)) ≡ 28
   column-long f = padded-length 28 0 (map f (b .entries)) (omega (arith, length-map (b .entries) f, T .accepted .few))
 
@@ -137,8 +138,8 @@ module _ (b : Book) (ticks costs instruments starts finishes : List ℕ) (T : Ta
 
     pub join-told : ¬ (i ≡ j) → (p q : ℕ) → p ≡ getD instruments (i - 1) 0 → q ≡ getD instruments (j - 1) 0
         → joinOf (inTime (linkBy p q (getD ticks ((p - 1) * 16 + (q - 1)) 0) (getD costs ((p - 1) * 16 + (q - 1)) 0)) (getD finishes (i - 1) 0) (getD starts (j - 1) 0)) ≡ joinOf (offer b i j)
-    join-told n p q e f =
-        let u = e ∙ instrument-at i i-low i-high in
+    join-told n p q w f =
+        let u = w ∙ instrument-at i i-low i-high in
         let v = f ∙ instrument-at j j-low j-high in
         let g = fair-at i i-low i-high in
         let h = fair-at j j-low j-high in
@@ -167,19 +168,27 @@ can-read {e} {ticks} {costs} {instruments} {starts} {finishes} i j h il ih jl jh
     let b = h .book in
     let T = h .tables in
     let f = T .accepted .few in
-    let n = h .entries in
-    let u = instrument-in b ticks costs instruments starts finishes T i il (omega arith) in
-    let v = instrument-in b ticks costs instruments starts finishes T j jl (omega arith) in
+    let n = T .entries-are in
+    let u = instrument-in b e ticks costs instruments starts finishes T i il (omega arith) in
+    let v = instrument-in b e ticks costs instruments starts finishes T j jl (omega arith) in
     record {
       i-small = omega arith;
       j-small = omega arith;
-      ticks-all = ticks-long b ticks costs instruments starts finishes T;
-      costs-all = costs-long b ticks costs instruments starts finishes T;
-      instruments-all = instruments-long b ticks costs instruments starts finishes T;
-      starts-all = starts-long b ticks costs instruments starts finishes T;
-      finishes-all = finishes-long b ticks costs instruments starts finishes T;
+      ticks-all = ticks-long b e ticks costs instruments starts finishes T;
+      costs-all = costs-long b e ticks costs instruments starts finishes T;
+      instruments-all = instruments-long b e ticks costs instruments starts finishes T;
+      starts-all = starts-long b e ticks costs instruments starts finishes T;
+      finishes-all = finishes-long b e ticks costs instruments starts finishes T;
       i-played = u;
       j-played = v;
-      finish-in = finish-small b ticks costs instruments starts finishes T i il (omega arith);
-      ticks-in = ticks-small b ticks costs instruments starts finishes T (getD instruments (i - 1) 0) (getD instruments (j - 1) 0) (u .0) (u .1) (v .0) (v .1);
+      finish-in = finish-small b e ticks costs instruments starts finishes T i il (omega arith);
+      ticks-in = ticks-small b e ticks costs instruments starts finishes T (getD instruments (i - 1) 0) (getD instruments (j - 1) 0) (u .0) (u .1) (v .0) (v .1);
     }
+
+pub cost-small : {e : ℕ} {ticks costs instruments starts finishes : List ℕ} (i j : ℕ) (o : Join) → HasTables e ticks costs instruments starts finishes
+    → Joins e ticks costs instruments starts finishes i j o → costIn o ≤ 1000000
+cost-small i j o h w = rw (w .each (h .book) (h .tables)) (go (offer (h .book) i j) (price-small (h .book) (h .tables .accepted) i j))
+  where
+    go : (x : Option ℕ) → orNone x ≤ 1000000 → costIn (joinOf x) ≤ 1000000
+    go none k = k
+    go (some c) k = k

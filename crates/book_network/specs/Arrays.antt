@@ -64,8 +64,14 @@ pub record Adds (A : Arrays) (m : ℕ) (B : Arrays) (r : ℕ) (some : List Arc) 
   pub adds : (l rest : List Arc) → length l ≤ 512 → Progress l A m (some ++ rest) → Progress l B r rest
 
 -- the joins and the opening arc of entry j, of each book that the tables hold
-pub record AddsJoins (fee : ℕ) (ticks costs instruments starts finishes : List ℕ) (j : ℕ) (A : Arrays) (m : ℕ) (B : Arrays) (r : ℕ) : Type 0 where
-  pub each : (b : Book) → Tables b ticks costs instruments starts finishes → fee ≡ b .fee → j ≤ size b → Adds A m B r (map (joinArc b j) (sources b j))
+pub record AddsJoins (fee e : ℕ) (ticks costs instruments starts finishes : List ℕ) (j : ℕ) (A : Arrays) (m : ℕ) (B : Arrays) (r : ℕ) : Type 0 where
+  pub long : Long B
+  pub each : (b : Book) → Tables b e ticks costs instruments starts finishes → fee ≡ b .fee
+      → (l rest : List Arc) → length l ≤ 512 → Progress l A m (map (joinArc b j) (sources b j) ++ rest) → Progress l B r rest
+
+-- the arc from 2j to the last node of a book of e entries
+abbrev pub endTo : ℕ → ℕ → Arc
+endTo e j = record { tail = 2 * j; head = 2 * e + 1; low = 0; up = 1; cost = 0 }
 
 -- the struct of the network of each book that the checked book holds
 pub record MakesNet (s : CheckedBook) (r : Network) : Type 0 where

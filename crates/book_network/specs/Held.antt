@@ -19,8 +19,9 @@ pub record Held (s : CheckedBook) : Type 0 where
   pub holds : Holds book s
 
 -- its arrays, lent one by one
-pub record Tables (b : Book) (ticks costs instruments starts finishes : List ℕ) : Type 0 where
+pub record Tables (b : Book) (e : ℕ) (ticks costs instruments starts finishes : List ℕ) : Type 0 where
   pub accepted : Accepted b
+  pub entries-are : e ≡ size b
   pub ticks-are : ticks ≡ table (λ m. m .ticks + 1) (b .moves)
   pub costs-are : costs ≡ table (λ m. m .cost) (b .moves)
   pub instruments-are : instruments ≡ column (λ e. e .instrument) (b .entries)
@@ -29,5 +30,4 @@ pub record Tables (b : Book) (ticks costs instruments starts finishes : List ℕ
 
 pub record HasTables (e : ℕ) (ticks costs instruments starts finishes : List ℕ) : Type 0 where
   pub book : Book
-  pub tables : Tables book ticks costs instruments starts finishes
-  pub entries : e ≡ size book
+  pub tables : Tables book e ticks costs instruments starts finishes

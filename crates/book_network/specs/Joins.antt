@@ -34,5 +34,5 @@ abbrev pub linkBy : ℕ → ℕ → ℕ → ℕ → Option Move
 linkBy a b t c = cond (eqb a b) (some stay) (moveBy t c)
 
 -- the join from i to j, of each book that the tables hold
-pub record Joins (ticks costs instruments starts finishes : List ℕ) (i j : ℕ) (r : Join) : Type 0 where
-  pub each : (b : Book) → Tables b ticks costs instruments starts finishes → i ≤ size b → j ≤ size b → r ≡ joinOf (offer b i j)
+pub record Joins (e : ℕ) (ticks costs instruments starts finishes : List ℕ) (i j : ℕ) (r : Join) : Type 0 where
+  pub each : (b : Book) → Tables b e ticks costs instruments starts finishes → r ≡ joinOf (offer b i j)

@@ -14,7 +14,7 @@ room c = can-read (c .args .i) (c .args .j) (c .pre .0) (c .pre .1) (c .pre .2) 
 returns : tie.Need-returns
 returns c =
     let s = c .before .before .before .before .before .before in
-    record { each = λ b T h k. join-self b _ _ _ _ _ T _ _ (s .pre .1) h (s .pre .3) k (c .if1 .taken) }
+    record { each = λ b T. join-self b _ _ _ _ _ _ T _ _ (s .pre .1) (omega (arith, s .pre .2, T .entries-are)) (s .pre .3) (omega (arith, s .pre .4, T .entries-are)) (c .if1 .taken) }
 
 -- src/lib.rt:61:25
 sub-a : tie.Need-sub-a
@@ -108,7 +108,7 @@ join-by-requires c κs = let r = room (c .before .before .before .before .before
 returns-2 : tie.Need-returns-2
 returns-2 c =
     let s = c .before .before .before .before .before .before .before .before .before .before .before .before .before in
-    record { each = λ b T h k. c .join-by .ensures ∙ join-told b _ _ _ _ _ T _ _ (s .pre .1) h (s .pre .3) k (c .before .before .before .before .before .before .before .if1 .left) _ _ refl refl }
+    record { each = λ b T. c .join-by .ensures ∙ join-told b _ _ _ _ _ _ T _ _ (s .pre .1) (omega (arith, s .pre .2, T .entries-are)) (s .pre .3) (omega (arith, s .pre .4, T .entries-are)) (c .before .before .before .before .before .before .before .if1 .left) _ _ refl refl }
 
 pub join-of-spec : {M : Type 1} → statement M
 join-of-spec =

@@ -1,0 +1,42 @@
+use borrow.Author.Needs.{needs}
+use Rattle.book_network.proofs.balances_of.Statement.{statement}
+use Rattle.book_network.proofs.balances_of.Tie as tie
+use Rattle.book_network.proofs.balances_of.Reads as reads
+use Rattle.book_network.proofs.balances_of.Lts as lts
+
+-- src/lib.rt:188:13
+cast-p : tie.Need-cast-p
+cast-p c = search needs
+
+-- src/lib.rt:189:5
+array-set-from-r : tie.Need-array-set-from-r
+array-set-from-r c = search needs
+
+-- src/lib.rt:190:20
+sub-r : tie.Need-sub-r
+sub-r c = ?
+
+-- src/lib.rt:190:7
+mul-r : tie.Need-mul-r
+mul-r c = search needs
+
+-- src/lib.rt:190:7
+add-r : tie.Need-add-r
+add-r c = search needs
+
+-- src/lib.rt:190:5
+mul-r-2 : tie.Need-mul-r-2
+mul-r-2 c = search needs
+
+-- src/lib.rt:190:5
+array-set-from-r-2 : tie.Need-array-set-from-r-2
+array-set-from-r-2 c = search needs
+
+-- src/lib.rt:183:1
+returns : tie.Need-returns
+returns c = ?
+
+pub balances-of-spec : {M : Type 1} → statement M
+balances-of-spec =
+    tie.close
+    (tie.spec cast-p array-set-from-r sub-r mul-r add-r mul-r-2 array-set-from-r-2 returns)
