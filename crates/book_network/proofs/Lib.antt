@@ -1,2 +1,3 @@
 mod Lookup
 mod Progress
+mod Balances

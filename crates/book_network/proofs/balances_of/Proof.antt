@@ -3,38 +3,31 @@ use Rattle.book_network.proofs.balances_of.Statement.{statement}
 use Rattle.book_network.proofs.balances_of.Tie as tie
 use Rattle.book_network.proofs.balances_of.Reads as reads
 use Rattle.book_network.proofs.balances_of.Lts as lts
+use Rattle.book_network.proofs.Balances.{less-fits, balances-set}
 
--- src/lib.rt:188:13
 cast-p : tie.Need-cast-p
 cast-p c = search needs
 
--- src/lib.rt:189:5
 array-set-from-r : tie.Need-array-set-from-r
 array-set-from-r c = search needs
 
--- src/lib.rt:190:20
 sub-r : tie.Need-sub-r
-sub-r c = ?
+sub-r c = less-fits (c .args .players) (c .pre .0)
 
--- src/lib.rt:190:7
 mul-r : tie.Need-mul-r
 mul-r c = search needs
 
--- src/lib.rt:190:7
 add-r : tie.Need-add-r
 add-r c = search needs
 
--- src/lib.rt:190:5
 mul-r-2 : tie.Need-mul-r-2
 mul-r-2 c = search needs
 
--- src/lib.rt:190:5
 array-set-from-r-2 : tie.Need-array-set-from-r-2
 array-set-from-r-2 c = search needs
 
--- src/lib.rt:183:1
 returns : tie.Need-returns
-returns c = ?
+returns c = balances-set (c .args .players) (c .pre .0) (c .args .e) (c .pre .1)
 
 pub balances-of-spec : {M : Type 1} → statement M
 balances-of-spec =
