@@ -3,7 +3,7 @@ use mathlib.Core.Path.{_≡_}
 use mathlib.Core.Bool.{cond}
 use mathlib.Core.List.{List, [], _∷_, _++_, map}
 use Prim.Native.Nat.{ℕ, zero, suc, _+_, _*_, _-_, _≤_}
-use lib.ListN.{length, set, drop}
+use lib.ListN.{length, set, drop, replicate}
 use lib.IntN.{ℤ, pos}
 use Rattle.laws.specs.Padded.{filled}
 use Rattle.laws.specs.Within.{from}
@@ -13,7 +13,7 @@ use Rattle.book.specs.Book.{Book}
 use Rattle.book.specs.declared.CheckedBook.{CheckedBook}
 use Rattle.allocation.specs.Follow.{size}
 use Rattle.allocation.specs.Ways.{oneIf}
-use Rattle.allocation.specs.BookNet.{Arc, sources, joinArc, entryArc, endArc, bookNet}
+use Rattle.allocation.specs.BookNet.{Arc, sources, joinArc, entryArc, bookArcs, bookNet}
 use Rattle.book_network.specs.declared.Join.{Join}
 use Rattle.book_network.specs.Held.{Holds, Tables}
 use Rattle.book_network.specs.Joins.{isJoin, costIn}
@@ -72,6 +72,14 @@ pub record AddsJoins (fee e : ℕ) (ticks costs instruments starts finishes : Li
 -- the arc from 2j to the last node of a book of e entries
 abbrev pub endTo : ℕ → ℕ → Arc
 endTo e j = record { tail = 2 * j; head = 2 * e + 1; low = 0; up = 1; cost = 0 }
+
+abbrev pub blank : Arrays
+blank = arrays (replicate 512 0) (replicate 512 0) (replicate 512 0) (replicate 512 0) (replicate 512 (pos 0))
+
+-- all arcs of each book that the tables hold
+pub record AddsAll (players fee e : ℕ) (ticks costs instruments starts finishes : List ℕ) (B : Arrays) (r : ℕ) : Type 0 where
+  pub long : Long B
+  pub each : (b : Book) → Tables b e ticks costs instruments starts finishes → fee ≡ b .fee → players ≡ b .players → Progress (bookArcs b) B r []
 
 -- the struct of the network of each book that the checked book holds
 pub record MakesNet (s : CheckedBook) (r : Network) : Type 0 where

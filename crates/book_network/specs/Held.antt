@@ -31,3 +31,9 @@ pub record Tables (b : Book) (e : ℕ) (ticks costs instruments starts finishes 
 pub record HasTables (e : ℕ) (ticks costs instruments starts finishes : List ℕ) : Type 0 where
   pub book : Book
   pub tables : Tables book e ticks costs instruments starts finishes
+
+pub record HasBook (players fee e : ℕ) (ticks costs instruments starts finishes : List ℕ) : Type 0 where
+  pub book : Book
+  pub tables : Tables book e ticks costs instruments starts finishes
+  pub players-is : players ≡ book .players
+  pub fee-is : fee ≡ book .fee

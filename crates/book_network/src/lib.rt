@@ -11,9 +11,9 @@ ghost use Rattle.laws.specs.Within.{from};
 ghost use Rattle.allocation.specs.Follow.{inTime};
 ghost use Rattle.allocation.specs.Ways.{oneIf};
 ghost use Rattle.allocation.specs.BookNet.{entryArc};
-ghost use Rattle.book_network.specs.Held.{Held, HasTables};
+ghost use Rattle.book_network.specs.Held.{Held, HasTables, HasBook};
 ghost use Rattle.book_network.specs.Joins.{joinOf, isJoin, costIn, linkBy, Joins};
-ghost use Rattle.book_network.specs.Arrays.{arrays, Long, put, putIf, endTo, Adds, AddsJoins, MakesNet};
+ghost use Rattle.book_network.specs.Arrays.{arrays, Long, put, putIf, endTo, Adds, AddsJoins, blank, AddsAll, MakesNet};
 
 // The cost of a join, or that there is none.
 pub enum Join {
@@ -191,6 +191,64 @@ fn balances_of(players: u32, e: usize) -> [i32; 64]
     r
 }
 
+// All arcs, put into arrays of zeros; gives how many there are.
+fn put_arcs<'a>(
+    players: u32,
+    fee: u32,
+    e: usize,
+    ticks: &'a [u32],
+    prices: &'a [u32],
+    instruments: &'a [u32],
+    starts: &'a [u32],
+    finishes: &'a [u32],
+    tails: &mut [u8],
+    heads: &mut [u8],
+    lows: &mut [u32],
+    ups: &mut [u32],
+    costs: &mut [i32],
+) -> usize
+    requires { ⌜ HasBook players fee e (now ticks) (now prices) (now instruments) (now starts) (now finishes) × (arrays (now tails) (now heads) (now lows) (now ups) (now costs) ≡ blank) ⌝ }
+    ensures { λ r. ⌜ AddsAll players fee e (now (ticks .entry)) (now (prices .entry)) (now (instruments .entry)) (now (starts .entry)) (now (finishes .entry)) (arrays (now (tails .exit)) (now (heads .exit)) (now (lows .exit)) (now (ups .exit)) (now (costs .exit))) r ⌝ }
+{
+    let mut m = 0;
+    let mut j = 1;
+    while j <= e {
+        m = put_joins(
+            fee,
+            e,
+            ticks,
+            prices,
+            instruments,
+            starts,
+            finishes,
+            j,
+            tails,
+            heads,
+            lows,
+            ups,
+            costs,
+            m,
+        );
+        j += 1;
+    }
+    put_entries(e, tails, heads, lows, ups, costs, m);
+    put_ends(e, tails, heads, lows, ups, costs, m + e);
+    put_arc(
+        tails,
+        heads,
+        lows,
+        ups,
+        costs,
+        m + e + e,
+        0,
+        2 * e + 1,
+        0,
+        players,
+        0,
+    );
+    m + e + e + 1
+}
+
 // The network of a book.
 pub fn network_of(book: CheckedBook) -> Network
     requires { ⌜ Held book ⌝ }
@@ -198,7 +256,6 @@ pub fn network_of(book: CheckedBook) -> Network
 {
     let e = book.count;
     let players = book.players;
-    let fee = book.fee;
     let ticks = book.ticks;
     let prices = book.costs;
     let instruments = book.instruments;
@@ -209,62 +266,25 @@ pub fn network_of(book: CheckedBook) -> Network
     let mut lows = [0u32; 512];
     let mut ups = [0u32; 512];
     let mut costs = [0i32; 512];
-    let mut m = 0;
-    let mut j = 1;
-    while j <= e {
-        m = put_joins(
-            fee,
-            e,
-            &ticks,
-            &prices,
-            &instruments,
-            &starts,
-            &finishes,
-            j,
-            &mut tails,
-            &mut heads,
-            &mut lows,
-            &mut ups,
-            &mut costs,
-            m,
-        );
-        j += 1;
-    }
-    put_entries(
-        e,
-        &mut tails,
-        &mut heads,
-        &mut lows,
-        &mut ups,
-        &mut costs,
-        m,
-    );
-    put_ends(
-        e,
-        &mut tails,
-        &mut heads,
-        &mut lows,
-        &mut ups,
-        &mut costs,
-        m + e,
-    );
-    put_arc(
-        &mut tails,
-        &mut heads,
-        &mut lows,
-        &mut ups,
-        &mut costs,
-        m + 2 * e,
-        0,
-        2 * e + 1,
-        0,
+    let m = put_arcs(
         players,
-        0,
+        book.fee,
+        e,
+        &ticks,
+        &prices,
+        &instruments,
+        &starts,
+        &finishes,
+        &mut tails,
+        &mut heads,
+        &mut lows,
+        &mut ups,
+        &mut costs,
     );
     let balances = balances_of(players, e);
     Network {
         nodes: 2 * e + 2,
-        arcs: m + 2 * e + 1,
+        arcs: m,
         balances: balances,
         tails: tails,
         heads: heads,
