@@ -1,12 +1,12 @@
 -- A join by the numbers of the tables is the join of each book that the tables hold.
-use mathlib.Core.Path.{_≡_, refl, sym, ap, _∙_}
+use mathlib.Core.Path.{_≡_, refl, ap, _∙_}
 use mathlib.Core.Bool.{Bool, true, false, cond}
 use mathlib.Core.Option.{Option, none, some}
 use mathlib.Core.List.{List, map}
 use Prim.Native.Nat.{ℕ, zero, suc, _+_, _*_, _-_, _≤_, _<_}
 use native.Mathlib.Omega.{arith}
 use native.Mathlib.Numerals.{add-one}
-use lib.Dec.{eqb, leb}
+use lib.Dec.{eqb}
 use lib.ListN.{length, getD, length-map, length-append, length-replicate, replicate}
 use borrow.Author.Tests.{eq-eqb, ne-eqb, le-leb, lt-leb}
 use Rattle.laws.specs.Padded.{padded}
@@ -17,12 +17,11 @@ use Rattle.lines.specs.Questions.{moveOf}
 use Rattle.lines.specs.Columns.{valueOf, table, column}
 use Rattle.lines.proofs.Table.{fair-parts, table-at}
 use Rattle.book.specs.Book.{Book}
-use Rattle.book.proofs.Accepted.{Accepted}
 use Rattle.book.proofs.Judging.{column-at}
 use Rattle.allocation.specs.Follow.{size, entryAt, stay, link, inTime}
 use Rattle.allocation.specs.Ways.{offer, orNone}
 use Rattle.allocation.proofs.Accepted.{price-small}
-use Rattle.allocation.proofs.Fair.{FairEntry, fair-entry, cost-high}
+use Rattle.allocation.proofs.Fair.{FairEntry, fair-entry}
 use Rattle.book_network.specs.declared.Join.{Join}
 use Rattle.book_network.specs.declared.Join.the-variants.{No, At}
 use Rattle.book_network.specs.Held.{Tables, HasTables}
@@ -143,9 +142,15 @@ module _ (b : Book) (e : ℕ) (ticks costs instruments starts finishes : List �
         let v = f ∙ instrument-at j j-low j-high in
         let g = fair-at i i-low i-high in
         let h = fair-at j j-low j-high in
-        rw (ticks-at p q (rw u (g .instrument-low)) (rw u (g .instrument-high)) (rw v (h .instrument-low)) (rw v (h .instrument-high)),
+        rw (
+          ticks-at p q (rw u (g .instrument-low)) (rw u (g .instrument-high)) (rw v (h .instrument-low)) (rw v (h .instrument-high)),
           costs-at p q (rw u (g .instrument-low)) (rw u (g .instrument-high)) (rw v (h .instrument-low)) (rw v (h .instrument-high)),
-          finish-at i i-low i-high, start-at j j-low j-high, offer-apart n, u, v)
+          finish-at i i-low i-high,
+          start-at j j-low j-high,
+          offer-apart n,
+          u,
+          v,
+        )
         (ap joinOf (link-told (entryAt b i .instrument) (entryAt b j .instrument) (entryAt b i .finish) (entryAt b j .start) (moveOf (b .moves) (entryAt b i .instrument) (entryAt b j .instrument))))
 
 -- what can be read for the join from i to j

@@ -1,10 +1,10 @@
 -- All arcs of a book's network in the arrays, and the struct of it.
-use mathlib.Core.Path.{_≡_, refl, sym, ap, subst, _∙_}
+use mathlib.Core.Path.{_≡_, refl, sym, ap, ap₂, subst, _∙_}
 use mathlib.Core.List.{List, [], _∷_, _++_, map, append-assoc}
 use Prim.Native.Nat.{ℕ, zero, suc, _+_, _*_, _-_, _≤_, _<_}
 use native.Mathlib.Omega.{arith}
-use lib.ListN.{length, drop, length-append, length-map}
-use lib.IntN.{ℤ, pos}
+use lib.ListN.{length, drop, replicate, length-append}
+use lib.IntN.{ℤ, pos, negℤ}
 use Rattle.laws.specs.Padded.{padded, filled-all}
 use Rattle.laws.specs.Within.{from}
 use Rattle.network.specs.declared.Network.{Network}
@@ -17,8 +17,8 @@ use Rattle.allocation.specs.BookNet.{Arc, balancesOf, sources, joinArc, joinArc
 use Rattle.allocation.proofs.Rows.{row-length}
 use Rattle.allocation.proofs.Nodes.{count-arcs, nodes-count}
 use Rattle.allocation.proofs.Size.{arcs-few}
-use Rattle.book_network.specs.Held.{Holds, Tables, HasTables, HasBook}
-use Rattle.book_network.specs.Arrays.{Arrays, arrays, Long, put, endTo, Progress, Adds, AddsJoins, blank, AddsAll}
+use Rattle.book_network.specs.Held.{Holds, Held, Tables, HasBook}
+use Rattle.book_network.specs.Arrays.{Arrays, Long, put, endTo, Progress, Adds, AddsJoins, blank, AddsAll, MakesNet}
 use Rattle.book_network.proofs.Progress.{put-long, progress-put}
 
 length-drop : {A : Type 0} (m : ℕ) (l : List A) → m ≤ length l → m + length (drop m l) ≡ length l
@@ -106,7 +106,7 @@ same : {n n′ m m′ : ℕ} {b b′ c c′ : List ℤ} {t t′ d d′ l l′ u 
     (record { nodes = n′; arcs = m′; balances = b′; tails = t′; heads = d′; lows = l′; ups = u′; costs = c′ })
 same p q r s v w x y = cc
 
-pub tables-of : (b : Book) (s : CheckedBook) → Holds b s → Tables b (s .count) (s .ticks) (s .costs) (s .instruments) (s .starts) (s .finishes)
+tables-of : (b : Book) (s : CheckedBook) → Holds b s → Tables b (s .count) (s .ticks) (s .costs) (s .instruments) (s .starts) (s .finishes)
 tables-of b s h = record {
   accepted = h .accepted;
   entries-are = ap (λ (x : CheckedBook). x .count) (h .is);
@@ -117,17 +117,40 @@ tables-of b s h = record {
   finishes-are = ap (λ (x : CheckedBook). x .finishes) (h .is);
 }
 
-pub players-of : (b : Book) (s : CheckedBook) → Holds b s → s .players ≡ b .players
+players-of : (b : Book) (s : CheckedBook) → Holds b s → s .players ≡ b .players
 players-of b s h = ap (λ (x : CheckedBook). x .players) (h .is)
 
-pub fee-of : (b : Book) (s : CheckedBook) → Holds b s → s .fee ≡ b .fee
+fee-of : (b : Book) (s : CheckedBook) → Holds b s → s .fee ≡ b .fee
 fee-of b s h = ap (λ (x : CheckedBook). x .fee) (h .is)
 
-pub struct-made : (b : Book) (players e : ℕ) (A : Arrays) (r : ℕ) (balances : List ℤ) → e ≡ size b → balances ≡ padded 64 (pos 0) (balancesOf b) → Progress (bookArcs b) A r []
+struct-made : (b : Book) (e : ℕ) (A : Arrays) (r : ℕ) (balances : List ℤ) → e ≡ size b → balances ≡ padded 64 (pos 0) (balancesOf b) → Progress (bookArcs b) A r []
     → _≡_ {A = Network} (record { nodes = 2 * e + 2; arcs = r; balances = balances; tails = A .tails; heads = A .heads; lows = A .lows; ups = A .ups; costs = A .costs }) (structOf (bookNet b))
-struct-made b players e A r balances n w p =
+struct-made b e A r balances n w p =
     let all : r ≡ length (bookArcs b) = (let q = progress-room (bookArcs b) A r [] p in omega arith) in
     same (ap (λ k. 2 * k + 2) n ∙ sym (nodes-count b)) (all ∙ sym (count-arcs b)) w
     (p .tails-are ∙ filled-all (λ a. a .tail) (bookArcs b) 512 0 r all) (p .heads-are ∙ filled-all (λ a. a .head) (bookArcs b) 512 0 r all)
     (p .lows-are ∙ filled-all (λ a. a .low) (bookArcs b) 512 0 r all) (p .ups-are ∙ filled-all (λ a. a .up) (bookArcs b) 512 0 r all)
     (p .costs-are ∙ filled-all (λ a. pos (a .cost)) (bookArcs b) 512 (pos 0) r all)
+
+pub has-book : (s : CheckedBook) → Held s → HasBook (s .players) (s .fee) (s .count) (s .ticks) (s .costs) (s .instruments) (s .starts) (s .finishes)
+has-book s h = record { book = h .book; tables = tables-of (h .book) s (h .holds); players-is = players-of (h .book) s (h .holds); fee-is = fee-of (h .book) s (h .holds) }
+
+pub few-entries : (s : CheckedBook) → Held s → s .count ≤ 28
+few-entries s h = omega (arith, tables-of (h .book) s (h .holds) .entries-are, h .holds .accepted .few)
+
+pub few-players : (s : CheckedBook) → Held s → s .players ≤ 8
+few-players s h = omega (arith, players-of (h .book) s (h .holds), h .holds .accepted .players-high)
+
+-- the struct of the arrays is that of the network of each book that s holds
+pub makes-net : (s : CheckedBook) (A : Arrays) (r : ℕ) (balances : List ℤ)
+    → balances ≡ padded 64 (pos 0) (pos (s .players) ∷ (replicate (2 * s .count) (pos 0) ++ (negℤ (pos (s .players)) ∷ [])))
+    → AddsAll (s .players) (s .fee) (s .count) (s .ticks) (s .costs) (s .instruments) (s .starts) (s .finishes) A r
+    → MakesNet s (record { nodes = 2 * s .count + 2; arcs = r; balances = balances; tails = A .tails; heads = A .heads; lows = A .lows; ups = A .ups; costs = A .costs })
+makes-net s A r balances w a = record {
+  each = λ b h.
+      (let T = tables-of b s h in
+      let p = players-of b s h in
+      let n = T .entries-are in
+      struct-made b (s .count) A r balances n
+      (w ∙ ap₂ (λ p n. padded 64 (pos 0) (pos p ∷ (replicate (2 * n) (pos 0) ++ (negℤ (pos p) ∷ [])))) p n) (a .each b T (fee-of b s h) p));
+}

@@ -1,6 +1,5 @@
 -- Arcs put one after another into the arrays.
 use mathlib.Core.Path.{_≡_, refl, sym, ap, ap₂, subst, _∙_}
-use mathlib.Core.Bool.{Bool, true, false, cond}
 use mathlib.Core.Option.{Option, none, some}
 use mathlib.Core.List.{List, [], _∷_, _++_, map}
 use Prim.Native.Nat.{ℕ, zero, suc, _+_, _*_, _-_, _≤_, _<_}
@@ -13,14 +12,13 @@ use Rattle.laws.specs.Within.{from}
 use Rattle.laws.specs.Members.{keep, keepIf}
 use Rattle.laws.specs.Equality.{heads-same, tails-same, nil-cons}
 use Rattle.book.specs.Book.{Book}
-use Rattle.allocation.specs.Follow.{size}
 use Rattle.allocation.specs.Ways.{offer, given?, orNone, permits, oneIf}
 use Rattle.allocation.specs.BookNet.{Arc, down, sources, price, joinArc, entryArc}
 use Rattle.allocation.proofs.Nodes.{noArc}
 use Rattle.book_network.specs.declared.Join.{Join}
 use Rattle.book_network.specs.declared.Join.the-variants.{No, At}
 use Rattle.book_network.specs.Held.{Tables}
-use Rattle.book_network.specs.Joins.{joinOf, isJoin, costIn, Joins}
+use Rattle.book_network.specs.Joins.{joinOf, isJoin, Joins}
 use Rattle.book_network.specs.Arrays.{Arrays, Long, put, arcBy, putIf, endTo, Progress, Adds, AddsJoins}
 
 -- the next arc ahead is arc m

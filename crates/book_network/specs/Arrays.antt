@@ -1,19 +1,16 @@
 -- The arrays of a network, filled arc after arc.
 use mathlib.Core.Path.{_≡_}
 use mathlib.Core.Bool.{cond}
-use mathlib.Core.List.{List, [], _∷_, _++_, map}
-use Prim.Native.Nat.{ℕ, zero, suc, _+_, _*_, _-_, _≤_}
+use mathlib.Core.List.{List, [], _++_, map}
+use Prim.Native.Nat.{ℕ, _+_, _*_, _-_, _≤_}
 use lib.ListN.{length, set, drop, replicate}
 use lib.IntN.{ℤ, pos}
 use Rattle.laws.specs.Padded.{filled}
-use Rattle.laws.specs.Within.{from}
 use Rattle.network.specs.Checked.{structOf}
 use Rattle.network.specs.declared.Network.{Network}
 use Rattle.book.specs.Book.{Book}
 use Rattle.book.specs.declared.CheckedBook.{CheckedBook}
-use Rattle.allocation.specs.Follow.{size}
-use Rattle.allocation.specs.Ways.{oneIf}
-use Rattle.allocation.specs.BookNet.{Arc, sources, joinArc, entryArc, bookArcs, bookNet}
+use Rattle.allocation.specs.BookNet.{Arc, sources, joinArc, bookArcs, bookNet}
 use Rattle.book_network.specs.declared.Join.{Join}
 use Rattle.book_network.specs.Held.{Holds, Tables}
 use Rattle.book_network.specs.Joins.{isJoin, costIn}

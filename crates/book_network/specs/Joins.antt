@@ -3,11 +3,11 @@ use mathlib.Core.Path.{_≡_}
 use mathlib.Core.Bool.{Bool, true, false, cond}
 use mathlib.Core.Option.{Option, none, some}
 use mathlib.Core.List.{List}
-use Prim.Native.Nat.{ℕ, zero, suc, _≤_}
+use Prim.Native.Nat.{ℕ, zero, suc}
 use lib.Dec.{eqb}
 use Rattle.lines.specs.declared.moves.Move.{Move}
 use Rattle.book.specs.Book.{Book}
-use Rattle.allocation.specs.Follow.{size, stay}
+use Rattle.allocation.specs.Follow.{stay}
 use Rattle.allocation.specs.Ways.{offer}
 use Rattle.book_network.specs.declared.Join.{Join}
 use Rattle.book_network.specs.declared.Join.the-variants.{No, At}

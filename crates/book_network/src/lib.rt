@@ -61,7 +61,14 @@ fn join_of<'a>(
     let a = instruments[i - 1];
     let b = instruments[j - 1];
     let place = ((a - 1) * 16 + (b - 1)) as usize;
-    join_by(a, b, ticks[place], costs[place], finishes[i - 1], starts[j - 1])
+    join_by(
+        a,
+        b,
+        ticks[place],
+        costs[place],
+        finishes[i - 1],
+        starts[j - 1],
+    )
 }
 
 // An arc, put at m.
@@ -157,7 +164,19 @@ fn put_entries(
     ensures { λ _. ⌜ Adds (arrays (now (tails .entry)) (now (heads .entry)) (now (lows .entry)) (now (ups .entry)) (now (costs .entry))) m (arrays (now (tails .exit)) (now (heads .exit)) (now (lows .exit)) (now (ups .exit)) (now (costs .exit))) (m + e) (map entryArc (from e 1)) ⌝ }
 {
     for k in 0..e {
-        put_arc(tails, heads, lows, ups, costs, m + k, 2 * k + 1, 2 * k + 2, 1, 1, 0);
+        put_arc(
+            tails,
+            heads,
+            lows,
+            ups,
+            costs,
+            m + k,
+            2 * k + 1,
+            2 * k + 2,
+            1,
+            1,
+            0,
+        );
     }
 }
 
@@ -175,7 +194,19 @@ fn put_ends(
     ensures { λ _. ⌜ Adds (arrays (now (tails .entry)) (now (heads .entry)) (now (lows .entry)) (now (ups .entry)) (now (costs .entry))) m (arrays (now (tails .exit)) (now (heads .exit)) (now (lows .exit)) (now (ups .exit)) (now (costs .exit))) (m + e) (map (endTo e) (from e 1)) ⌝ }
 {
     for k in 0..e {
-        put_arc(tails, heads, lows, ups, costs, m + k, 2 * k + 2, 2 * e + 1, 0, 1, 0);
+        put_arc(
+            tails,
+            heads,
+            lows,
+            ups,
+            costs,
+            m + k,
+            2 * k + 2,
+            2 * e + 1,
+            0,
+            1,
+            0,
+        );
     }
 }
 

@@ -1,8 +1,6 @@
 use borrow.Author.Needs.{needs}
 use Rattle.book_network.proofs.balances_of.Statement.{statement}
 use Rattle.book_network.proofs.balances_of.Tie as tie
-use Rattle.book_network.proofs.balances_of.Reads as reads
-use Rattle.book_network.proofs.balances_of.Lts as lts
 use Rattle.book_network.proofs.Balances.{less-fits, balances-set}
 
 cast-p : tie.Need-cast-p

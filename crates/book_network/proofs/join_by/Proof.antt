@@ -1,10 +1,7 @@
-use native.Mathlib.Omega.{arith}
 use borrow.Author.Needs.{needs}
 use Rattle.book_network.proofs.Lookup.{by-stay, by-late, by-none, by-move, by-slow}
 use Rattle.book_network.proofs.join_by.Statement.{statement}
 use Rattle.book_network.proofs.join_by.Tie as tie
-use Rattle.book_network.proofs.join_by.Reads as reads
-use Rattle.book_network.proofs.join_by.Lts as lts
 
 -- src/lib.rt:31:13
 returns : tie.Need-returns

@@ -4,9 +4,6 @@ use borrow.Author.Needs.{needs}
 use Rattle.book_network.proofs.Lookup.{CanRead, can-read, join-self, join-told}
 use Rattle.book_network.proofs.join_of.Statement.{statement}
 use Rattle.book_network.proofs.join_of.Tie as tie
-use Rattle.book_network.proofs.join_of.Reads as reads
-use Rattle.book_network.proofs.join_of.Lts as lts
-use Rattle.book_network.proofs.join_by.Reads as join-by-reads
 
 room : (c : tie.Start) → CanRead (c .args .ticks .now) (c .args .costs .now) (c .args .instruments .now) (c .args .starts .now) (c .args .finishes .now) (c .args .i) (c .args .j)
 room c = can-read (c .args .i) (c .args .j) (c .pre .0) (c .pre .1) (c .pre .2) (c .pre .3) (c .pre .4)

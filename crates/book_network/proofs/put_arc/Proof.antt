@@ -7,8 +7,6 @@ use borrow.Author.Needs.{needs}
 use Rattle.book_network.specs.Arrays.{arrays}
 use Rattle.book_network.proofs.put_arc.Statement.{statement}
 use Rattle.book_network.proofs.put_arc.Tie as tie
-use Rattle.book_network.proofs.put_arc.Reads as reads
-use Rattle.book_network.proofs.put_arc.Lts as lts
 
 -- src/lib.rt:84:16
 cast-tails : tie.Need-cast-tails

@@ -1,12 +1,6 @@
 use Rattle.book_network.proofs.put_arcs.Statement.{statement}
 use Rattle.book_network.proofs.put_arcs.Tie as tie
-use Rattle.book_network.proofs.put_arcs.Reads as reads
-use Rattle.book_network.proofs.put_arcs.Lts as lts
-use Rattle.book_network.proofs.put_arc.Reads as put-arc-reads
-use Rattle.book_network.proofs.put_ends.Reads as put-ends-reads
-use Rattle.book_network.proofs.put_entries.Reads as put-entries-reads
-use Rattle.book_network.proofs.put_joins.Reads as put-joins-reads
-use mathlib.Core.Path.{_≡_, sym, ap, _∙_}
+use mathlib.Core.Path.{sym, ap, _∙_}
 use mathlib.Core.List.{List}
 use Prim.Native.Nat.{ℕ, _+_, _-_, _≤_}
 use native.Mathlib.Omega.{arith}
@@ -19,7 +13,7 @@ few-entries : {players fee e : ℕ} {ticks prices instruments starts finishes : 
 few-entries h = omega (arith, h .tables .entries-are, h .tables .accepted .few)
 
 abbrev Inv-loop : tie.InvT-loop
-Inv-loop players fee e ticks prices instruments starts finishes tails₀ heads₀ lows₀ ups₀ costs₀ m₀ j₀ tails heads lows ups costs m j = 
+Inv-loop players fee e ticks prices instruments starts finishes tails₀ heads₀ lows₀ ups₀ costs₀ m₀ j₀ tails heads lows ups costs m j =
     Outer fee e ticks prices instruments starts finishes (arrays tails heads lows ups costs) m j
 
 abbrev μ-loop : tie.MeasureT-loop
@@ -29,7 +23,7 @@ loop-holds : tie.Need-loop-holds Inv-loop μ-loop
 loop-holds c = let s = c .before .before .before .before .before .before .before .before .before in let x = s .args in outer-start (x .fee) (x .e) (x .ticks .now) (x .prices .now) (x .instruments .now) (x .starts .now) (x .finishes .now) _ (s .pre .1)
 
 put-joins-requires : tie.Need-put-joins-requires Inv-loop μ-loop
-put-joins-requires c κs = 
+put-joins-requires c κs =
     let s = c .before .before .before .before .before .before .before .before .before .before .before .before .before .before .before .before in
     let x = s .args in
     let l = c .before .before .before .before .before .before .loop in
@@ -43,13 +37,13 @@ loop-less : tie.Need-loop-less Inv-loop μ-loop
 loop-less c = omega (arith, c .before .before .before .before .before .before .before .before .before .before .before .before .before .before .before .loop-test .taken)
 
 loop-again : tie.Need-loop-again Inv-loop μ-loop
-loop-again c = 
+loop-again c =
     let x = c .before .before .before .before .before .before .before .before .before .before .before .before .before .before .before .before .before .before .before .before .before .before .before .before .before .before .args in
     let l = c .before .before .before .before .before .before .before .before .before .before .before .before .before .before .before .before .loop in
     outer-on (x .fee) (x .e) (x .ticks .now) (x .prices .now) (x .instruments .now) (x .starts .now) (x .finishes .now) (arrays (l .tails) (l .heads) (l .lows) (l .ups) (l .costs)) _ (l .m) _ (l .j) (l .inv) (omega (arith, c .before .before .before .before .before .before .before .before .before .before .before .before .before .before .before .loop-test .taken)) (c .before .before .before .before .before .before .before .before .before .put-joins .ensures)
 
 put-entries-requires : tie.Need-put-entries-requires Inv-loop μ-loop
-put-entries-requires c κs = 
+put-entries-requires c κs =
     let x = c .before .before .before .before .before .before .before .before .before .before .before .before .before .before .before .before .args in
     let l = c .before .before .before .before .before .before .loop in
     let r = rows-room (x .fee) (x .e) (x .ticks .now) (x .prices .now) (x .instruments .now) (x .starts .now) (x .finishes .now) (x .players) (c .before .before .before .before .before .before .before .before .before .before .before .before .before .before .before .before .pre .0) (arrays (l .tails) (l .heads) (l .lows) (l .ups) (l .costs)) (l .m) (l .j) (l .inv) (omega (arith, c .before .before .before .before .before .loop-test .left)) in
@@ -57,7 +51,7 @@ put-entries-requires c κs =
     (l .inv .long, few, omega arith)
 
 add-put-ends : tie.Need-add-put-ends Inv-loop μ-loop
-add-put-ends c = 
+add-put-ends c =
     let x = c .before .before .before .before .before .before .before .before .before .before .before .before .before .before .before .before .before .before .before .before .before .before .before .before .before .before .before .before .before .before .before .args in
     let l = c .before .before .before .before .before .before .before .before .before .before .before .before .before .before .before .before .before .before .before .before .before .loop in
     let r = rows-room (x .fee) (x .e) (x .ticks .now) (x .prices .now) (x .instruments .now) (x .starts .now) (x .finishes .now) (x .players) (c .before .before .before .before .before .before .before .before .before .before .before .before .before .before .before .before .before .before .before .before .before .before .before .before .before .before .before .before .before .before .before .pre .0) (arrays (l .tails) (l .heads) (l .lows) (l .ups) (l .costs)) (l .m) (l .j) (l .inv) (omega (arith, c .before .before .before .before .before .before .before .before .before .before .before .before .before .before .before .before .before .before .before .before .loop-test .left)) in
@@ -65,7 +59,7 @@ add-put-ends c =
     omega arith
 
 put-ends-requires : tie.Need-put-ends-requires Inv-loop μ-loop
-put-ends-requires c κs = 
+put-ends-requires c κs =
     let x = c .before .before .before .before .before .before .before .before .before .before .before .before .before .before .before .before .before .before .before .before .before .before .before .before .before .before .before .before .before .before .before .args in
     let l = c .before .before .before .before .before .before .before .before .before .before .before .before .before .before .before .before .before .before .before .before .before .loop in
     let r = rows-room (x .fee) (x .e) (x .ticks .now) (x .prices .now) (x .instruments .now) (x .starts .now) (x .finishes .now) (x .players) (c .before .before .before .before .before .before .before .before .before .before .before .before .before .before .before .before .before .before .before .before .before .before .before .before .before .before .before .before .before .before .before .pre .0) (arrays (l .tails) (l .heads) (l .lows) (l .ups) (l .costs)) (l .m) (l .j) (l .inv) (omega (arith, c .before .before .before .before .before .before .before .before .before .before .before .before .before .before .before .before .before .before .before .before .loop-test .left)) in
@@ -73,7 +67,7 @@ put-ends-requires c κs =
     (c .before .before .before .before .before .before .before .before .before .before .before .before .before .before .put-entries .ensures .long, few, omega arith)
 
 add-put-arc : tie.Need-add-put-arc Inv-loop μ-loop
-add-put-arc c = 
+add-put-arc c =
     let x = c .before .before .before .before .before .before .before .before .before .before .before .before .before .before .before .before .before .before .before .before .before .before .before .before .before .before .before .before .before .before .before .before .before .before .before .before .before .before .before .before .before .before .before .before .before .before .args in
     let l = c .before .before .before .before .before .before .before .before .before .before .before .before .before .before .before .before .before .before .before .before .before .before .before .before .before .before .before .before .before .before .before .before .before .before .before .before .loop in
     let r = rows-room (x .fee) (x .e) (x .ticks .now) (x .prices .now) (x .instruments .now) (x .starts .now) (x .finishes .now) (x .players) (c .before .before .before .before .before .before .before .before .before .before .before .before .before .before .before .before .before .before .before .before .before .before .before .before .before .before .before .before .before .before .before .before .before .before .before .before .before .before .before .before .before .before .before .before .before .before .pre .0) (arrays (l .tails) (l .heads) (l .lows) (l .ups) (l .costs)) (l .m) (l .j) (l .inv) (omega (arith, c .before .before .before .before .before .before .before .before .before .before .before .before .before .before .before .before .before .before .before .before .before .before .before .before .before .before .before .before .before .before .before .before .before .before .before .loop-test .left)) in
@@ -81,7 +75,7 @@ add-put-arc c =
     omega arith
 
 add-put-arc-2 : tie.Need-add-put-arc-2 Inv-loop μ-loop
-add-put-arc-2 c = 
+add-put-arc-2 c =
     let x = c .before .before .before .before .before .before .before .before .before .before .before .before .before .before .before .before .before .before .before .before .before .before .before .before .before .before .before .before .before .before .before .before .before .before .before .before .before .before .before .before .before .before .before .before .before .before .args in
     let l = c .before .before .before .before .before .before .before .before .before .before .before .before .before .before .before .before .before .before .before .before .before .before .before .before .before .before .before .before .before .before .before .before .before .before .before .before .loop in
     let r = rows-room (x .fee) (x .e) (x .ticks .now) (x .prices .now) (x .instruments .now) (x .starts .now) (x .finishes .now) (x .players) (c .before .before .before .before .before .before .before .before .before .before .before .before .before .before .before .before .before .before .before .before .before .before .before .before .before .before .before .before .before .before .before .before .before .before .before .before .before .before .before .before .before .before .before .before .before .before .pre .0) (arrays (l .tails) (l .heads) (l .lows) (l .ups) (l .costs)) (l .m) (l .j) (l .inv) (omega (arith, c .before .before .before .before .before .before .before .before .before .before .before .before .before .before .before .before .before .before .before .before .before .before .before .before .before .before .before .before .before .before .before .before .before .before .before .loop-test .left)) in
@@ -89,7 +83,7 @@ add-put-arc-2 c =
     omega arith
 
 mul-put-arc : tie.Need-mul-put-arc Inv-loop μ-loop
-mul-put-arc c = 
+mul-put-arc c =
     let x = c .before .before .before .before .before .before .before .before .before .before .before .before .before .before .before .before .before .before .before .before .before .before .before .before .before .before .before .before .before .before .before .before .before .before .before .before .before .before .before .before .before .before .before .before .before .before .args in
     let l = c .before .before .before .before .before .before .before .before .before .before .before .before .before .before .before .before .before .before .before .before .before .before .before .before .before .before .before .before .before .before .before .before .before .before .before .before .loop in
     let r = rows-room (x .fee) (x .e) (x .ticks .now) (x .prices .now) (x .instruments .now) (x .starts .now) (x .finishes .now) (x .players) (c .before .before .before .before .before .before .before .before .before .before .before .before .before .before .before .before .before .before .before .before .before .before .before .before .before .before .before .before .before .before .before .before .before .before .before .before .before .before .before .before .before .before .before .before .before .before .pre .0) (arrays (l .tails) (l .heads) (l .lows) (l .ups) (l .costs)) (l .m) (l .j) (l .inv) (omega (arith, c .before .before .before .before .before .before .before .before .before .before .before .before .before .before .before .before .before .before .before .before .before .before .before .before .before .before .before .before .before .before .before .before .before .before .before .loop-test .left)) in
@@ -97,7 +91,7 @@ mul-put-arc c =
     omega arith
 
 add-put-arc-3 : tie.Need-add-put-arc-3 Inv-loop μ-loop
-add-put-arc-3 c = 
+add-put-arc-3 c =
     let x = c .before .before .before .before .before .before .before .before .before .before .before .before .before .before .before .before .before .before .before .before .before .before .before .before .before .before .before .before .before .before .before .before .before .before .before .before .before .before .before .before .before .before .before .before .before .before .args in
     let l = c .before .before .before .before .before .before .before .before .before .before .before .before .before .before .before .before .before .before .before .before .before .before .before .before .before .before .before .before .before .before .before .before .before .before .before .before .loop in
     let r = rows-room (x .fee) (x .e) (x .ticks .now) (x .prices .now) (x .instruments .now) (x .starts .now) (x .finishes .now) (x .players) (c .before .before .before .before .before .before .before .before .before .before .before .before .before .before .before .before .before .before .before .before .before .before .before .before .before .before .before .before .before .before .before .before .before .before .before .before .before .before .before .before .before .before .before .before .before .before .pre .0) (arrays (l .tails) (l .heads) (l .lows) (l .ups) (l .costs)) (l .m) (l .j) (l .inv) (omega (arith, c .before .before .before .before .before .before .before .before .before .before .before .before .before .before .before .before .before .before .before .before .before .before .before .before .before .before .before .before .before .before .before .before .before .before .before .loop-test .left)) in
@@ -105,7 +99,7 @@ add-put-arc-3 c =
     omega arith
 
 put-arc-requires : tie.Need-put-arc-requires Inv-loop μ-loop
-put-arc-requires c κs = 
+put-arc-requires c κs =
     let x = c .before .before .before .before .before .before .before .before .before .before .before .before .before .before .before .before .before .before .before .before .before .before .before .before .before .before .before .before .before .before .before .before .before .before .before .before .before .before .before .before .before .before .before .before .before .before .args in
     let l = c .before .before .before .before .before .before .before .before .before .before .before .before .before .before .before .before .before .before .before .before .before .before .before .before .before .before .before .before .before .before .before .before .before .before .before .before .loop in
     let r = rows-room (x .fee) (x .e) (x .ticks .now) (x .prices .now) (x .instruments .now) (x .starts .now) (x .finishes .now) (x .players) (c .before .before .before .before .before .before .before .before .before .before .before .before .before .before .before .before .before .before .before .before .before .before .before .before .before .before .before .before .before .before .before .before .before .before .before .before .before .before .before .before .before .before .before .before .before .before .pre .0) (arrays (l .tails) (l .heads) (l .lows) (l .ups) (l .costs)) (l .m) (l .j) (l .inv) (omega (arith, c .before .before .before .before .before .before .before .before .before .before .before .before .before .before .before .before .before .before .before .before .before .before .before .before .before .before .before .before .before .before .before .before .before .before .before .loop-test .left)) in
@@ -113,7 +107,7 @@ put-arc-requires c κs =
     (c .before .before .before .before .before .before .before .before .before .before .before .before .before .before .put-ends .ensures .long, omega arith, omega arith, omega arith, omega arith)
 
 add-result : tie.Need-add-result Inv-loop μ-loop
-add-result c = 
+add-result c =
     let x = c .before .before .before .before .before .before .before .before .before .before .before .before .before .before .before .before .before .before .before .before .before .before .before .before .before .before .before .before .before .before .before .before .before .before .before .before .before .before .before .before .before .before .before .before .before .before .before .before .before .before .before .before .before .before .before .before .args in
     let l = c .before .before .before .before .before .before .before .before .before .before .before .before .before .before .before .before .before .before .before .before .before .before .before .before .before .before .before .before .before .before .before .before .before .before .before .before .before .before .before .before .before .before .before .before .before .before .loop in
     let r = rows-room (x .fee) (x .e) (x .ticks .now) (x .prices .now) (x .instruments .now) (x .starts .now) (x .finishes .now) (x .players) (c .before .before .before .before .before .before .before .before .before .before .before .before .before .before .before .before .before .before .before .before .before .before .before .before .before .before .before .before .before .before .before .before .before .before .before .before .before .before .before .before .before .before .before .before .before .before .before .before .before .before .before .before .before .before .before .before .pre .0) (arrays (l .tails) (l .heads) (l .lows) (l .ups) (l .costs)) (l .m) (l .j) (l .inv) (omega (arith, c .before .before .before .before .before .before .before .before .before .before .before .before .before .before .before .before .before .before .before .before .before .before .before .before .before .before .before .before .before .before .before .before .before .before .before .before .before .before .before .before .before .before .before .before .before .loop-test .left)) in
@@ -121,7 +115,7 @@ add-result c =
     omega arith
 
 add-result-2 : tie.Need-add-result-2 Inv-loop μ-loop
-add-result-2 c = 
+add-result-2 c =
     let x = c .before .before .before .before .before .before .before .before .before .before .before .before .before .before .before .before .before .before .before .before .before .before .before .before .before .before .before .before .before .before .before .before .before .before .before .before .before .before .before .before .before .before .before .before .before .before .before .before .before .before .before .before .before .before .before .before .args in
     let l = c .before .before .before .before .before .before .before .before .before .before .before .before .before .before .before .before .before .before .before .before .before .before .before .before .before .before .before .before .before .before .before .before .before .before .before .before .before .before .before .before .before .before .before .before .before .before .loop in
     let r = rows-room (x .fee) (x .e) (x .ticks .now) (x .prices .now) (x .instruments .now) (x .starts .now) (x .finishes .now) (x .players) (c .before .before .before .before .before .before .before .before .before .before .before .before .before .before .before .before .before .before .before .before .before .before .before .before .before .before .before .before .before .before .before .before .before .before .before .before .before .before .before .before .before .before .before .before .before .before .before .before .before .before .before .before .before .before .before .before .pre .0) (arrays (l .tails) (l .heads) (l .lows) (l .ups) (l .costs)) (l .m) (l .j) (l .inv) (omega (arith, c .before .before .before .before .before .before .before .before .before .before .before .before .before .before .before .before .before .before .before .before .before .before .before .before .before .before .before .before .before .before .before .before .before .before .before .before .before .before .before .before .before .before .before .before .before .loop-test .left)) in
@@ -129,7 +123,7 @@ add-result-2 c =
     omega arith
 
 add-result-3 : tie.Need-add-result-3 Inv-loop μ-loop
-add-result-3 c = 
+add-result-3 c =
     let x = c .before .before .before .before .before .before .before .before .before .before .before .before .before .before .before .before .before .before .before .before .before .before .before .before .before .before .before .before .before .before .before .before .before .before .before .before .before .before .before .before .before .before .before .before .before .before .before .before .before .before .before .before .before .before .before .before .args in
     let l = c .before .before .before .before .before .before .before .before .before .before .before .before .before .before .before .before .before .before .before .before .before .before .before .before .before .before .before .before .before .before .before .before .before .before .before .before .before .before .before .before .before .before .before .before .before .before .loop in
     let r = rows-room (x .fee) (x .e) (x .ticks .now) (x .prices .now) (x .instruments .now) (x .starts .now) (x .finishes .now) (x .players) (c .before .before .before .before .before .before .before .before .before .before .before .before .before .before .before .before .before .before .before .before .before .before .before .before .before .before .before .before .before .before .before .before .before .before .before .before .before .before .before .before .before .before .before .before .before .before .before .before .before .before .before .before .before .before .before .before .pre .0) (arrays (l .tails) (l .heads) (l .lows) (l .ups) (l .costs)) (l .m) (l .j) (l .inv) (omega (arith, c .before .before .before .before .before .before .before .before .before .before .before .before .before .before .before .before .before .before .before .before .before .before .before .before .before .before .before .before .before .before .before .before .before .before .before .before .before .before .before .before .before .before .before .before .before .loop-test .left)) in
@@ -137,7 +131,7 @@ add-result-3 c =
     omega arith
 
 returns : tie.Need-returns Inv-loop μ-loop
-returns c = 
+returns c =
     let x = c .before .before .before .before .before .before .before .before .before .before .before .before .before .before .before .before .before .before .before .before .before .before .before .before .before .before .before .before .before .before .before .before .before .before .before .before .before .before .before .before .before .before .before .before .before .before .before .before .before .before .before .before .before .before .before .before .args in
     let l = c .before .before .before .before .before .before .before .before .before .before .before .before .before .before .before .before .before .before .before .before .before .before .before .before .before .before .before .before .before .before .before .before .before .before .before .before .before .before .before .before .before .before .before .before .before .before .loop in
     all-done (x .fee) (x .e) (x .ticks .now) (x .prices .now) (x .instruments .now) (x .starts .now) (x .finishes .now) (x .players) (arrays (l .tails) (l .heads) (l .lows) (l .ups) (l .costs)) _ _ _ (l .m) (l .j) (l .inv) (omega (arith, c .before .before .before .before .before .before .before .before .before .before .before .before .before .before .before .before .before .before .before .before .before .before .before .before .before .before .before .before .before .before .before .before .before .before .before .before .before .before .before .before .before .before .before .before .before .loop-test .left)) (c .before .before .before .before .before .before .before .before .before .before .before .before .before .before .before .before .before .before .before .before .before .before .before .before .before .before .before .before .before .before .before .before .before .before .before .before .before .before .before .put-entries .ensures) (c .before .before .before .before .before .before .before .before .before .before .before .before .before .before .before .before .before .before .before .before .before .before .before .before .put-ends .ensures) (c .before .before .before .before .before .before .before .before .before .put-arc .ensures)

@@ -1,9 +1,6 @@
 use borrow.Author.Needs.{needs}
 use Rattle.book_network.proofs.put_join.Statement.{statement}
 use Rattle.book_network.proofs.put_join.Tie as tie
-use Rattle.book_network.proofs.put_join.Reads as reads
-use Rattle.book_network.proofs.put_join.Lts as lts
-use Rattle.book_network.proofs.put_arc.Reads as put-arc-reads
 use mathlib.Core.Path.{_≡_}
 use Prim.Native.Nat.{ℕ, _≤_}
 use native.Mathlib.Omega.{arith}
@@ -56,7 +53,7 @@ same-length-5 : tie.Need-same-length-5
 same-length-5 c = search needs
 
 returns-2 : tie.Need-returns-2
-returns-2 c = 
+returns-2 c =
     let x = c .before .before .before .before .before .before .before .before .before .before .before .before .before .before .before .before .before .before .before .before .before .before .args in
     put-one (x .o) (x .i) (x .j) (arrays (x .tails .now) (x .heads .now) (x .lows .now) (x .ups .now) (x .costs .now)) _ (x .m) _ (c .before .before .before .before .before .before .before .before .before .before .before .before .before .before .before .before .o .given .1) (c .before .before .before .before .before .before .before .before .before .put-arc .ensures)
 

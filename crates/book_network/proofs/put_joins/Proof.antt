@@ -1,20 +1,14 @@
 use Rattle.book_network.proofs.put_joins.Statement.{statement}
 use Rattle.book_network.proofs.put_joins.Tie as tie
-use Rattle.book_network.proofs.put_joins.Reads as reads
-use Rattle.book_network.proofs.put_joins.Lts as lts
-use Rattle.book_network.proofs.join_of.Reads as join-of-reads
-use Rattle.book_network.proofs.put_arc.Reads as put-arc-reads
-use Rattle.book_network.proofs.put_join.Reads as put-join-reads
-use mathlib.Core.Path.{sym, ap, _∙_}
+use mathlib.Core.Path.{sym, _∙_}
 use Prim.Native.Nat.{_≤_}
 use native.Mathlib.Omega.{arith}
-use lib.ListN.{length}
 use Rattle.book_network.specs.Arrays.{arrays}
 use Rattle.book_network.proofs.Lookup.{cost-small}
 use Rattle.book_network.proofs.Progress.{Going, going-start, going-on, going-done}
 
 abbrev Inv-loop : tie.InvT-loop
-Inv-loop fee e ticks prices instruments starts finishes j tails₀ heads₀ lows₀ ups₀ costs₀ m at₀ i₀ tails heads lows ups costs at i = 
+Inv-loop fee e ticks prices instruments starts finishes j tails₀ heads₀ lows₀ ups₀ costs₀ m at₀ i₀ tails heads lows ups costs at i =
     Going ticks prices instruments starts finishes e j (arrays tails₀ heads₀ lows₀ ups₀ costs₀) m (arrays tails heads lows ups costs) at i
 
 abbrev μ-loop : tie.MeasureT-loop
@@ -30,7 +24,7 @@ join-of-requires : tie.Need-join-of-requires Inv-loop μ-loop
 join-of-requires c κs = let s = c .before .before .before .before .before .before .before .before .before .before .before in (s .pre .0, omega arith, omega (arith, c .before .loop .inv .upto), s .pre .2, s .pre .3)
 
 put-join-requires : tie.Need-put-join-requires Inv-loop μ-loop
-put-join-requires c κs = 
+put-join-requires c κs =
     let s = c .before .before .before .before .before .before .before .before .before .before .before .before .before .before .before .before .before in
     let g = c .before .before .before .before .before .before .before .loop .inv in
     let few = s .pre .0 .tables .accepted .few in
@@ -44,7 +38,7 @@ loop-less : tie.Need-loop-less Inv-loop μ-loop
 loop-less c = omega arith
 
 loop-again : tie.Need-loop-again Inv-loop μ-loop
-loop-again c = 
+loop-again c =
     let x = c .before .before .before .before .before .before .before .before .before .before .before .before .before .before .before .before .before .before .before .before .before .before .before .before .before .before .before .args in
     let l = c .before .before .before .before .before .before .before .before .before .before .before .before .before .before .before .before .before .loop in
     going-on (x .ticks .now) (x .prices .now) (x .instruments .now) (x .starts .now) (x .finishes .now) (x .e) (x .j) _ (x .m) (arrays (l .tails) (l .heads) (l .lows) (l .ups) (l .costs)) _ (l .at) _ (l .i) (c .before .before .before .before .before .before .before .before .before .before .before .before .before .before .before .join-of .result) (l .inv) (omega (arith, c .before .before .before .before .before .before .before .before .before .before .before .before .before .before .before .before .loop-test .taken)) (c .before .before .before .before .before .before .before .before .before .before .before .before .before .before .before .join-of .ensures) (c .before .before .before .before .before .before .before .before .before .put-join .ensures .0) (c .before .before .before .before .before .before .before .before .before .put-join .ensures .1)
@@ -56,7 +50,7 @@ sub-put-arc : tie.Need-sub-put-arc Inv-loop μ-loop
 sub-put-arc c = omega (arith, c .before .before .before .before .before .before .before .before .before .before .before .before .before .before .before .before .pre .2)
 
 put-arc-requires : tie.Need-put-arc-requires Inv-loop μ-loop
-put-arc-requires c κs = 
+put-arc-requires c κs =
     let s = c .before .before .before .before .before .before .before .before .before .before .before .before .before .before .before .before in
     let g = c .before .before .before .before .before .before .loop .inv in
     let few = room s in
@@ -81,7 +75,7 @@ same-length-5 : tie.Need-same-length-5 Inv-loop μ-loop
 same-length-5 c = c .before .before .before .before .before .before .before .before .before .put-arc .kept .1 .1 .1 .1 .0 ∙ c .before .before .before .before .before .before .before .before .before .before .before .before .before .before .before .before .loop .inv .long .costs-long ∙ sym (c .before .before .before .before .before .before .before .before .before .before .before .before .before .before .before .before .before .before .before .before .before .before .before .before .before .before .pre .4 .costs-long)
 
 returns : tie.Need-returns Inv-loop μ-loop
-returns c = 
+returns c =
     let x = c .before .before .before .before .before .before .before .before .before .before .before .before .before .before .before .before .before .before .before .before .before .before .before .before .before .before .args in
     let l = c .before .before .before .before .before .before .before .before .before .before .before .before .before .before .before .before .loop in
     going-done (x .ticks .now) (x .prices .now) (x .instruments .now) (x .starts .now) (x .finishes .now) (x .e) (x .j) (x .fee) _ (x .m) (arrays (l .tails) (l .heads) (l .lows) (l .ups) (l .costs)) _ (l .at) (l .i) (l .inv) (omega (arith, c .before .before .before .before .before .before .before .before .before .before .before .before .before .before .before .loop-test .left)) (c .before .before .before .before .before .before .before .before .before .put-arc .ensures)
