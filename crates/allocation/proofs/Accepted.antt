@@ -46,7 +46,7 @@ module _ (book : Book) (ok : Accepted book) where
       go true k = pick (leb (finish + 0) start)
       go false k = k
 
-  price-small : (i j : ℕ) → price book i j ≤ 1000000
+  pub price-small : (i j : ℕ) → price book i j ≤ 1000000
   price-small zero j = ok .fee-high
   price-small (suc i) j = go (eqb (suc i) j) (link-small (entryAt book (suc i) .instrument) (entryAt book j .instrument) (entryAt book (suc i) .finish) (entryAt book j .start))
     where

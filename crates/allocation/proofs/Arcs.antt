@@ -16,7 +16,7 @@ use Rattle.allocation.specs.BookNet.{Arc, joinArc, joinArcs, entryArc, e
 use Rattle.allocation.proofs.Blocks.{joins-member}
 use Rattle.allocation.proofs.Nodes.{noArc, count-arcs, nodes-count}
 
-getD-member : {A : Type 0} (l : List A) (k : ℕ) (d : A) → k < length l → getD l k d ∈ l
+pub getD-member : {A : Type 0} (l : List A) (k : ℕ) (d : A) → k < length l → getD l k d ∈ l
 getD-member [] k d h = absurd (omega arith)
 getD-member (a ∷ l) zero d h = inl refl
 getD-member (a ∷ l) (suc k) d h = inr (getD-member l k d (omega arith))

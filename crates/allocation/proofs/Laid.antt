@@ -18,7 +18,7 @@ use Rattle.allocation.specs.WayFlow.{hit, marked, joinFlow, entryFlow}
 use Rattle.allocation.proofs.Weights.{hit-same, hit-other, hit-iff, hit-small, total, weigh, weigh-none}
 use Rattle.allocation.proofs.Rows.{row-at, row-length}
 use Rattle.allocation.proofs.Blocks.{along, outOf, into, weigh-joins, joinFlow-length}
-use Rattle.allocation.proofs.Nodes.{Place, origin, odd, even, last, place, whole, Fits, parts, out-zero, in-zero, out-last, in-last, out-odd, in-odd, out-even, in-even, netOut-weigh, nodes-count, balance-inner, balance-last}
+use Rattle.allocation.proofs.Nodes.{Place, origin, odd, even, last, place, whole, Fits, parts, out-zero, in-zero, out-last, in-last, out-odd, in-odd, out-even, in-even, arcs-parts, netOut-weigh, nodes-count, balance-inner, balance-last}
 use Rattle.allocation.proofs.Bounds.{Bounds, bounds-append, bounds-map}
 
 -- whole numbers out of a node and into it
@@ -94,12 +94,7 @@ module _ (book : Book) where
         let c = length-append y (z ∷ []) in
         let d = row-length {A = ℕ} (λ j. 1) (size book) 1 in
         let e = fit .joins in
-        let f = length-append (joinArcs book (size book) 1) (map entryArc (numbers book) ++ (map (endArc book) (numbers book) ++ (lastArc book ∷ []))) in
-        let g = length-append (map entryArc (numbers book)) (map (endArc book) (numbers book) ++ (lastArc book ∷ [])) in
-        let h = length-append (map (endArc book) (numbers book)) (lastArc book ∷ []) in
-        let i = row-length entryArc (size book) 1 in
-        let k = row-length (endArc book) (size book) 1 in
-        omega arith
+        omega (arith, arcs-parts book)
 
     pub laid-balanced : times 0 w + z ≡ book .players → ((i : ℕ) → 1 ≤ i → i ≤ size book → times i w + getD y (i - 1) 0 ≡ 1) → total y + z ≡ book .players
         → (v : ℕ) → v < nodes (bookNet book) → netOut (bookNet book) laid v ≡ balance (bookNet book) v

@@ -10,6 +10,7 @@ pub mod Laid
 pub mod WayBack
 pub mod Matched
 pub mod LineByLine
+pub mod Given
 pub mod Examples
 pub mod Fair
 pub mod Size

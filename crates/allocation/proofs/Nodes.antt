@@ -165,6 +165,15 @@ at-hit e v n = go (ℕ-discrete e v)
 pub count-arcs : (book : Book) → arcs (bookNet book) ≡ length (bookArcs book)
 count-arcs book = length-map (bookArcs book) (λ a. a .tail)
 
+pub arcs-parts : (book : Book) → length (bookArcs book) ≡ length (joinArcs book (size book) 1) + (2 * size book + 1)
+arcs-parts book =
+    let a = length-append (joinArcs book (size book) 1) (map entryArc (numbers book) ++ (map (endArc book) (numbers book) ++ (lastArc book ∷ []))) in
+    let b = length-append (map entryArc (numbers book)) (map (endArc book) (numbers book) ++ (lastArc book ∷ [])) in
+    let c = length-append (map (endArc book) (numbers book)) (lastArc book ∷ []) in
+    let d = row-length entryArc (size book) 1 in
+    let e = row-length (endArc book) (size book) 1 in
+    omega arith
+
 module _ (book : Book) (f : List ℕ) (fits : length f ≡ length (bookArcs book)) where
   pub netOut-weigh : (v : ℕ) → netOut (bookNet book) f v ≡ pos (weigh (outOf v) (bookArcs book) f) -ℤ pos (weigh (into v) (bookArcs book) f)
   netOut-weigh v = ap₂ _-ℤ_

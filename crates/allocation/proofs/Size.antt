@@ -23,7 +23,7 @@ use Rattle.allocation.specs.BookNet.{down, sources, joinArc, joinArcs, e
 use Rattle.allocation.proofs.Rows.{from-length, row-length}
 use Rattle.allocation.proofs.Counting.{tot, tot-add}
 use Rattle.allocation.proofs.Fair.{fair-entry}
-use Rattle.allocation.proofs.Nodes.{count-arcs, nodes-count}
+use Rattle.allocation.proofs.Nodes.{count-arcs, arcs-parts, nodes-count}
 
 -- who follows does not start earlier than the other ends
 in-time : (m : Option Move) (finish start : ℕ) → given? (inTime m finish start) ≡ true → finish ≤ start
@@ -120,18 +120,13 @@ module _ (book : Book) where
     pub arcs-few : arcs (bookNet book) ≤ 463
     arcs-few =
         let few = ok .few in
-        let a = length-append (joinArcs book (size book) 1) (map entryArc (numbers book) ++ (map (endArc book) (numbers book) ++ (lastArc book ∷ []))) in
-        let b = length-append (map entryArc (numbers book)) (map (endArc book) (numbers book) ++ (lastArc book ∷ [])) in
-        let c = length-append (map (endArc book) (numbers book)) (lastArc book ∷ []) in
-        let d = row-length entryArc (size book) 1 in
-        let e = row-length (endArc book) (size book) 1 in
         let f = joins-count (size book) 1 in
         let g : tot (λ j. tot (λ i. oneIf (permits book i j)) (numbers book)) (numbers book) ≤ triangle (size book) =
         rw from-length at (square (λ i j. oneIf (permits book i j)) (numbers book) one-way) in
         let m = triangle-mono (size book) (28 - size book) in
         let n : size book + (28 - size book) ≡ 28 = omega arith in
         let k : triangle (size book) ≤ 378 = rw n at m in
-        omega (arith, count-arcs book)
+        omega (arith, count-arcs book, arcs-parts book)
 
     pub nodes-few : nodes (bookNet book) ≤ 58
     nodes-few = omega (arith, nodes-count book, ok .few)

@@ -1,0 +1,4 @@
+mod Lookup
+mod Progress
+mod Balances
+mod Network
