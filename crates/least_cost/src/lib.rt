@@ -40,7 +40,7 @@ pub fn first_flow(
     requires { ⌜ AcceptedNet (netWith (now balances) (now tails) (now heads) (now lows) (now ups) (now costs)) × (length (now flow) ≡ length (now tails)) × (length (now tight) ≡ length (now tails)) ⌝ }
     ensures { λ r. ⌜ FirstFlow (netWith (now (balances .entry)) (now (tails .entry)) (now (heads .entry)) (now (lows .entry)) (now (ups .entry)) (now (costs .entry))) (now (flow .exit)) (now (tight .exit)) r ⌝ }
 {
-    if !feasible::feasible(tails, heads, lows, ups, balances, flow) {
+    if !simplex::starting_flow(tails, heads, lows, ups, costs, balances, flow) {
         return false;
     }
     cancelling::cheapen(tails, heads, lows, ups, costs, flow);

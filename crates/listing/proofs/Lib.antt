@@ -1,4 +1,5 @@
 pub mod Pieces
 mod Decimal
 mod Spaced
+pub mod Sizes
 mod Examples

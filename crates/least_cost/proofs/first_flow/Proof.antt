@@ -13,25 +13,25 @@ use Rattle.least_cost.proofs.first_flow.Tie as tie
 abbrev whole : tie.Start → Net
 whole s = netWith (s .args .balances .now) (s .args .tails .now) (s .args .heads .now) (s .args .lows .now) (s .args .ups .now) (s .args .costs .now)
 
-feasible-requires : tie.Need-feasible-requires
-feasible-requires c κs = let s = c .before .before .before .before .before .before .before in given (s .args .balances .now) (s .args .tails .now) (s .args .heads .now) (s .args .lows .now) (s .args .ups .now) (s .args .costs .now) (s .pre .0) (s .args .flow .now) (s .pre .1)
+starting-flow-requires : tie.Need-starting-flow-requires
+starting-flow-requires c κs = let s = c .before .before .before .before .before .before .before in (given (s .args .balances .now) (s .args .tails .now) (s .args .heads .now) (s .args .lows .now) (s .args .ups .now) (s .args .costs .now) (s .pre .0) (s .args .flow .now) (s .pre .1), s .pre .0 .well-formed .costs-len)
 
 same-length : tie.Need-same-length
 same-length c = search needs
 
 returns : tie.Need-returns
-returns c = let s = c .before .before .before .before .before .before .before .before .before .before .before in no-first (whole s) (s .pre .0 .well-formed) (λ g. c .before .before .before .feasible .ensures .none (not-true _ (c .if1 .taken)) (s .args .costs .now) (s .pre .0 .well-formed .costs-len) g)
+returns c = let s = c .before .before .before .before .before .before .before .before .before .before .before in no-first (whole s) (s .pre .0 .well-formed) (λ g. c .before .before .before .starting-flow .ensures .none (not-true _ (c .if1 .taken)) (s .args .costs .now) (s .pre .0 .well-formed .costs-len) g)
 
 -- a flow was found
-flow-of : (c : tie.Else1) → IsFlow (whole (c .before .before .before .before .before .before .before .before .before .before .before)) (c .before .before .before .feasible .last .1 .1 .1 .1 .1 .0)
-flow-of c = let s = c .before .before .before .before .before .before .before .before .before .before .before in c .before .before .before .feasible .ensures .found (not-false _ (c .if1 .left)) (s .args .costs .now) (s .pre .0 .well-formed .costs-len)
+flow-of : (c : tie.Else1) → IsFlow (whole (c .before .before .before .before .before .before .before .before .before .before .before)) (c .before .before .before .starting-flow .last .1 .1 .1 .1 .1 .1 .0)
+flow-of c = let s = c .before .before .before .before .before .before .before .before .before .before .before in c .before .before .before .starting-flow .ensures .found (not-false _ (c .if1 .left)) (s .args .costs .now) (s .pre .0 .well-formed .costs-len)
 
 cheapen-requires : tie.Need-cheapen-requires
-cheapen-requires c κs = let s = c .before .before .before .before .before .before .before .before .before .before .before .before in relaxable (s .args .balances .now) (s .args .tails .now) (s .args .heads .now) (s .args .lows .now) (s .args .ups .now) (s .args .costs .now) (s .pre .0) (c .before .before .before .before .feasible .last .1 .1 .1 .1 .1 .0) (flow-bounds (whole s) (c .before .before .before .before .feasible .last .1 .1 .1 .1 .1 .0) (flow-of (c .before)))
+cheapen-requires c κs = let s = c .before .before .before .before .before .before .before .before .before .before .before .before in relaxable (s .args .balances .now) (s .args .tails .now) (s .args .heads .now) (s .args .lows .now) (s .args .ups .now) (s .args .costs .now) (s .pre .0) (c .before .before .before .before .starting-flow .last .1 .1 .1 .1 .1 .1 .0) (flow-bounds (whole s) (c .before .before .before .before .starting-flow .last .1 .1 .1 .1 .1 .1 .0) (flow-of (c .before)))
 
 least-of : (c : tie.After-cheapen) → LeastCost (whole (c .before .before .before .before .before .before .before .before .before .before .before .before .before)) (c .cheapen .last .1 .1 .1 .1 .1 .0)
 least-of c = let s = c .before .before .before .before .before .before .before .before .before .before .before .before .before in
-    cheapest (s .args .balances .now) (s .args .tails .now) (s .args .heads .now) (s .args .lows .now) (s .args .ups .now) (s .args .costs .now) (c .before .before .before .before .before .feasible .last .1 .1 .1 .1 .1 .0) (c .cheapen .last .1 .1 .1 .1 .1 .0) (s .pre .0 .well-formed) (flow-of (c .before .before)) (c .cheapen .ensures .0) (c .cheapen .ensures .1)
+    cheapest (s .args .balances .now) (s .args .tails .now) (s .args .heads .now) (s .args .lows .now) (s .args .ups .now) (s .args .costs .now) (c .before .before .before .before .before .starting-flow .last .1 .1 .1 .1 .1 .1 .0) (c .cheapen .last .1 .1 .1 .1 .1 .0) (s .pre .0 .well-formed) (flow-of (c .before .before)) (c .cheapen .ensures .0) (c .cheapen .ensures .1)
 
 mark-requires : tie.Need-mark-requires
 mark-requires c κs = let s = c .before .before .before .before .before .before .before .before .before .before .before .before .before .before .before .before .before in let k = c .before .before .before .before in
@@ -56,7 +56,7 @@ pub first-flow-spec : {M : Type 1} → statement M
 first-flow-spec =
     tie.close
     (tie.spec
-    feasible-requires
+    starting-flow-requires
     same-length
     returns
     cheapen-requires
