@@ -5,17 +5,19 @@ use Prim.Native.Nat.{ℕ, zero, suc, _+_, _*_, _-_, _/_, _≤_, _<_}
 use native.Mathlib.Omega.{arith}
 use native.Mathlib.Nat.{suc-inj}
 use native.Mathlib.Numerals.{add-one}
-use lib.ListN.{length, getD, drop, set, length-append, List·getD-map, List·getD-append}
+use lib.ListN.{length, getD, drop, set, replicate, length-append, List·getD-map, List·getD-append}
 use lib.Seq.{drop-cons, drop-length, getD-append-add}
 use Rattle.laws.specs.Padded.{padded, filled, filled-more, filled-all}
+use Rattle.laws.specs.Equality.{cons-same, heads-same, tails-same, nil-cons}
 use Rattle.book.specs.Book.{Book}
 use Rattle.allocation.specs.Follow.{size}
 use Rattle.allocation.specs.Ways.{times}
 use Rattle.allocation.specs.BookNet.{Arc, sources, joinArc, joinArcs, bookArcs}
 use Rattle.allocation.specs.WayFlow.{hit, marked, joinFlow, entryFlow, endFlow, flowOf}
+use Rattle.allocation.proofs.Weights.{hit-small}
 use Rattle.allocation.proofs.Rows.{row-at, row-length}
 use Rattle.allocation.proofs.Blocks.{joinFlow-length}
-use Rattle.allocation.proofs.Nodes.{noArc}
+use Rattle.allocation.proofs.Nodes.{noArc, count-arcs}
 use Rattle.allocation.proofs.Size.{arcs-few}
 use Rattle.way_flow.specs.Arcs.{Ends, HasEnds, FlowAt, LaysFlow}
 use Rattle.way_flow.proofs.Reading.{joins-count}
@@ -26,16 +28,13 @@ pub record Counting (i : ℕ) (w : List ℕ) (n k : ℕ) : Type 0 where
   pub few : n ≤ k
   pub left : n + times i (drop k w) ≡ times i w
 
-hit-few : (a b : ℕ) → hit a b ≤ 1
-hit-few a b = Rattle.allocation.proofs.Weights.hit-small a b
-
 pub counting-start : (i : ℕ) (w : List ℕ) → Counting i w 0 0
 counting-start i w = record { upto = omega arith; few = omega arith; left = omega arith }
 
 pub counting-on : (i : ℕ) (w : List ℕ) (n k h : ℕ) → Counting i w n k → k < length w → h ≡ hit (getD w k 0) i → Counting i w (n + h) (k + 1)
 counting-on i w n k h c l q = record {
   upto = omega arith;
-  few = omega (arith, c .few, hit-few (getD w k 0) i);
+  few = omega (arith, c .few, hit-small (getD w k 0) i);
   left = rw add-one (let d : times i (drop k w) ≡ hit (getD w k 0) i + times i (drop (suc k) w) = ap (times i) (drop-cons w k 0 l) in omega (arith, c .left));
 }
 
@@ -56,7 +55,7 @@ module _ (b : Book) (all : List ℕ) where
       let u : (2 * j - 1 - 1) / 2 ≡ j - 1 = omega arith in
       let v : 2 * i / 2 ≡ i = omega arith in
       let h : hit (2 * i / 2) (getD all ((2 * j - 1 - 1) / 2) 0) ≡ hit i p = ap₂ hit v (ap (λ n. getD all n 0) u ∙ e) in
-      Rattle.laws.specs.Equality.cons-same _ (hit i p) _ (marked p l ++ map carries r) h (block-carries j p l r k e)
+      cons-same _ (hit i p) _ (marked p l ++ map carries r) h (block-carries j p l r k e)
 
   joins-carry : (j : ℕ) (w : List ℕ) → 1 ≤ j → drop (j - 1) all ≡ w → (n : ℕ) → n ≡ length w → map carries (joinArcs b n j) ≡ joinFlow b j w
   joins-carry j w k e zero n = go w n
@@ -72,15 +71,12 @@ module _ (b : Book) (all : List ℕ) where
       ∙ ap (λ l. marked p (sources b j) ++ l) (joins-carry (suc j) w (omega arith) (ap (λ i. drop i all) s ∙ t) m (suc-inj n))
     where
       front : (l : List ℕ) (i p : ℕ) (w : List ℕ) → drop i l ≡ p ∷ w → (getD l i 0 ≡ p) × (drop (suc i) l ≡ w)
-      front [] zero p w e = absurd (Rattle.laws.specs.Equality.nil-cons p w e)
-      front [] (suc i) p w e = absurd (Rattle.laws.specs.Equality.nil-cons p w e)
-      front (a ∷ l) zero p w e = (Rattle.laws.specs.Equality.heads-same a p l w e, Rattle.laws.specs.Equality.tails-same a p l w e)
+      front [] zero p w e = absurd (nil-cons p w e)
+      front [] (suc i) p w e = absurd (nil-cons p w e)
+      front (a ∷ l) zero p w e = (heads-same a p l w e, tails-same a p l w e)
       front (a ∷ l) (suc i) p w e = front l i p w e
 
 module _ (e : ℕ) (tails heads : List ℕ) (b : Book) (h : Ends b e tails heads) (w : List ℕ) (len : length w ≡ e) where
-  joined : List ℕ
-  joined = joinFlow b 1 w
-
   joined-length : length (joinFlow b 1 w) ≡ length (joinArcs b (size b) 1)
   joined-length = subst (λ n. length (joinFlow b 1 w) ≡ length (joinArcs b n 1)) (len ∙ h .entries-are) (joinFlow-length b 1 w)
 
@@ -151,7 +147,13 @@ module _ (e players : ℕ) (tails heads w : List ℕ) where
     pub each : (b : Book) → Ends b e tails heads → players ≡ b .players → flow ≡ filled (λ x. x) (flowOf b w) 512 0 k
 
   few : (b : Book) → Ends b e tails heads → length tails ≤ 463
-  few b h = omega (arith, arcs-few b (h .accepted), Rattle.allocation.proofs.Nodes.count-arcs b, ap length (h .tails-are))
+  few b h = omega (arith, arcs-few b (h .accepted), count-arcs b, ap length (h .tails-are))
+
+  pub laying-room : HasEnds e tails heads → length tails ≤ 463
+  laying-room h = few (h .book) (h .ends)
+
+  pub laying-start : Laying (replicate 512 0) 0
+  laying-start = record { upto = omega arith; each = λ b h p. refl }
 
   pub laying-on : (flow : List ℕ) (k x : ℕ) → length w ≡ e → Laying flow k → k < length tails → FlowAt e players tails heads w k x → Laying (set flow k x) (k + 1)
   laying-on flow k x len g l a = record {

@@ -1,15 +1,13 @@
 use Rattle.way_flow.proofs.hit.Statement.{statement}
 use Rattle.way_flow.proofs.hit.Tie as tie
-use Rattle.way_flow.proofs.hit.Reads as reads
-use Rattle.way_flow.proofs.hit.Lts as lts
+use mathlib.Core.Path.{sym}
+use Rattle.allocation.proofs.Weights.{hit-same, hit-other}
 
--- src/lib.rt:35:1
 returns : tie.Need-returns
-returns c = ?
+returns c = sym (hit-same (c .before .args .a) (c .before .args .b) (c .if1 .taken))
 
--- src/lib.rt:35:1
 returns-2 : tie.Need-returns-2
-returns-2 c = ?
+returns-2 c = sym (hit-other (c .before .args .a) (c .before .args .b) (c .if1 .left))
 
 pub hit-spec : {M : Type 1} → statement M
 hit-spec = tie.close (tie.spec returns returns-2)
