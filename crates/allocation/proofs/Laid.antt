@@ -13,7 +13,7 @@ use Rattle.book.specs.Book.{Book}
 use Rattle.allocation.specs.Follow.{size}
 use Rattle.allocation.specs.Ways.{times, Joined}
 use Rattle.allocation.specs.FullWays.{numbers}
-use Rattle.allocation.specs.BookNet.{Arc, lastNode, sources, price, joinArc, joinArcs, entryArc, endArc, lastArc, bookArcs, bookNet}
+use Rattle.allocation.specs.BookNet.{Arc, lastNode, sources, price, joinArc, joinArcs, bookArcs, bookNet}
 use Rattle.allocation.specs.WayFlow.{hit, marked, joinFlow, entryFlow}
 use Rattle.allocation.proofs.Weights.{hit-same, hit-other, hit-iff, hit-small, total, weigh, weigh-none}
 use Rattle.allocation.proofs.Rows.{row-at, row-length}

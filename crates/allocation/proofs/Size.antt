@@ -3,7 +3,7 @@ use mathlib.Core.Path.{_≡_, refl, ap, _∙_}
 use mathlib.Core.Logic.{inl, inr}
 use mathlib.Core.Bool.{Bool, true, false, cond}
 use mathlib.Core.Option.{Option, none, some}
-use mathlib.Core.List.{List, [], _∷_, _++_, map}
+use mathlib.Core.List.{List, [], _∷_, map}
 use Prim.Native.Nat.{ℕ, zero, suc, _+_, _-_, _≤_, _<_}
 use native.Mathlib.Omega.{arith}
 use native.Mathlib.Nat.{add-zero, add-suc}
@@ -19,8 +19,8 @@ use Rattle.book.proofs.Accepted.{Accepted}
 use Rattle.allocation.specs.Follow.{size, entryAt, link, inTime, mayFollow}
 use Rattle.allocation.specs.Ways.{given?, permits, oneIf}
 use Rattle.allocation.specs.FullWays.{numbers}
-use Rattle.allocation.specs.BookNet.{down, sources, joinArc, joinArcs, entryArc, endArc, lastArc, bookNet}
-use Rattle.allocation.proofs.Rows.{from-length, row-length}
+use Rattle.allocation.specs.BookNet.{down, sources, joinArc, joinArcs, bookNet}
+use Rattle.allocation.proofs.Rows.{from-length}
 use Rattle.allocation.proofs.Counting.{tot, tot-add}
 use Rattle.allocation.proofs.Fair.{fair-entry}
 use Rattle.allocation.proofs.Nodes.{count-arcs, arcs-parts, nodes-count}

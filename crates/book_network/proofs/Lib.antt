@@ -2,3 +2,4 @@ mod Lookup
 mod Progress
 mod Balances
 mod Network
+pub mod Made

@@ -1,2 +1,2 @@
-pub mod Reading
-mod Walking
+mod Reading
+pub mod Walking

@@ -10,9 +10,7 @@ use Rattle.laws.specs.Image.{mapOption}
 use Rattle.laws.specs.Equality.{same-list}
 use Rattle.network.specs.Network.{LeastCost, costOf}
 use Rattle.network.specs.FullList.{firstFlow, nextFlow}
-use Rattle.enumerator.specs.Enumerator as flows
 use Rattle.book.specs.Book.{Book}
-use Rattle.allocation.specs.Ways.{IsWay}
 use Rattle.allocation.specs.FullWays.{fullWays, firstWay, nextWay}
 use Rattle.allocation.specs.BookNet.{bookNet}
 use Rattle.allocation.specs.WayFlow.{flowOf, wayOf}
@@ -20,7 +18,7 @@ use Rattle.allocation.proofs.FullWays.{full-way}
 use Rattle.allocation.proofs.WayBack.{way-back}
 use Rattle.allocation.proofs.Matched.{way-cost, flow-back}
 use Rattle.allocation.proofs.LineByLine.{first-matched, after-matched}
-use Rattle.way_enumerator.specs.WayWalk.{costShown, following}
+use Rattle.way_enumerator.specs.WayWalk.{costShown}
 
 -- members
 first-member : (l : List (List ℕ)) (w : List ℕ) → first? l ≡ some w → w ∈ l

@@ -61,6 +61,15 @@ pub record Begins (c : CheckedBook) (r : WayWalk) : Type 0 where
 pub record Steps (s : WayWalk) (p : Place) (o : Book → Option (List ℕ)) (r : WayWalk) : Type 0 where
   pub each : (b : Book) → Walks b s → At b p (o b) r
 
+-- r stands on w if that is a least-cost way, and else on no way
+pub record ResumesIn (b : Book) (w : List ℕ) (r : WayWalk) : Type 0 where
+  pub walks : Walks b r
+  pub on : r .walk .place ≡ Line → (wayAt b r ≡ some w) × LeastCostWay b w
+  pub off : r .walk .place ≢ Line → ¬ LeastCostWay b w
+
+pub record Resumes (c : CheckedBook) (w : List ℕ) (r : WayWalk) : Type 0 where
+  pub each : (b : Book) → Holds b c → ResumesIn b w r
+
 -- the way that it stands on, in the first places of an array
 pub record Tells (s : WayWalk) (r : List ℕ) : Type 0 where
   pub each : (b : Book) → Walks b s → (w : List ℕ) → wayAt b s ≡ some w → r ≡ padded 28 0 w

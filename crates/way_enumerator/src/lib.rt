@@ -3,11 +3,12 @@ use book::CheckedBook;
 use enumerator::Enumerator;
 ghost use mathlib.Core.Path.{_≡_};
 ghost use Prim.Native.Nat.{_+_, _≤_};
+ghost use lib.ListN.{length};
 ghost use Rattle.enumerator.specs.Enumerator.{wordAfter};
 ghost use Rattle.enumerator.specs.declared.Place.the-variants.{Line, None};
 ghost use Rattle.allocation.specs.FullWays.{firstWay};
 ghost use Rattle.book_network.specs.Held.{Held};
-ghost use Rattle.way_enumerator.specs.WayWalk.{Walking, wayAt, following, Begins, Steps, Tells, Counts};
+ghost use Rattle.way_enumerator.specs.WayWalk.{Walking, wayAt, following, Begins, Resumes, Steps, Tells, Counts};
 
 pub struct WayWalk {
     pub walk: Enumerator,
@@ -23,6 +24,23 @@ pub fn start(book: CheckedBook) -> WayWalk
     WayWalk {
         walk: enumerator::start(net),
         entries: book.count,
+    }
+}
+
+// A walk that stands on a given list of numbers, if that is a least-cost way (question 18); else one on no way.
+pub fn resume(book: CheckedBook, given: &[u32]) -> WayWalk
+    requires { ⌜ Held book × (length (now given) ≡ book .count) ⌝ }
+    ensures { λ r. ⌜ Resumes book (now (given .entry)) r ⌝ }
+{
+    let e = book.count;
+    let net = book_network::network_of(book);
+    let m = net.arcs;
+    let tails = net.tails;
+    let heads = net.heads;
+    let flow = way_flow::flow_of(e, book.players, &tails[..m], &heads[..m], given);
+    WayWalk {
+        walk: enumerator::resume(net, flow),
+        entries: e,
     }
 }
 

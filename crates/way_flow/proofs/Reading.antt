@@ -12,15 +12,17 @@ use lib.ListN.{length, getD, set, drop, replicate, length-map, List·getD-map, L
 use lib.Seq.{drop-cons, sets, sets-eq}
 use Rattle.laws.specs.Members.{_∈_, every-member}
 use Rattle.laws.specs.Ascending.{Ascending}
+use Rattle.network.specs.Network.{tail}
 use Rattle.book.specs.Book.{Book}
 use Rattle.allocation.specs.Follow.{size}
 use Rattle.allocation.specs.Ways.{Joined}
-use Rattle.allocation.specs.BookNet.{Arc, sources, joinArc, joinArcs, bookArcs}
+use Rattle.allocation.specs.BookNet.{Arc, sources, joinArc, joinArcs, bookArcs, bookNet}
 use Rattle.allocation.specs.WayFlow.{hit, marked, joinFlow}
 use Rattle.allocation.proofs.Weights.{hit-same, hit-other, Above}
 use Rattle.allocation.proofs.Blocks.{sources-fall, source, joinFlow-length, joins-member}
 use Rattle.allocation.proofs.Nodes.{noArc, arcs-parts}
-use Rattle.allocation.proofs.Arcs.{getD-member}
+use Rattle.allocation.proofs.Arcs.{getD-member, well-formed}
+use Rattle.allocation.proofs.Size.{nodes-few}
 use Rattle.way_flow.specs.Arcs.{Ends, ReadsWay}
 
 -- an arc from t to h with x, noted in y
@@ -121,6 +123,12 @@ module _ (e : ℕ) (tails heads : List ℕ) where
       let x : getD heads k 0 ≡ 2 * j - 1 =
       ap (λ l. getD l k 0) (h .heads-are) ∙ List·getD-map (λ a. a .head) (bookArcs b) k noArc ∙ ap (λ a. a .head) (List·getD-append (joinArcs b (size b) 1) _ noArc k n ∙ q) in
       omega (arith, h .entries-are)
+
+  pub tail-at : (b : Book) → Ends b e tails heads → (k : ℕ) → k < length tails → getD tails k 0 ≤ 57
+  tail-at b h k l =
+      let t = well-formed b .tail-in k (omega (arith, ap length (h .tails-are))) in
+      let x : getD tails k 0 ≡ tail (bookNet b) k = ap (λ l. getD l k 0) (h .tails-are) in
+      omega (arith, nodes-few b (h .accepted))
 
   pub reads-way : (flow way : List ℕ) (n : ℕ) → n ≡ length tails - (2 * e + 1) → way ≡ read n tails heads flow (replicate 28 0) → ReadsWay e tails heads flow way
   reads-way flow way n c q = record {

@@ -2,6 +2,7 @@
 use mathlib.Core.Path.{_≡_}
 use mathlib.Core.List.{List, map}
 use Prim.Native.Nat.{ℕ}
+use lib.ListN.{getD}
 use Rattle.laws.specs.Padded.{padded}
 use Rattle.book.specs.Book.{Book}
 use Rattle.book.proofs.Accepted.{Accepted}
@@ -23,3 +24,10 @@ pub record HasEnds (e : ℕ) (tails heads : List ℕ) : Type 0 where
 -- the way whose flow it is, of each book that has these arcs
 pub record ReadsWay (e : ℕ) (tails heads flow way : List ℕ) : Type 0 where
   pub each : (b : Book) → Ends b e tails heads → (w : List ℕ) → IsWay b w → flow ≡ flowOf b w → way ≡ padded 28 0 w
+
+-- the flow of the list w, of each book that has these arcs and as many players: on arc k, and on all
+pub record FlowAt (e players : ℕ) (tails heads w : List ℕ) (k r : ℕ) : Type 0 where
+  pub each : (b : Book) → Ends b e tails heads → players ≡ b .players → r ≡ getD (flowOf b w) k 0
+
+pub record LaysFlow (e players : ℕ) (tails heads w flow : List ℕ) : Type 0 where
+  pub each : (b : Book) → Ends b e tails heads → players ≡ b .players → flow ≡ padded 512 0 (flowOf b w)
