@@ -1,17 +1,15 @@
 -- How far a listing is: the ways before are written, and the walk stands on the first of those that are left.
 use mathlib.Core.Path.{_≡_, refl, sym, ap, subst, _∙_}
-use mathlib.Core.Bool.{true, false}
 use mathlib.Core.List.{List, [], _∷_, _++_, append-assoc, append-nil}
 use mathlib.Core.Option.{Option, none, some}
 use Prim.Native.Nat.{ℕ, _+_, _≤_, _<_}
 use native.Mathlib.Omega.{arith}
-use lib.Dec.{leb}
 use lib.ListN.{length, take, length-append}
 use lib.Seq.{take-at, take-all}
 use borrow.Author.Tests.{le-leb, lt-leb}
 use Rattle.laws.specs.After.{Apart}
 use Rattle.laws.specs.Ascending.{ascending-apart}
-use Rattle.laws.specs.Count.{exactly, more, counted, after-in, one-on}
+use Rattle.laws.specs.Count.{counted, after-in, one-on}
 use Rattle.laws.specs.Equality.{same-list}
 use Rattle.laws.specs.Lexicographic.{_<lex_, lex-irrefl, lex-trans}
 use Rattle.laws.specs.Members.{first?, none-some}
