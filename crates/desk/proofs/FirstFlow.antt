@@ -1,12 +1,10 @@
 -- Demand 2 of a network: "The first flow is the first least-cost flow in that order", and "none" exactly where there is no flow.
-use mathlib.Core.Path.{_≡_, refl, ap, sym}
-use mathlib.Core.List.{List, [], _∷_}
+use mathlib.Core.Path.{_≡_, refl}
+use mathlib.Core.List.{List}
 use mathlib.Core.Logic.{_⊎_, inl, inr, _↔_}
 use mathlib.Core.Option.{Option, none, some}
 use Prim.Native.Nat.{ℕ}
-use Rattle.laws.specs.Members.{_∈_, first?, every-member, none-some}
-use Rattle.laws.specs.Ascending.{Ascending}
-use Rattle.laws.specs.Lexicographic.{_<lex_, lex-irrefl, lex-trans}
+use Rattle.laws.specs.Lexicographic.{_<lex_}
 use Rattle.laws.specs.Run.{first, nothing, shown}
 use Rattle.laws.specs.Seen.{Seen}
 use Rattle.network.specs.Network.{IsFlow, LeastCost}
@@ -17,20 +15,8 @@ use Rattle.network.proofs.Accepted.{accepted-net}
 use Rattle.desk.specs.NetworkCalls.{net, Lent, refuses}
 use Rattle.desk.specs.FirstFlow.{Finds, FindsNone}
 use Rattle.desk.specs.NetworkRun.{RightNetwork, Answers}
+use Rattle.desk.proofs.Lines.{first-least, first-none}
 use Rattle.desk.proofs.NetworkRun.{accepts}
-
--- the first member is one, and none comes before it
-first-least : (l : List (List ℕ)) (f : List ℕ) → first? l ≡ some f → Ascending _<lex_ l → (f ∈ l) × ((g : List ℕ) → g ∈ l → ¬ (g <lex f))
-first-least [] f e h = absurd (none-some f e)
-first-least (a ∷ l) f e h = let q : a ≡ f = cc in (inl (sym q), λ g m. rw (← q) (before g m))
-  where
-    before : (g : List ℕ) → g ∈ (a ∷ l) → ¬ (g <lex a)
-    before g (inl p) k = lex-irrefl a (rw p at k)
-    before g (inr m) k = lex-irrefl a (lex-trans a g a (every-member (_<lex_ a) l (h .0) g m) k)
-
-first-none : (l : List (List ℕ)) → (first? l ≡ none) ↔ (l ≡ [])
-first-none [] = (λ e. refl, λ e. refl)
-first-none (a ∷ l) = (λ e. absurd (none-some a (sym e)), λ e. ap first? e)
 
 module _ (bs xs : List ℕ) (ok : refusal bs xs ≡ 0) where
   pub first-is-least : (f : List ℕ) → firstFlow (net bs xs) ≡ some f → LeastCost (net bs xs) f × ((g : List ℕ) → LeastCost (net bs xs) g → ¬ (g <lex f))

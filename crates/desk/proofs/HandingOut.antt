@@ -20,7 +20,8 @@ use Rattle.network.specs.Network.{Net, nodes}
 use Rattle.network.specs.Residual.{Price}
 use Rattle.laws.specs.Tests.{and-true}
 use Rattle.bytes32.specs.Words.{fitting}
-use Rattle.desk.specs.NetworkCalls.{room, Prices}
+use Rattle.desk.specs.ByteLists.{room}
+use Rattle.desk.specs.NetworkCalls.{Prices}
 use Rattle.enumerator.specs.declared.Place.{Place}
 use Rattle.enumerator.specs.declared.Place.the-variants.{Start, Line, None, End}
 use Rattle.enumerator.specs.Enumerator.{lineAt}

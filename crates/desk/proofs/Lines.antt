@@ -1,25 +1,21 @@
--- The lines of an accepted network as bytes: no two alike, and which bytes are a line.
+-- Lines as bytes: no two alike, and which bytes are a line.
 use mathlib.Core.Path.{_≡_, refl, sym, ap, _∙_}
 use mathlib.Core.Bool.{Bool, true, false, _||_}
 use mathlib.Core.List.{List, [], _∷_}
 use mathlib.Core.Logic.{inl, inr, _↔_}
-use mathlib.Core.Option.{some}
+use mathlib.Core.Option.{none, some}
 use Prim.Native.Nat.{ℕ, suc, _*_, _<_}
 use native.Mathlib.Omega.{arith}
 use lib.ListN.{length, getD, getElem?}
-use Rattle.laws.specs.Members.{_∈_, Every, at-member}
+use Rattle.laws.specs.Members.{_∈_, Every, first?, every-member, at-member, none-some}
 use Rattle.laws.specs.Tests.{test}
 use Rattle.laws.specs.Equality.{same-list}
 use Rattle.laws.specs.Lexicographic.{_<lex_, lex-irrefl, lex-trans}
-use Rattle.laws.specs.Ascending.{ascending-apart}
-use Rattle.laws.specs.After.{Apart}
+use Rattle.laws.specs.Ascending.{Ascending, ascending-apart}
+use Rattle.laws.specs.After.{after, after-same, Apart}
 use Rattle.bytes32.specs.Words.{words, encodeWords}
 use Rattle.bytes32.proofs.Words.{words-encode, encode-words, length-encode}
-use Rattle.network.specs.Network.{Net, arcs, LeastCost}
-use Rattle.network.specs.FullList.{fullList}
-use Rattle.network.specs.Checked.{AcceptedNet}
-use Rattle.network.proofs.FullList.{full-member, full-ascending}
-use Rattle.desk.specs.NetworkCalls.{listed}
+use Rattle.desk.specs.ByteLists.{listed}
 
 pub every-at : (l : List ℕ) (B : ℕ) → ((a : ℕ) → a < length l → getD l a 0 < B) → Every (λ n. n < B) l
 every-at [] B h = tt
@@ -60,33 +56,57 @@ not-listed g (v ∷ l) h = step (same-list (encodeWords v) g) (not-listed g l (�
     step (yes p) e = absurd (h 0 v refl p)
     step (no p) e = e
 
-module _ (N : Net) (ok : AcceptedNet N) where
-  -- flows fit 32 bits
-  pub flow-small : (f : List ℕ) → LeastCost N f → Every (λ n. n < 4294967296) f
-  flow-small f l =
-      every-at f 4294967296
-      (λ a h. (let k : a < arcs N = omega (arith, l .flow .all-arcs) in omega (arith, l .flow .below a k, ok .up-small a k)))
+-- the first line is one, and none comes before it
+pub first-least : (l : List (List ℕ)) (f : List ℕ) → first? l ≡ some f → Ascending _<lex_ l → (f ∈ l) × ((g : List ℕ) → g ∈ l → ¬ (g <lex f))
+first-least [] f e h = absurd (none-some f e)
+first-least (a ∷ l) f e h = let q : a ≡ f = cc in (inl (sym q), λ g m. rw (← q) (before g m))
+  where
+    before : (g : List ℕ) → g ∈ (a ∷ l) → ¬ (g <lex a)
+    before g (inl p) k = lex-irrefl a (rw p at k)
+    before g (inr m) k = lex-irrefl a (lex-trans a g a (every-member (_<lex_ a) l (h .0) g m) k)
 
-  pub line-words : (v : List ℕ) → v ∈ fullList N → words (encodeWords v) ≡ v
-  line-words v m = words-encode v (flow-small v (full-member N (ok .well-formed) v .0 m))
+pub first-none : (l : List (List ℕ)) → (first? l ≡ none) ↔ (l ≡ [])
+first-none [] = (λ e. refl, λ e. refl)
+first-none (a ∷ l) = (λ e. absurd (none-some a (sym e)), λ e. ap first? e)
 
-  pub lines-apart : Apart encodeWords (fullList N)
+-- a full list: in order, each line of k numbers that fit 32 bits
+pub record FullOf (k : ℕ) (L : List (List ℕ)) : Type 0 where
+  pub ascends : Ascending _<lex_ L
+  pub long : (v : List ℕ) → v ∈ L → length v ≡ k
+  pub small : (v : List ℕ) → v ∈ L → Every (λ n. n < 4294967296) v
+
+module _ (k : ℕ) (L : List (List ℕ)) (full : FullOf k L) where
+  pub line-words : (v : List ℕ) → v ∈ L → words (encodeWords v) ≡ v
+  line-words v m = words-encode v (full .small v m)
+
+  pub lines-apart : Apart encodeWords L
   lines-apart i j a b p q e =
-      ascending-apart _<lex_ lex-irrefl lex-trans (fullList N) (full-ascending N (ok .well-formed)) i j a b p q
-      (sym (line-words a (at-member (fullList N) i a p)) ∙ ap words e ∙ line-words b (at-member (fullList N) j b q))
+      ascending-apart _<lex_ lex-irrefl lex-trans L (full .ascends) i j a b p q
+      (sym (line-words a (at-member L i a p)) ∙ ap words e ∙ line-words b (at-member L j b q))
 
-  -- question 8: "is the given list m numbers long and a least-cost flow of the network?"
-  pub listed-is : (g : List ℕ) → Every (λ b. b < 256) g → (listed g (fullList N) ≡ true) ↔ ((length g ≡ 4 * arcs N) × LeastCost N (words g))
-  listed-is g bytes = (into, out)
-    where
-      into : listed g (fullList N) ≡ true → (length g ≡ 4 * arcs N) × LeastCost N (words g)
-      into e =
-          let (v, m, q) = listed-member g (fullList N) e in
-          let l : LeastCost N v = full-member N (ok .well-formed) v .0 m in
-          let w : words g ≡ v = ap words (sym q) ∙ line-words v m in
-          (ap length (sym q) ∙ length-encode v ∙ ap (λ k. 4 * k) (l .flow .all-arcs), rw w l)
+  module _ (g : List ℕ) where
+    -- bytes that are a line are those of its numbers
+    pub listed-line : listed g L ≡ true → (length g ≡ 4 * k) × (words g ∈ L)
+    listed-line e =
+        let (v, m, q) = listed-member g L e in
+        let w : words g ≡ v = ap words (sym q) ∙ line-words v m in
+        (ap length (sym q) ∙ length-encode v ∙ ap (λ n. 4 * n) (full .long v m), rw w m)
 
-      out : (length g ≡ 4 * arcs N) × LeastCost N (words g) → listed g (fullList N) ≡ true
-      out h =
-          member-listed g (words g) (fullList N) (full-member N (ok .well-formed) (words g) .1 (h .1))
-          (encode-words g bytes (let e : length g ≡ 4 * arcs N = h .0 in omega arith))
+    pub line-listed : Every (λ b. b < 256) g → length g ≡ 4 * k → words g ∈ L → listed g L ≡ true
+    line-listed bytes e m = member-listed g (words g) L m (encode-words g bytes (omega arith))
+
+    -- the line after the bytes given is the line after their numbers
+    pub after-given : listed g L ≡ true → after same-list encodeWords g L ≡ after same-list (λ v. v) (words g) L
+    after-given e =
+        let (v, m, q) = listed-member g L e in
+        let w : words g ≡ v = ap words (sym q) ∙ line-words v m in
+        after-same same-list encodeWords g same-list (λ f. f) (words g) L
+        (λ a n. (λ p. sym (line-words a n) ∙ ap words p, λ p. ap encodeWords (p ∙ w) ∙ q))
+
+    -- bytes of another length are no line
+    pub other-length : ¬ (length g ≡ 4 * k) → listed g L ≡ false
+    other-length n = go (listed g L) refl
+      where
+        go : (t : Bool) → listed g L ≡ t → listed g L ≡ false
+        go true e = absurd (n (listed-line e .0))
+        go false e = e

@@ -22,10 +22,12 @@ use Rattle.network.proofs.Accepted.{accepted-net, checked-net, checked-sound}
 use Rattle.desk.specs.declared.Begun.{Begun}
 use Rattle.desk.specs.declared.Reply.{Reply}
 use Rattle.desk.specs.Replies.{orElse, codeOf, sees, word, countUnless}
-use Rattle.desk.specs.NetworkCalls.{net, NetCall, lends, lent, room, roomIf, listed, number}
+use Rattle.desk.specs.ByteLists.{room, listed}
+use Rattle.desk.specs.NetworkCalls.{net, NetCall, lends, lent, roomIf, number}
 use Rattle.desk.specs.NetworkRun.{RightNetwork, Answers}
 use Rattle.desk.specs.NetworkEntries.{Ready, Begins, HandedOut, PricesOut}
-use Rattle.desk.proofs.Given.{next-given}
+use Rattle.desk.proofs.Lines.{after-given}
+use Rattle.desk.proofs.NetworkLines.{full-flows}
 
 -- the word where there is no line
 abbrev pub wordOf : NetCall → Answer (List ℕ)
@@ -123,7 +125,7 @@ module _ (bs xs : List ℕ) where
       pub answers-next : (g : List ℕ) (N : Net) (o : Option (List ℕ)) → N ≡ net bs xs → listed g (fullList (net bs xs)) ≡ true → o ≡ nextFlow (net bs xs) (words g)
           → (r : Reply) (fs′ : List ℕ) → HandedOut N o 101 fs r fs′ → Answers bs xs (next g fs) (sees r (lends fs′ none))
       answers-next g N o same e line-is r fs′ h =
-          rw (ready .ok, room-is s ready true (length fs) fits, e, next-given (net bs xs) (accepted-net bs xs (ready .ok)) g e, ← line-is)
+          rw (ready .ok, room-is s ready true (length fs) fits, e, after-given (arcs (net bs xs)) (fullList (net bs xs)) (full-flows (net bs xs) (accepted-net bs xs (ready .ok))) g e, ← line-is)
           (handed (next g fs) o r fs′ none (subst (λ M. HandedOut M o 101 fs r fs′) same h) (unpriced (net bs xs) o))
 
 -- counting

@@ -1,59 +1,44 @@
 -- Demand 3 of a network.
 use mathlib.Core.Path.{_≡_, refl}
-use mathlib.Core.Bool.{Bool, true, false}
+use mathlib.Core.Bool.{Bool, true}
 use mathlib.Core.List.{List, [], _∷_, _++_, map}
 use mathlib.Core.Option.{none, some}
-use Prim.Native.Nat.{ℕ, zero, suc}
-use native.Mathlib.Omega.{arith}
+use Prim.Native.Nat.{ℕ}
 use lib.ListN.{length}
 use Rattle.laws.specs.Members.{_∈_}
-use Rattle.laws.specs.Tests.{ask}
 use Rattle.laws.specs.Equality.{same-list}
 use Rattle.laws.specs.After.{Apart}
-use Rattle.laws.specs.Run.{first, next, line, off, Strange, run-is-read}
+use Rattle.laws.specs.Run.{first, next, line, off, run-is-read}
 use Rattle.laws.specs.Seen.{Seen}
 use Rattle.laws.specs.Listing.{askOn, lastWord, lists-all}
 use Rattle.laws.specs.Count.{count, count-is}
 use Rattle.bytes32.specs.Words.{encodeWords}
+use Rattle.network.specs.Network.{arcs}
 use Rattle.network.specs.FullList.{fullList, countFlows}
 use Rattle.network.specs.Questions.{refusal}
 use Rattle.network.proofs.Accepted.{accepted-net}
 use Rattle.desk.specs.declared.Reply.{Reply}
-use Rattle.desk.specs.Replies.{failed, orElse, sees}
-use Rattle.desk.specs.NetworkCalls.{net, Lent, NetCall, lends, roomFor, number, refuses}
+use Rattle.desk.specs.Replies.{sees}
+use Rattle.desk.specs.NetworkCalls.{net, Lent, NetCall, lends, lent, roomFor, refuses}
 use Rattle.desk.specs.NetworkRun.{RightNetwork, answer, Answers, FairNetwork, KeptNetwork, ReadNetwork}
-use Rattle.desk.proofs.Lines.{not-listed, member-listed, lines-apart}
-
--- the questions in a row
-none-failed : (n : ℕ) → failed n ≡ none → n ≡ 0
-none-failed zero e = refl
-none-failed (suc n) e = absurd (let z : _≡_ {A = ℕ} 0 1 = cc in omega arith)
-
-first-passed : (n k : ℕ) → orElse n k ≡ 0 → n ≡ 0
-first-passed zero k e = refl
-first-passed (suc n) k e = absurd (omega arith)
-
-one-fails : (n : ℕ) (b : Bool) → (k : ℕ) × (failed (orElse n (ask b 7 8)) ≡ some k)
-one-fails zero true = (8, refl)
-one-fails zero false = (7, refl)
-one-fails (suc n) b = (suc n, refl)
+use Rattle.desk.proofs.Lines.{member-listed, lines-apart}
+use Rattle.desk.proofs.NetworkLines.{full-flows}
+use Rattle.desk.proofs.Turns as turns
 
 module _ (bs xs : List ℕ) where
-  -- a call that is answered is one of an accepted network
-  pub accepts : (c : NetCall) → refuses bs xs c ≡ none → refusal bs xs ≡ 0
-  accepts c e = first-passed (refusal bs xs) _ (none-failed (number bs xs c) e)
-
   apart : refusal bs xs ≡ 0 → Apart encodeWords (fullList (net bs xs))
-  apart e = lines-apart (net bs xs) (accepted-net bs xs e)
+  apart e = lines-apart (arcs (net bs xs)) (fullList (net bs xs)) (full-flows (net bs xs) (accepted-net bs xs e))
 
-  -- bytes that are no line are refused
-  strange : (g fs : List ℕ) → Strange same-list encodeWords (fullList (net bs xs)) (refuses bs xs) g → (k : ℕ) × (refuses bs xs (next g fs) ≡ some k)
-  strange g fs h = rw (not-listed g (fullList (net bs xs)) h) (one-fails (refusal bs xs) (roomFor (net bs xs) (lends fs none)))
+  abbrev fits : NetCall → Bool
+  fits c = roomFor (net bs xs) (lent c)
+
+  pub accepts : (c : NetCall) → refuses bs xs c ≡ none → refusal bs xs ≡ 0
+  accepts c e = turns.accepts (refusal bs xs) fits 6 7 (fullList (net bs xs)) c e
 
   -- whatever calls are made, they are answered as by the reader
   pub network-run : (r : List (NetCall × Seen Lent)) → FairNetwork bs xs r → KeptNetwork bs xs r → ReadNetwork bs xs off r
   network-run r g k =
-      run-is-read same-list encodeWords (fullList (net bs xs)) (refuses bs xs) (λ c e. apart (accepts c e)) strange (RightNetwork bs xs) r g k
+      run-is-read same-list encodeWords (fullList (net bs xs)) (refuses bs xs) (λ c e. apart (accepts c e)) (turns.strange (refusal bs xs) fits 6 7 (fullList (net bs xs))) (RightNetwork bs xs) r g k
 
   -- what the three entries ensure, as it stands in src/lib.rt, is what `KeptNetwork` asks of their calls
   module _ (r : Reply) (fs fs′ : List ℕ) where

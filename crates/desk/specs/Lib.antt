@@ -1,5 +1,11 @@
 pub mod Replies
+pub mod ByteLists
 pub mod NetworkCalls
 pub mod NetworkRun
 pub mod NetworkEntries
 pub mod FirstFlow
+pub mod BookCalls
+pub mod BookRun
+pub mod FirstWay
+pub mod Listing
+pub mod BookNames

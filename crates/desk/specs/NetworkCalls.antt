@@ -1,17 +1,15 @@
 -- The calls of a network: what they take, questions 7 and 8, what they write.
 use mathlib.Core.Path.{_≡_}
-use mathlib.Core.Bool.{Bool, true, false, _&&_, _||_}
-use mathlib.Core.List.{List, [], _∷_}
+use mathlib.Core.Bool.{Bool, true, _&&_}
+use mathlib.Core.List.{List}
 use mathlib.Core.Option.{Option, none, some}
-use Prim.Native.Nat.{ℕ, _/_, _%_, _<_}
-use lib.Dec.{eqb, leb}
+use Prim.Native.Nat.{ℕ, _<_}
 use lib.ListN.{length, getD}
 use lib.IntN.{ℤ, pos}
 use mir.Syntax.{w32}
 use mir.Val.{SFits}
-use Rattle.laws.specs.Tests.{ask, test}
+use Rattle.laws.specs.Tests.{ask}
 use Rattle.laws.specs.Members.{Every}
-use Rattle.laws.specs.Equality.{same-list}
 use Rattle.laws.specs.Run.{Call, first, next}
 use Rattle.bytes32.specs.Words.{ints, encodeWords, encodeInts, over}
 use Rattle.network.specs.Network.{Net, nodes, arcs}
@@ -19,6 +17,7 @@ use Rattle.network.specs.Residual.{Price}
 use Rattle.network.specs.FullList.{fullList}
 use Rattle.network.specs.Questions.{netOf, refusal}
 use Rattle.desk.specs.Replies.{failed, orElse}
+use Rattle.desk.specs.ByteLists.{room, fairGiven}
 
 -- "The network comes as n balances and five numbers an arc (tail, head, l, u, c), all signed 32-bit."
 abbrev pub net : List ℕ → List ℕ → Net
@@ -41,10 +40,7 @@ abbrev pub lent : NetCall → Lent
 lent (first l) = l
 lent (next g fs) = lends fs none
 
--- 7. "Are the lent lists long enough for m flows and, where given, n prices?" Bytes that are no whole numbers fail it.
-abbrev pub room : ℕ → ℕ → Bool
-room k bytes = eqb (bytes % 4) 0 && leb k (bytes / 4)
-
+-- 7. "Are the lent lists long enough for m flows and, where given, n prices?"
 abbrev pub roomIf : ℕ → Option (List ℕ) → Bool
 roomIf k none = true
 roomIf k (some l) = room k (length l)
@@ -52,22 +48,14 @@ roomIf k (some l) = room k (length l)
 abbrev pub roomFor : Net → Lent → Bool
 roomFor N l = room (arcs N) (length (l .flows)) && roomIf (nodes N) (l .prices)
 
--- 8. "is the given list m numbers long and a least-cost flow of the network?": some line of the full list has these bytes (`listed-is`,
--- proofs/Lines.antt, says it in these words)
-abbrev pub listed : List ℕ → List (List ℕ) → Bool
-listed g [] = false
-listed g (v ∷ l) = test (same-list (encodeWords v) g) || listed g l
-
-abbrev pub fairGiven : Net → NetCall → Bool
-fairGiven N (first l) = true
-fairGiven N (next g fs) = listed g (fullList N)
-
--- the number of the first question that a call fails, or 0
+-- the number of the first question that a call fails, or 0.
+-- 8. "is the given list m numbers long and a least-cost flow of the network?": it has the bytes of a line (`flow-listed`,
+-- proofs/NetworkLines.antt, says it in these words)
 abbrev pub number : List ℕ → List ℕ → NetCall → ℕ
 number bs xs c =
     orElse (refusal bs xs)
     (ask (roomFor (net bs xs) (lent c)) 7
-    (ask (fairGiven (net bs xs) c) 8
+    (ask (fairGiven (fullList (net bs xs)) c) 8
     0))
 
 abbrev pub refuses : List ℕ → List ℕ → NetCall → Option ℕ

@@ -15,7 +15,8 @@ use Rattle.enumerator.specs.declared.Place.the-variants.{Start, Line, None, End
 use Rattle.desk.specs.declared.Begun.{Begun}
 use Rattle.desk.specs.declared.Reply.{Reply}
 use Rattle.desk.specs.Replies.{orElse, word}
-use Rattle.desk.specs.NetworkCalls.{net, room, PricesAfter}
+use Rattle.desk.specs.ByteLists.{room}
+use Rattle.desk.specs.NetworkCalls.{net, PricesAfter}
 
 -- past questions 1 to 6: a struct that stands for the network of the bytes
 pub record Ready (bs xs : List ℕ) (s : Network) : Type 0 where

@@ -10,9 +10,13 @@ ghost use Rattle.network.specs.Questions.{numberOf, refusal};
 ghost use Rattle.network.specs.Checked.{Sound, netIn};
 ghost use Rattle.enumerator.specs.Enumerator.{Stands, lineOf};
 ghost use Rattle.desk.specs.Replies.{word, sees, countUnless};
-ghost use Rattle.desk.specs.NetworkCalls.{net, lends, room, listed};
+ghost use Rattle.desk.specs.ByteLists.{room, listed};
+ghost use Rattle.desk.specs.NetworkCalls.{net, lends};
 ghost use Rattle.desk.specs.NetworkRun.{Answers};
 ghost use Rattle.desk.specs.NetworkEntries.{Begins, HandedOut, PricesOut, onLine};
+
+pub mod books;
+
 use enumerator::Enumerator;
 use enumerator::Place;
 use network::Network;

@@ -1,4 +1,4 @@
 mod Held
 mod Standing
-mod Steps
-mod Places
+pub mod Steps
+pub mod Places

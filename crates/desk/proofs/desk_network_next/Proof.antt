@@ -7,7 +7,8 @@ use Rattle.laws.specs.Run.{next}
 use Rattle.bytes32.specs.Words.{words}
 use Rattle.network.specs.FullList.{fullList, nextFlow}
 use Rattle.network.specs.Checked.{netIn}
-use Rattle.desk.specs.NetworkCalls.{net, room, listed}
+use Rattle.desk.specs.ByteLists.{room, listed}
+use Rattle.desk.specs.NetworkCalls.{net}
 use Rattle.enumerator.specs.Enumerator.{lineOf, flowIn, following}
 use Rattle.desk.proofs.HandingOut.{no-line, a-line}
 use Rattle.desk.proofs.Given.{on-none, on-some}

@@ -8,10 +8,11 @@ use Rattle.bytes32.specs.Words.{words}
 use Rattle.network.specs.Network.{arcs}
 use Rattle.network.specs.FullList.{fullList}
 use Rattle.network.specs.Checked.{netIn}
-use Rattle.desk.specs.NetworkCalls.{listed}
+use Rattle.desk.specs.ByteLists.{listed}
 use Rattle.enumerator.specs.Enumerator.{lineAt, flowIn}
-use Rattle.desk.proofs.Lines.{every-at}
-use Rattle.desk.proofs.Given.{other-length, read-all, found}
+use Rattle.desk.proofs.Lines.{every-at, other-length}
+use Rattle.desk.proofs.NetworkLines.{full-flows}
+use Rattle.desk.proofs.Given.{read-all, found}
 use borrow.Author.Needs.{needs}
 use Rattle.desk.proofs.find.Statement.{statement}
 use Rattle.desk.proofs.find.Tie as tie
@@ -28,7 +29,7 @@ returns c =
     let N = netIn (a .args .net) in
     let g = a .args .given .now in
     let (stands, same, start) = c .start .ensures in
-    let e : listed g (fullList N) ≡ false = other-length N (a .pre .accepted) g (λ q. c .before .if1 .taken (q ∙ ap (λ k. 4 * k) (sym (a .pre .arcs-held)))) in
+    let e : listed g (fullList N) ≡ false = other-length (arcs N) (fullList N) (full-flows N (a .pre .accepted)) g (λ q. c .before .if1 .taken (q ∙ ap (λ k. 4 * k) (sym (a .pre .arcs-held)))) in
     (stands, same, ap (λ p. lineAt p (flowIn (c .start .result))) start ∙ sym (ap (λ t. cond t (some (words g)) none) e))
 
 read-words-requires : tie.Need-read-words-requires

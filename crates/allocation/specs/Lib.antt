@@ -1,0 +1,5 @@
+pub mod Follow
+pub mod Ways
+pub mod FullWays
+pub mod BookNet
+pub mod WayFlow

@@ -1,0 +1,5 @@
+mod Lookup
+mod Progress
+mod Balances
+mod Network
+pub mod Made

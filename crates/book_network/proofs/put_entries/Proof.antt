@@ -1,0 +1,91 @@
+use Rattle.book_network.proofs.put_entries.Statement.{statement}
+use Rattle.book_network.proofs.put_entries.Tie as tie
+use mathlib.Core.Path.{sym, _∙_}
+use Prim.Native.Nat.{_+_, _-_}
+use native.Mathlib.Omega.{arith}
+use Rattle.allocation.specs.BookNet.{entryArc}
+use Rattle.book_network.specs.Arrays.{arrays}
+use Rattle.book_network.proofs.Progress.{Row, row-start, row-more, row-done, entry-put}
+
+abbrev Inv-loop : tie.InvT-loop
+Inv-loop e tails₀ heads₀ lows₀ ups₀ costs₀ m k₀ tails heads lows ups costs k =
+    Row entryArc e (arrays tails₀ heads₀ lows₀ ups₀ costs₀) m (arrays tails heads lows ups costs) k
+
+abbrev μ-loop : tie.MeasureT-loop
+μ-loop e tails₀ heads₀ lows₀ ups₀ costs₀ m k₀ tails heads lows ups costs k = e - k
+
+loop-holds : tie.Need-loop-holds Inv-loop μ-loop
+loop-holds c = let s = c .before .before .before .before in row-start entryArc (s .args .e) _ (s .args .m) (s .pre .0)
+
+add-put-arc : tie.Need-add-put-arc Inv-loop μ-loop
+add-put-arc c = omega (arith, c .before .before .before .before .before .before .before .before .before .before .before .pre .1, c .before .before .before .before .before .before .before .before .before .before .before .pre .2)
+
+mul-put-arc : tie.Need-mul-put-arc Inv-loop μ-loop
+mul-put-arc c = omega (arith, c .before .before .before .before .before .before .before .before .before .before .before .pre .1, c .before .before .before .before .before .before .before .before .before .before .before .pre .2)
+
+add-put-arc-2 : tie.Need-add-put-arc-2 Inv-loop μ-loop
+add-put-arc-2 c = omega (arith, c .before .before .before .before .before .before .before .before .before .before .before .pre .1, c .before .before .before .before .before .before .before .before .before .before .before .pre .2)
+
+mul-put-arc-2 : tie.Need-mul-put-arc-2 Inv-loop μ-loop
+mul-put-arc-2 c = omega (arith, c .before .before .before .before .before .before .before .before .before .before .before .pre .1, c .before .before .before .before .before .before .before .before .before .before .before .pre .2)
+
+add-put-arc-3 : tie.Need-add-put-arc-3 Inv-loop μ-loop
+add-put-arc-3 c = omega (arith, c .before .before .before .before .before .before .before .before .before .before .before .pre .1, c .before .before .before .before .before .before .before .before .before .before .before .pre .2)
+
+put-arc-requires : tie.Need-put-arc-requires Inv-loop μ-loop
+put-arc-requires c κs =
+    let s = c .before .before .before .before .before .before .before .before .before .before .before in
+    (c .before .before .before .before .before .before .loop .inv .long, omega (arith, s .pre .2), omega (arith, s .pre .1), omega (arith, s .pre .1), omega arith)
+
+add-k : tie.Need-add-k Inv-loop μ-loop
+add-k c = omega (arith, c .before .before .before .before .before .before .before .before .before .before .before .before .before .before .before .before .before .before .before .before .before .pre .1)
+
+loop-less : tie.Need-loop-less Inv-loop μ-loop
+loop-less c = omega arith
+
+loop-again : tie.Need-loop-again Inv-loop μ-loop
+loop-again c =
+    let s = c .before .before .before .before .before .before .before .before .before .before .before .before .before .before .before .before .before .before .before .before .before in
+    let l = c .before .before .before .before .before .before .before .before .before .before .before .before .before .before .before .before .loop in
+    row-more entryArc (s .args .e) _ (s .args .m) (arrays (l .tails) (l .heads) (l .lows) (l .ups) (l .costs)) _ (l .k) (l .inv) (omega arith) (c .before .before .before .before .before .before .before .before .before .put-arc .ensures ∙ entry-put (arrays (l .tails) (l .heads) (l .lows) (l .ups) (l .costs)) (s .args .m + l .k) (l .k))
+
+same-length : tie.Need-same-length Inv-loop μ-loop
+same-length c = c .before .loop .inv .long .tails-long ∙ sym (c .before .before .before .before .before .before .pre .0 .tails-long)
+
+same-length-2 : tie.Need-same-length-2 Inv-loop μ-loop
+same-length-2 c = c .before .loop .inv .long .heads-long ∙ sym (c .before .before .before .before .before .before .pre .0 .heads-long)
+
+same-length-3 : tie.Need-same-length-3 Inv-loop μ-loop
+same-length-3 c = c .before .loop .inv .long .lows-long ∙ sym (c .before .before .before .before .before .before .pre .0 .lows-long)
+
+same-length-4 : tie.Need-same-length-4 Inv-loop μ-loop
+same-length-4 c = c .before .loop .inv .long .ups-long ∙ sym (c .before .before .before .before .before .before .pre .0 .ups-long)
+
+same-length-5 : tie.Need-same-length-5 Inv-loop μ-loop
+same-length-5 c = c .before .loop .inv .long .costs-long ∙ sym (c .before .before .before .before .before .before .pre .0 .costs-long)
+
+returns : tie.Need-returns Inv-loop μ-loop
+returns c = let s = c .before .before .before .before .before .before in row-done entryArc (s .args .e) _ (s .args .m) _ _ (c .before .loop .inv) (omega arith)
+
+pub put-entries-spec : {M : Type 1} → statement M
+put-entries-spec =
+    tie.close
+    (tie.spec
+    Inv-loop
+    μ-loop
+    loop-holds
+    add-put-arc
+    mul-put-arc
+    add-put-arc-2
+    mul-put-arc-2
+    add-put-arc-3
+    put-arc-requires
+    add-k
+    loop-less
+    loop-again
+    same-length
+    same-length-2
+    same-length-3
+    same-length-4
+    same-length-5
+    returns)

@@ -1,0 +1,39 @@
+-- A checked book that holds a book: what the functions take.
+use mathlib.Core.Path.{_≡_}
+use mathlib.Core.List.{List}
+use Prim.Native.Nat.{ℕ, _+_}
+use Rattle.lines.specs.Columns.{table, column}
+use Rattle.book.specs.Book.{Book}
+use Rattle.book.specs.declared.CheckedBook.{CheckedBook}
+use Rattle.book.specs.Checked.{filled}
+use Rattle.book.proofs.Accepted.{Accepted}
+use Rattle.allocation.specs.Follow.{size}
+
+pub record Holds (b : Book) (s : CheckedBook) : Type 0 where
+  pub accepted : Accepted b
+  pub total : ℕ
+  pub is : s ≡ filled total b
+
+pub record Held (s : CheckedBook) : Type 0 where
+  pub book : Book
+  pub holds : Holds book s
+
+-- its arrays, lent one by one
+pub record Tables (b : Book) (e : ℕ) (ticks costs instruments starts finishes : List ℕ) : Type 0 where
+  pub accepted : Accepted b
+  pub entries-are : e ≡ size b
+  pub ticks-are : ticks ≡ table (λ m. m .ticks + 1) (b .moves)
+  pub costs-are : costs ≡ table (λ m. m .cost) (b .moves)
+  pub instruments-are : instruments ≡ column (λ e. e .instrument) (b .entries)
+  pub starts-are : starts ≡ column (λ e. e .start) (b .entries)
+  pub finishes-are : finishes ≡ column (λ e. e .finish) (b .entries)
+
+pub record HasTables (e : ℕ) (ticks costs instruments starts finishes : List ℕ) : Type 0 where
+  pub book : Book
+  pub tables : Tables book e ticks costs instruments starts finishes
+
+pub record HasBook (players fee e : ℕ) (ticks costs instruments starts finishes : List ℕ) : Type 0 where
+  pub book : Book
+  pub tables : Tables book e ticks costs instruments starts finishes
+  pub players-is : players ≡ book .players
+  pub fee-is : fee ≡ book .fee

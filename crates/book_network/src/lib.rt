@@ -1,0 +1,326 @@
+// The network of a checked book.
+use book::CheckedBook;
+use network::Network;
+ghost use mathlib.Core.Path.{_≡_};
+ghost use mathlib.Core.List.{[], _∷_, _++_, map};
+ghost use Prim.Native.Nat.{_+_, _*_, _-_, _≤_, _<_};
+ghost use lib.IntN.{pos, negℤ};
+ghost use lib.ListN.{replicate};
+ghost use Rattle.laws.specs.Padded.{padded};
+ghost use Rattle.laws.specs.Within.{from};
+ghost use Rattle.allocation.specs.Follow.{inTime};
+ghost use Rattle.allocation.specs.Ways.{oneIf};
+ghost use Rattle.allocation.specs.BookNet.{entryArc};
+ghost use Rattle.book_network.specs.Held.{Held, HasTables, HasBook};
+ghost use Rattle.book_network.specs.Joins.{joinOf, isJoin, costIn, linkBy, Joins};
+ghost use Rattle.book_network.specs.Arrays.{arrays, Long, put, putIf, endTo, Adds, AddsJoins, blank, AddsAll, MakesNet};
+
+// The cost of a join, or that there is none.
+pub enum Join {
+    No,
+    At(u32),
+}
+
+// The join from instrument a to b: t is one more than the ticks of the move, 0 for no move, and c its cost.
+fn join_by(a: u32, b: u32, t: u32, c: u32, finish: u32, start: u32) -> Join
+    requires { ⌜ (t ≤ 1000001) × (finish ≤ 1000000) ⌝ }
+    ensures { λ r. ⌜ r ≡ joinOf (inTime (linkBy a b t c) finish start) ⌝ }
+{
+    if a == b {
+        if finish <= start {
+            return Join::At(0);
+        }
+        return Join::No;
+    }
+    if t == 0 {
+        return Join::No;
+    }
+    if finish + (t - 1) <= start {
+        return Join::At(c);
+    }
+    Join::No
+}
+
+// The join from entry i to entry j.
+fn join_of<'a>(
+    e: usize,
+    ticks: &'a [u32],
+    costs: &'a [u32],
+    instruments: &'a [u32],
+    starts: &'a [u32],
+    finishes: &'a [u32],
+    i: usize,
+    j: usize,
+) -> Join
+    requires { ⌜ HasTables e (now ticks) (now costs) (now instruments) (now starts) (now finishes) × (1 ≤ i) × (i ≤ e) × (1 ≤ j) × (j ≤ e) ⌝ }
+    ensures { λ r. ⌜ Joins e (now (ticks .entry)) (now (costs .entry)) (now (instruments .entry)) (now (starts .entry)) (now (finishes .entry)) i j r ⌝ }
+{
+    if i == j {
+        return Join::No;
+    }
+    let a = instruments[i - 1];
+    let b = instruments[j - 1];
+    let place = ((a - 1) * 16 + (b - 1)) as usize;
+    join_by(
+        a,
+        b,
+        ticks[place],
+        costs[place],
+        finishes[i - 1],
+        starts[j - 1],
+    )
+}
+
+// An arc, put at m.
+fn put_arc(
+    tails: &mut [u8],
+    heads: &mut [u8],
+    lows: &mut [u32],
+    ups: &mut [u32],
+    costs: &mut [i32],
+    m: usize,
+    tail: usize,
+    head: usize,
+    low: u32,
+    up: u32,
+    cost: u32,
+)
+    requires { ⌜ Long (arrays (now tails) (now heads) (now lows) (now ups) (now costs)) × (m < 512) × (tail ≤ 57) × (head ≤ 57) × (cost ≤ 1000000) ⌝ }
+    ensures { λ _. ⌜ arrays (now (tails .exit)) (now (heads .exit)) (now (lows .exit)) (now (ups .exit)) (now (costs .exit)) ≡ put (arrays (now (tails .entry)) (now (heads .entry)) (now (lows .entry)) (now (ups .entry)) (now (costs .entry))) m (record { tail = tail; head = head; low = low; up = up; cost = cost }) ⌝ }
+{
+    tails[m] = tail as u8;
+    heads[m] = head as u8;
+    lows[m] = low;
+    ups[m] = up;
+    costs[m] = cost as i32;
+}
+
+// The join from i to j, put at m if there is one.
+fn put_join(
+    o: Join,
+    i: usize,
+    j: usize,
+    tails: &mut [u8],
+    heads: &mut [u8],
+    lows: &mut [u32],
+    ups: &mut [u32],
+    costs: &mut [i32],
+    m: usize,
+) -> usize
+    requires { ⌜ Long (arrays (now tails) (now heads) (now lows) (now ups) (now costs)) × (m < 512) × (i ≤ 28) × (1 ≤ j) × (j ≤ 28) × (costIn o ≤ 1000000) ⌝ }
+    ensures { λ r. ⌜ (arrays (now (tails .exit)) (now (heads .exit)) (now (lows .exit)) (now (ups .exit)) (now (costs .exit)) ≡ putIf o i j (arrays (now (tails .entry)) (now (heads .entry)) (now (lows .entry)) (now (ups .entry)) (now (costs .entry))) m) × (r ≡ m + oneIf (isJoin o)) ⌝ }
+{
+    match o {
+        Join::No => m,
+        Join::At(c) => {
+            put_arc(tails, heads, lows, ups, costs, m, 2 * i, 2 * j - 1, 0, 1, c);
+            m + 1
+        }
+    }
+}
+
+// The joins of entry j, highest predecessor first, and its opening arc, put from m on.
+fn put_joins<'a>(
+    fee: u32,
+    e: usize,
+    ticks: &'a [u32],
+    prices: &'a [u32],
+    instruments: &'a [u32],
+    starts: &'a [u32],
+    finishes: &'a [u32],
+    j: usize,
+    tails: &mut [u8],
+    heads: &mut [u8],
+    lows: &mut [u32],
+    ups: &mut [u32],
+    costs: &mut [i32],
+    m: usize,
+) -> usize
+    requires { ⌜ HasTables e (now ticks) (now prices) (now instruments) (now starts) (now finishes) × (fee ≤ 1000000) × (1 ≤ j) × (j ≤ e) × Long (arrays (now tails) (now heads) (now lows) (now ups) (now costs)) × (m ≤ 463) ⌝ }
+    ensures { λ r. ⌜ AddsJoins fee e (now (ticks .entry)) (now (prices .entry)) (now (instruments .entry)) (now (starts .entry)) (now (finishes .entry)) j (arrays (now (tails .entry)) (now (heads .entry)) (now (lows .entry)) (now (ups .entry)) (now (costs .entry))) m (arrays (now (tails .exit)) (now (heads .exit)) (now (lows .exit)) (now (ups .exit)) (now (costs .exit))) r ⌝ }
+{
+    let mut at = m;
+    let mut i = e;
+    while i > 0 {
+        let o = join_of(e, ticks, prices, instruments, starts, finishes, i, j);
+        at = put_join(o, i, j, tails, heads, lows, ups, costs, at);
+        i -= 1;
+    }
+    put_arc(tails, heads, lows, ups, costs, at, 0, 2 * j - 1, 0, 1, fee);
+    at + 1
+}
+
+// The entry arcs, put from m on.
+fn put_entries(
+    e: usize,
+    tails: &mut [u8],
+    heads: &mut [u8],
+    lows: &mut [u32],
+    ups: &mut [u32],
+    costs: &mut [i32],
+    m: usize,
+)
+    requires { ⌜ Long (arrays (now tails) (now heads) (now lows) (now ups) (now costs)) × (e ≤ 28) × (m + e ≤ 512) ⌝ }
+    ensures { λ _. ⌜ Adds (arrays (now (tails .entry)) (now (heads .entry)) (now (lows .entry)) (now (ups .entry)) (now (costs .entry))) m (arrays (now (tails .exit)) (now (heads .exit)) (now (lows .exit)) (now (ups .exit)) (now (costs .exit))) (m + e) (map entryArc (from e 1)) ⌝ }
+{
+    for k in 0..e {
+        put_arc(
+            tails,
+            heads,
+            lows,
+            ups,
+            costs,
+            m + k,
+            2 * k + 1,
+            2 * k + 2,
+            1,
+            1,
+            0,
+        );
+    }
+}
+
+// The arcs to the last node, put from m on.
+fn put_ends(
+    e: usize,
+    tails: &mut [u8],
+    heads: &mut [u8],
+    lows: &mut [u32],
+    ups: &mut [u32],
+    costs: &mut [i32],
+    m: usize,
+)
+    requires { ⌜ Long (arrays (now tails) (now heads) (now lows) (now ups) (now costs)) × (e ≤ 28) × (m + e ≤ 512) ⌝ }
+    ensures { λ _. ⌜ Adds (arrays (now (tails .entry)) (now (heads .entry)) (now (lows .entry)) (now (ups .entry)) (now (costs .entry))) m (arrays (now (tails .exit)) (now (heads .exit)) (now (lows .exit)) (now (ups .exit)) (now (costs .exit))) (m + e) (map (endTo e) (from e 1)) ⌝ }
+{
+    for k in 0..e {
+        put_arc(
+            tails,
+            heads,
+            lows,
+            ups,
+            costs,
+            m + k,
+            2 * k + 2,
+            2 * e + 1,
+            0,
+            1,
+            0,
+        );
+    }
+}
+
+// The balances: the players at the first node, and less as many at the last.
+fn balances_of(players: u32, e: usize) -> [i32; 64]
+    requires { ⌜ (players ≤ 8) × (e ≤ 28) ⌝ }
+    ensures { λ r. ⌜ r ≡ padded 64 (pos 0) (pos players ∷ (replicate (2 * e) (pos 0) ++ (negℤ (pos players) ∷ []))) ⌝ }
+{
+    let mut r = [0i32; 64];
+    let p = players as i32;
+    r[0] = p;
+    r[2 * e + 1] = -p;
+    r
+}
+
+// All arcs, put into arrays of zeros; gives how many there are.
+fn put_arcs<'a>(
+    players: u32,
+    fee: u32,
+    e: usize,
+    ticks: &'a [u32],
+    prices: &'a [u32],
+    instruments: &'a [u32],
+    starts: &'a [u32],
+    finishes: &'a [u32],
+    tails: &mut [u8],
+    heads: &mut [u8],
+    lows: &mut [u32],
+    ups: &mut [u32],
+    costs: &mut [i32],
+) -> usize
+    requires { ⌜ HasBook players fee e (now ticks) (now prices) (now instruments) (now starts) (now finishes) × (arrays (now tails) (now heads) (now lows) (now ups) (now costs) ≡ blank) ⌝ }
+    ensures { λ r. ⌜ AddsAll players fee e (now (ticks .entry)) (now (prices .entry)) (now (instruments .entry)) (now (starts .entry)) (now (finishes .entry)) (arrays (now (tails .exit)) (now (heads .exit)) (now (lows .exit)) (now (ups .exit)) (now (costs .exit))) r ⌝ }
+{
+    let mut m = 0;
+    let mut j = 1;
+    while j <= e {
+        m = put_joins(
+            fee,
+            e,
+            ticks,
+            prices,
+            instruments,
+            starts,
+            finishes,
+            j,
+            tails,
+            heads,
+            lows,
+            ups,
+            costs,
+            m,
+        );
+        j += 1;
+    }
+    put_entries(e, tails, heads, lows, ups, costs, m);
+    put_ends(e, tails, heads, lows, ups, costs, m + e);
+    put_arc(
+        tails,
+        heads,
+        lows,
+        ups,
+        costs,
+        m + e + e,
+        0,
+        2 * e + 1,
+        0,
+        players,
+        0,
+    );
+    m + e + e + 1
+}
+
+// The network of a book.
+pub fn network_of(book: CheckedBook) -> Network
+    requires { ⌜ Held book ⌝ }
+    ensures { λ r. ⌜ MakesNet book r ⌝ }
+{
+    let e = book.count;
+    let players = book.players;
+    let ticks = book.ticks;
+    let prices = book.costs;
+    let instruments = book.instruments;
+    let starts = book.starts;
+    let finishes = book.finishes;
+    let mut tails = [0u8; 512];
+    let mut heads = [0u8; 512];
+    let mut lows = [0u32; 512];
+    let mut ups = [0u32; 512];
+    let mut costs = [0i32; 512];
+    let m = put_arcs(
+        players,
+        book.fee,
+        e,
+        &ticks,
+        &prices,
+        &instruments,
+        &starts,
+        &finishes,
+        &mut tails,
+        &mut heads,
+        &mut lows,
+        &mut ups,
+        &mut costs,
+    );
+    let balances = balances_of(players, e);
+    Network {
+        nodes: 2 * e + 2,
+        arcs: m,
+        balances: balances,
+        tails: tails,
+        heads: heads,
+        lows: lows,
+        ups: ups,
+        costs: costs,
+    }
+}

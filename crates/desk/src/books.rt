@@ -1,0 +1,45 @@
+// The entries of a book.
+ghost use mathlib.Core.Path.{_≡_};
+ghost use Rattle.book.specs.Name.{nameRefusal};
+ghost use Rattle.desk.specs.BookNames.{Names};
+
+// A part of a book.
+#[repr(C)]
+pub struct Span {
+    pub start: usize,
+    pub length: usize,
+}
+
+// Where the name of an entry lies in the book. Questions 11 to 16 and 19.
+#[no_mangle]
+pub extern "C" fn desk_name(book: &[u8], entry: u32) -> Span
+    ensures { λ r. ⌜ Names (now (book .entry)) entry r ⌝ }
+{
+    let checked = book::check(book);
+    let b = checked.book;
+    let n = entry as usize;
+    if n < 1 {
+        return Span {
+            start: 0,
+            length: 0,
+        };
+    }
+    if b.count < n {
+        return Span {
+            start: 0,
+            length: 0,
+        };
+    }
+    Span {
+        start: b.names[n - 1],
+        length: b.lengths[n - 1],
+    }
+}
+
+// The number of the question that refuses that name, 0 if none.
+#[no_mangle]
+pub extern "C" fn desk_name_refusal(book: &[u8], entry: u32) -> u32
+    ensures { λ r. ⌜ r ≡ nameRefusal (now (book .entry)) entry ⌝ }
+{
+    book::name_refusal(book, entry)
+}

@@ -1,0 +1,182 @@
+-- From the steps through the flows of a book's network to steps through its ways.
+use mathlib.Core.Path.{_≡_, refl, sym, ap, subst, _∙_}
+use mathlib.Core.List.{List}
+use mathlib.Core.Logic.{_↔_}
+use mathlib.Core.Option.{Option, none, some}
+use Prim.Native.Nat.{ℕ, _≤_}
+use native.Mathlib.Omega.{arith}
+use lib.ListN.{length, take, length-take}
+use Rattle.laws.specs.Padded.{padded}
+use Rattle.laws.specs.Members.{none-some}
+use Rattle.laws.specs.Image.{mapOption}
+use Rattle.network.specs.Network.{LeastCost, costOf}
+use Rattle.network.specs.Checked.{netIn, Sound}
+use Rattle.network.specs.declared.Network.{Network}
+use Rattle.enumerator.specs.declared.Place.{Place}
+use Rattle.enumerator.specs.declared.Place.the-variants.{Start, Line, None, End}
+use Rattle.enumerator.specs.declared.Enumerator.{Enumerator}
+use Rattle.enumerator.specs.Enumerator.{netOf, flowIn, lineAt, lineOf, placeOf, Stands}
+use Rattle.enumerator.specs.Enumerator as flows
+use Rattle.book.specs.Book.{Book}
+use Rattle.book.specs.declared.CheckedBook.{CheckedBook}
+use Rattle.allocation.specs.Follow.{size}
+use Rattle.allocation.specs.BookNet.{bookNet}
+use Rattle.allocation.specs.WayFlow.{flowOf, wayOf}
+use Rattle.allocation.specs.Ways.{LeastCostWay}
+use Rattle.allocation.proofs.WayBack.{way-back}
+use Rattle.book_network.proofs.Made.{made-net, made-sound}
+use Rattle.book_network.specs.Held.{Holds, Held}
+use Rattle.book_network.specs.Arrays.{MakesNet}
+use Rattle.way_flow.specs.Arcs.{Ends, HasEnds, ReadsWay, LaysFlow}
+use Rattle.way_flow.proofs.Lines.{ends-of, reads-flow, laid-flow, laid-least}
+use Rattle.way_enumerator.specs.declared.WayWalk.{WayWalk}
+use Rattle.way_enumerator.specs.WayWalk.{Walks, Walking, wayAt, costShown, following, At, ResumesIn, Tells}
+use Rattle.way_enumerator.proofs.Reading.{next-read, cost-read}
+
+-- a line that a state stands on is least-cost
+on-least : (s : Enumerator) → Stands s → (f : List ℕ) → lineOf s ≡ some f → LeastCost (netOf s) f
+on-least s h f e = go (s .place) refl
+  where
+    go : (p : Place) → s .place ≡ p → LeastCost (netOf s) f
+    go Start q = absurd (none-some f (sym (ap (λ p. lineAt p (flowIn s)) q) ∙ e))
+    go None q = absurd (none-some f (sym (ap (λ p. lineAt p (flowIn s)) q) ∙ e))
+    go End q = absurd (none-some f (sym (ap (λ p. lineAt p (flowIn s)) q) ∙ e))
+    go Line q =
+        let k : some (flowIn s) ≡ some f = sym (ap (λ p. lineAt p (flowIn s)) q) ∙ e in
+        let l : flowIn s ≡ f = cc in
+        subst (LeastCost (netOf s)) l (h .marked q .marks .least)
+
+-- the cost that a state holds is that of its way
+pub cost-held : (b : Book) (s : WayWalk) → Walks b s → s .walk .cost ≡ costShown b (wayAt b s)
+cost-held b s walks = walks .stands .cost-is ∙ go (lineOf (s .walk)) refl
+  where
+    go : (o : Option (List ℕ)) → lineOf (s .walk) ≡ o → flows.costShown (netOf (s .walk)) o ≡ costShown b (mapOption (wayOf b) o)
+    go none e = refl
+    go (some f) e =
+        ap (λ N. costOf N f) (walks .net-is)
+        ∙ cost-read b f (subst (λ N. LeastCost N f) (walks .net-is) (on-least (s .walk) (walks .stands) f e))
+
+placed : (b : Book) (p : Place) (o : Option (List ℕ)) → placeOf p o ≡ placeOf p (mapOption (wayOf b) o)
+placed b p none = refl
+placed b p (some f) = refl
+
+-- a state that stands on a line of the network stands on a way of the book
+at-way : (b : Book) (r : WayWalk) → Walks b r → (p : Place) (o : Option (List ℕ)) → lineOf (r .walk) ≡ o → r .walk .place ≡ placeOf p o
+    → At b p (mapOption (wayOf b) o) r
+at-way b r walks p o line place = record {
+  walks = walks;
+  way-is = ap (mapOption (wayOf b)) line;
+  place-is = place ∙ placed b p o;
+  cost-is = cost-held b r walks ∙ ap (λ x. costShown b (mapOption (wayOf b) x)) line;
+}
+
+-- the steps of an enumerator
+module _ (b : Book) (s r : WayWalk) (walks : Walks b s) (entries : r .entries ≡ s .entries) (p : Place) (o : Option (List ℕ)) (steps : flows.Steps (s .walk) p o (r .walk)) where
+  goes-on : Walks b r
+  goes-on = record {
+    accepted = walks .accepted;
+    entries-are = entries ∙ walks .entries-are;
+    net-is = ap netIn (steps .net-is) ∙ walks .net-is;
+    stands = steps .stands;
+  }
+
+  pub steps-to : (v : Option (List ℕ)) → mapOption (wayOf b) o ≡ v → At b p v r
+  steps-to v e = subst (λ x. At b p x r) e (at-way b r goes-on p o (steps .line-is) (steps .place-is))
+
+-- what follows the line that a state stands on
+pub follows : (b : Book) (s : WayWalk) → Walks b s → mapOption (wayOf b) (flows.following (netOf (s .walk)) (lineOf (s .walk))) ≡ following b (wayAt b s)
+follows b s walks = go (lineOf (s .walk)) refl
+  where
+    go : (o : Option (List ℕ)) → lineOf (s .walk) ≡ o → mapOption (wayOf b) (flows.following (netOf (s .walk)) o) ≡ following b (mapOption (wayOf b) o)
+    go none e = refl
+    go (some f) e =
+        ap (λ N. mapOption (wayOf b) (flows.following N (some f))) (walks .net-is)
+        ∙ next-read b f (subst (λ N. LeastCost N f) (walks .net-is) (on-least (s .walk) (walks .stands) f e))
+
+-- a walk of the network made of a checked book
+module _ (k : CheckedBook) (N : Network) (makes : MakesNet k N) where
+  pub net-sound : Held k → Sound N
+  net-sound h = made-sound (h .book) k (h .holds) N makes
+
+  count-is : (b : Book) → Holds b k → k .count ≡ size b
+  count-is b h = ap (λ (c : CheckedBook). c .count) (h .is)
+
+  made-ends : (b : Book) → Holds b k → Ends b (k .count) (take (N .arcs) (N .tails)) (take (N .arcs) (N .heads))
+  made-ends b h = rw (count-is b h) (ends-of b (h .accepted) N (made-net b k h N makes))
+
+  pub net-ends : Held k → HasEnds (k .count) (take (N .arcs) (N .tails)) (take (N .arcs) (N .heads))
+  net-ends h = record { book = h .book; ends = made-ends (h .book) (h .holds) }
+
+  module _ (b : Book) (h : Holds b k) (r : Enumerator) (stands : Stands r) (same : r .net ≡ N) where
+    pub walks : Walks b (record { walk = r; entries = k .count })
+    walks = record {
+      accepted = h .accepted;
+      entries-are = count-is b h;
+      net-is = ap netIn same ∙ made-net b k h N makes;
+      stands = stands;
+    }
+
+    -- on no way yet
+    pub begins : r .place ≡ Start → At b Start none (record { walk = r; entries = k .count })
+    begins place = at-way b (record { walk = r; entries = k .count }) walks Start none (ap (λ p. lineAt p (flowIn r)) place) place
+
+    -- on the way w, if it is a least-cost way; `flow` is what `flow_of` lays
+    pub resumes : (w flow : List ℕ) → length w ≡ k .count
+        → LaysFlow (k .count) (k .players) (take (N .arcs) (N .tails)) (take (N .arcs) (N .heads)) w flow
+        → flows.Resumes (netIn N) (take (N .arcs) flow) r → ResumesIn b w (record { walk = r; entries = k .count })
+    resumes w flow len lays step = record {
+      walks = walks;
+      on = λ p. (let l = is-way (step .on p .1) in (ap (λ q. mapOption (wayOf b) (lineAt q (flowIn r))) p ∙ ap some (ap (wayOf b) (step .on p .0 ∙ laid) ∙ way-back b w (l .way)), l));
+      off = λ n l. step .off n (subst (λ M. LeastCost M (take (N .arcs) flow)) (sym made) (least .1 l));
+    }
+      where
+        made : netIn N ≡ bookNet b
+        made = made-net b k h N makes
+
+        held : N .arcs ≡ length (take (N .arcs) (N .tails))
+        held = made-sound b k h N makes .arcs-held
+
+        lays-it : LaysFlow (k .count) (b .players) (take (N .arcs) (N .tails)) (take (N .arcs) (N .heads)) w flow
+        lays-it = subst (λ p. LaysFlow (k .count) p (take (N .arcs) (N .tails)) (take (N .arcs) (N .heads)) w flow) (ap (λ (c : CheckedBook). c .players) (h .is)) lays
+
+        laid : take (N .arcs) flow ≡ flowOf b w
+        laid = ap (λ n. take n flow) held ∙ laid-flow b (k .count) _ _ (made-ends b h) w flow len lays-it
+
+        least : LeastCost (bookNet b) (take (N .arcs) flow) ↔ LeastCostWay b w
+        least = subst (λ n. LeastCost (bookNet b) (take n flow) ↔ LeastCostWay b w) (sym held) (laid-least b (k .count) _ _ (made-ends b h) w flow len lays-it)
+
+        is-way : LeastCost (netIn N) (take (N .arcs) flow) → LeastCostWay b w
+        is-way l = least .0 (subst (λ M. LeastCost M (take (N .arcs) flow)) made l)
+
+-- a sound network's arrays have room for its arcs
+module _ (net : Network) (ok : Sound net) where
+  room : {A : Type 0} (l : List A) → length (take (net .arcs) l) ≡ net .arcs → net .arcs ≤ length l
+  room l e = omega (arith, length-take (net .arcs) l)
+
+  pub few-arcs : net .arcs ≤ 512
+  few-arcs = omega (arith, ok .arcs-held, ok .accepted .few-arcs)
+
+  pub in-tails : net .arcs ≤ length (net .tails)
+  in-tails = room (net .tails) (sym (ok .arcs-held))
+
+  pub in-heads : net .arcs ≤ length (net .heads)
+  in-heads = room (net .heads) (ok .accepted .well-formed .heads-len ∙ sym (ok .arcs-held))
+
+ends : (b : Book) (s : WayWalk) → Walks b s → Ends b (s .entries) (take (s .walk .net .arcs) (s .walk .net .tails)) (take (s .walk .net .arcs) (s .walk .net .heads))
+ends b s h = rw (h .entries-are) (ends-of b (h .accepted) (s .walk .net) (h .net-is))
+
+pub has-ends : (s : WayWalk) → Walking s → HasEnds (s .entries) (take (s .walk .net .arcs) (s .walk .net .tails)) (take (s .walk .net .arcs) (s .walk .net .heads))
+has-ends s h = record { book = h .book; ends = ends (h .book) s (h .walks) }
+
+-- the way read off the line is the way that the walk stands on
+pub tells : (s : WayWalk) (r : List ℕ) → s .walk .place ≡ Line
+    → ReadsWay (s .entries) (take (s .walk .net .arcs) (s .walk .net .tails)) (take (s .walk .net .arcs) (s .walk .net .heads)) (flowIn (s .walk)) r → Tells s r
+tells s r on reads = record { each = go }
+  where
+    go : (b : Book) → Walks b s → (w : List ℕ) → wayAt b s ≡ some w → r ≡ padded 28 0 w
+    go b h w e =
+        let l : lineOf (s .walk) ≡ some (flowIn (s .walk)) = ap (λ p. lineAt p (flowIn (s .walk))) on in
+        let least = subst (λ N. LeastCost N (flowIn (s .walk))) (h .net-is) (on-least (s .walk) (h .stands) (flowIn (s .walk)) l) in
+        let q : some (wayOf b (flowIn (s .walk))) ≡ some w = sym (ap (mapOption (wayOf b)) l) ∙ e in
+        let k : wayOf b (flowIn (s .walk)) ≡ w = cc in
+        reads-flow b (s .entries) _ _ (ends b s h) (flowIn (s .walk)) r reads (least .flow) ∙ ap (padded 28 0) k

@@ -1,0 +1,172 @@
+-- The flow of a list of numbers, arc by arc.
+use mathlib.Core.Path.{_≡_, refl, sym, ap, ap₂, subst, _∙_}
+use mathlib.Core.List.{List, [], _∷_, _++_, map}
+use Prim.Native.Nat.{ℕ, zero, suc, _+_, _*_, _-_, _/_, _≤_, _<_}
+use native.Mathlib.Omega.{arith}
+use native.Mathlib.Nat.{suc-inj}
+use native.Mathlib.Numerals.{add-one}
+use lib.ListN.{length, getD, drop, set, replicate, length-append, List·getD-map, List·getD-append}
+use lib.Seq.{drop-cons, drop-length, getD-append-add}
+use Rattle.laws.specs.Padded.{padded, filled, filled-more, filled-all}
+use Rattle.laws.specs.Equality.{cons-same, heads-same, tails-same, nil-cons}
+use Rattle.book.specs.Book.{Book}
+use Rattle.allocation.specs.Follow.{size}
+use Rattle.allocation.specs.Ways.{times}
+use Rattle.allocation.specs.BookNet.{Arc, sources, joinArc, joinArcs, bookArcs}
+use Rattle.allocation.specs.WayFlow.{hit, marked, joinFlow, entryFlow, endFlow, flowOf}
+use Rattle.allocation.proofs.Weights.{hit-small}
+use Rattle.allocation.proofs.Rows.{row-at, row-length}
+use Rattle.allocation.proofs.Blocks.{joinFlow-length}
+use Rattle.allocation.proofs.Nodes.{noArc, count-arcs}
+use Rattle.allocation.proofs.Size.{arcs-few}
+use Rattle.way_flow.specs.Arcs.{Ends, HasEnds, FlowAt, LaysFlow}
+use Rattle.way_flow.proofs.Reading.{joins-count}
+
+-- counting from the front: n were counted in the first k numbers
+pub record Counting (i : ℕ) (w : List ℕ) (n k : ℕ) : Type 0 where
+  pub upto : k ≤ length w
+  pub few : n ≤ k
+  pub left : n + times i (drop k w) ≡ times i w
+
+pub counting-start : (i : ℕ) (w : List ℕ) → Counting i w 0 0
+counting-start i w = record { upto = omega arith; few = omega arith; left = omega arith }
+
+pub counting-on : (i : ℕ) (w : List ℕ) (n k h : ℕ) → Counting i w n k → k < length w → h ≡ hit (getD w k 0) i → Counting i w (n + h) (k + 1)
+counting-on i w n k h c l q = record {
+  upto = omega arith;
+  few = omega (arith, c .few, hit-small (getD w k 0) i);
+  left = rw add-one (let d : times i (drop k w) ≡ hit (getD w k 0) i + times i (drop (suc k) w) = ap (times i) (drop-cons w k 0 l) in omega (arith, c .left));
+}
+
+pub counting-done : (i : ℕ) (w : List ℕ) (n k : ℕ) → Counting i w n k → length w ≤ k → n ≡ times i w
+counting-done i w n k c h =
+    let e : k ≡ length w = omega (arith, c .upto) in
+    let d : times i (drop k w) ≡ 0 = ap (λ k. times i (drop k w)) e ∙ ap (times i) (drop-length w) in omega (arith, c .left)
+
+-- the joins: on the arc from 2i to 2j − 1, whether i is number j of the list
+module _ (b : Book) (all : List ℕ) where
+  carries : Arc → ℕ
+  carries a = hit (a .tail / 2) (getD all ((a .head - 1) / 2) 0)
+
+  block-carries : (j p : ℕ) (l : List ℕ) (r : List Arc) → 1 ≤ j → getD all (j - 1) 0 ≡ p → map carries (map (joinArc b j) l ++ r) ≡ marked p l ++ map carries r
+  unfolding carries
+  block-carries j p [] r k e = refl
+  block-carries j p (i ∷ l) r k e =
+      let u : (2 * j - 1 - 1) / 2 ≡ j - 1 = omega arith in
+      let v : 2 * i / 2 ≡ i = omega arith in
+      let h : hit (2 * i / 2) (getD all ((2 * j - 1 - 1) / 2) 0) ≡ hit i p = ap₂ hit v (ap (λ n. getD all n 0) u ∙ e) in
+      cons-same _ (hit i p) _ (marked p l ++ map carries r) h (block-carries j p l r k e)
+
+  joins-carry : (j : ℕ) (w : List ℕ) → 1 ≤ j → drop (j - 1) all ≡ w → (n : ℕ) → n ≡ length w → map carries (joinArcs b n j) ≡ joinFlow b j w
+  joins-carry j w k e zero n = go w n
+    where
+      go : (w : List ℕ) → 0 ≡ length w → [] ≡ joinFlow b j w
+      go [] n = refl
+      go (p ∷ w) n = absurd (omega arith)
+  joins-carry j [] k e (suc m) n = absurd (omega arith)
+  joins-carry j (p ∷ w) k e (suc m) n =
+      let (h, t) = front all (j - 1) p w e in
+      let s : suc j - 1 ≡ suc (j - 1) = omega arith in
+      block-carries j p (sources b j) (joinArcs b m (suc j)) k h
+      ∙ ap (λ l. marked p (sources b j) ++ l) (joins-carry (suc j) w (omega arith) (ap (λ i. drop i all) s ∙ t) m (suc-inj n))
+    where
+      front : (l : List ℕ) (i p : ℕ) (w : List ℕ) → drop i l ≡ p ∷ w → (getD l i 0 ≡ p) × (drop (suc i) l ≡ w)
+      front [] zero p w e = absurd (nil-cons p w e)
+      front [] (suc i) p w e = absurd (nil-cons p w e)
+      front (a ∷ l) zero p w e = (heads-same a p l w e, tails-same a p l w e)
+      front (a ∷ l) (suc i) p w e = front l i p w e
+
+module _ (e : ℕ) (tails heads : List ℕ) (b : Book) (h : Ends b e tails heads) (w : List ℕ) (len : length w ≡ e) where
+  joined-length : length (joinFlow b 1 w) ≡ length (joinArcs b (size b) 1)
+  joined-length = subst (λ n. length (joinFlow b 1 w) ≡ length (joinArcs b n 1)) (len ∙ h .entries-are) (joinFlow-length b 1 w)
+
+  joined-all : length tails ≡ length (joinFlow b 1 w) + (2 * e + 1)
+  joined-all = joins-count e tails heads b h ∙ ap (λ n. n + (2 * e + 1)) (sym joined-length)
+
+  pub flow-long : length (flowOf b w) ≡ length tails
+  flow-long =
+      let x = length-append (joinFlow b 1 w) (entryFlow b ++ (endFlow b w ++ ((b .players - times 0 w) ∷ []))) in
+      let y = length-append (entryFlow b) (endFlow b w ++ ((b .players - times 0 w) ∷ [])) in
+      let z = length-append (endFlow b w) ((b .players - times 0 w) ∷ []) in
+      let u = row-length {A = ℕ} (λ j. 1) (size b) 1 in
+      let v = row-length (λ j. 1 - times j w) (size b) 1 in
+      omega (arith, joined-all, h .entries-are)
+
+  pub on-join : (k : ℕ) → k < length tails - (2 * e + 1) → getD (flowOf b w) k 0 ≡ hit (getD tails k 0 / 2) (getD w ((getD heads k 0 - 1) / 2) 0)
+  unfolding carries
+  on-join k l =
+      let n : k < length (joinFlow b 1 w) = omega (arith, joined-all) in
+      let m : k < length (joinArcs b (size b) 1) = omega (arith, joined-length) in
+      List·getD-append (joinFlow b 1 w) _ 0 k n
+      ∙ ap (λ l. getD l k 0) (sym (joins-carry b w 1 w (omega arith) refl (size b) (sym (len ∙ h .entries-are))))
+      ∙ at-arc (joinArcs b (size b) 1) k m
+      ∙ ap (λ a. carries b w a) (sym (List·getD-append (joinArcs b (size b) 1) _ noArc k m))
+      ∙ sym (ap₂ (λ t d. hit (t / 2) (getD w ((d - 1) / 2) 0)) (ap (λ l. getD l k 0) (h .tails-are) ∙ List·getD-map (λ a. a .tail) (bookArcs b) k noArc)
+      (ap (λ l. getD l k 0) (h .heads-are) ∙ List·getD-map (λ a. a .head) (bookArcs b) k noArc))
+    where
+      at-arc : (l : List Arc) (k : ℕ) → k < length l → getD (map (carries b w) l) k 0 ≡ carries b w (getD l k noArc)
+      at-arc [] k h = absurd (omega arith)
+      at-arc (a ∷ l) zero h = refl
+      at-arc (a ∷ l) (suc k) h = at-arc l k (omega arith)
+
+  behind : (k : ℕ) → getD (flowOf b w) (length (joinFlow b 1 w) + k) 0 ≡ getD (entryFlow b ++ (endFlow b w ++ ((b .players - times 0 w) ∷ []))) k 0
+  behind k = getD-append-add (joinFlow b 1 w) (entryFlow b ++ (endFlow b w ++ ((b .players - times 0 w) ∷ []))) k 0
+
+  module _ (k row : ℕ) (at : k ≡ length tails - (2 * e + 1) + row) where
+    shift : getD (flowOf b w) k 0 ≡ getD (entryFlow b ++ (endFlow b w ++ ((b .players - times 0 w) ∷ []))) row 0
+    shift = ap (λ i. getD (flowOf b w) i 0) (let q : k ≡ length (joinFlow b 1 w) + row = omega (arith, joined-all) in q) ∙ behind row
+
+    pub on-entry : row < e → getD (flowOf b w) k 0 ≡ 1
+    on-entry l =
+        let n : row < size b = omega (arith, h .entries-are) in
+        shift ∙ List·getD-append (entryFlow b) _ 0 row (rw (row-length {A = ℕ} (λ j. 1) (size b) 1) n) ∙ row-at (λ j. 1) (size b) 1 row n
+
+    past : e ≤ row → getD (flowOf b w) k 0 ≡ getD (endFlow b w ++ ((b .players - times 0 w) ∷ [])) (row - e) 0
+    past l =
+        shift ∙ ap (λ i. getD (entryFlow b ++ (endFlow b w ++ ((b .players - times 0 w) ∷ []))) i 0)
+        (let q : row ≡ length (entryFlow b) + (row - e) = omega (arith, row-length {A = ℕ} (λ j. 1) (size b) 1, h .entries-are) in q)
+        ∙ getD-append-add (entryFlow b) (endFlow b w ++ ((b .players - times 0 w) ∷ [])) (row - e) 0
+
+    pub on-end : e ≤ row → row < 2 * e → getD (flowOf b w) k 0 ≡ 1 - times (row - e + 1) w
+    on-end g l =
+        let n : row - e < size b = omega (arith, h .entries-are) in
+        let s : 1 + (row - e) ≡ row - e + 1 = omega arith in
+        past g ∙ List·getD-append (endFlow b w) _ 0 (row - e) (rw (row-length (λ j. 1 - times j w) (size b) 1) n)
+        ∙ row-at (λ j. 1 - times j w) (size b) 1 (row - e) n ∙ ap (λ j. 1 - times j w) s
+
+    pub on-last : row ≡ 2 * e → getD (flowOf b w) k 0 ≡ b .players - times 0 w
+    on-last l =
+        past (omega arith) ∙ ap (λ i. getD (endFlow b w ++ ((b .players - times 0 w) ∷ [])) i 0)
+        (let q : row - e ≡ length (endFlow b w) + 0 = omega (arith, row-length (λ j. 1 - times j w) (size b) 1, h .entries-are) in q)
+        ∙ getD-append-add (endFlow b w) ((b .players - times 0 w) ∷ []) 0 0
+
+-- the numbers of the first k arcs are laid
+module _ (e players : ℕ) (tails heads w : List ℕ) where
+  pub record Laying (flow : List ℕ) (k : ℕ) : Type 0 where
+    pub upto : k ≤ length tails
+    pub each : (b : Book) → Ends b e tails heads → players ≡ b .players → flow ≡ filled (λ x. x) (flowOf b w) 512 0 k
+
+  few : (b : Book) → Ends b e tails heads → length tails ≤ 463
+  few b h = omega (arith, arcs-few b (h .accepted), count-arcs b, ap length (h .tails-are))
+
+  pub laying-room : HasEnds e tails heads → length tails ≤ 463
+  laying-room h = few (h .book) (h .ends)
+
+  pub laying-start : Laying (replicate 512 0) 0
+  laying-start = record { upto = omega arith; each = λ b h p. refl }
+
+  pub laying-on : (flow : List ℕ) (k x : ℕ) → length w ≡ e → Laying flow k → k < length tails → FlowAt e players tails heads w k x → Laying (set flow k x) (k + 1)
+  laying-on flow k x len g l a = record {
+    upto = omega arith;
+    each = λ b h p. filled-more (λ x. x) (flowOf b w) 512 0 0 k flow x (g .each b h p) (omega (arith, flow-long e tails heads b h w len)) (omega (arith, few b h)) (a .each b h p);
+  }
+
+  map-id : (l : List ℕ) → map (λ x. x) l ≡ l
+  map-id [] = refl
+  map-id (x ∷ l) = ap (λ t. x ∷ t) (map-id l)
+
+  pub laying-done : (flow : List ℕ) (k : ℕ) → length w ≡ e → Laying flow k → length tails ≤ k → LaysFlow e players tails heads w flow
+  laying-done flow k len g l = record {
+    each = λ b h p.
+        g .each b h p ∙ filled-all (λ x. x) (flowOf b w) 512 0 k (omega (arith, g .upto, flow-long e tails heads b h w len)) ∙ ap (padded 512 0) (map-id (flowOf b w));
+  }

@@ -1,0 +1,3 @@
+mod Reading
+mod Laying
+pub mod Lines

@@ -1,0 +1,33 @@
+-- The ends of a book's arcs, as a checked network holds them.
+use mathlib.Core.Path.{_≡_}
+use mathlib.Core.List.{List, map}
+use Prim.Native.Nat.{ℕ}
+use lib.ListN.{getD}
+use Rattle.laws.specs.Padded.{padded}
+use Rattle.book.specs.Book.{Book}
+use Rattle.book.proofs.Accepted.{Accepted}
+use Rattle.allocation.specs.Follow.{size}
+use Rattle.allocation.specs.Ways.{IsWay}
+use Rattle.allocation.specs.BookNet.{bookArcs}
+use Rattle.allocation.specs.WayFlow.{flowOf}
+
+pub record Ends (b : Book) (e : ℕ) (tails heads : List ℕ) : Type 0 where
+  pub accepted : Accepted b
+  pub entries-are : e ≡ size b
+  pub tails-are : tails ≡ map (λ a. a .tail) (bookArcs b)
+  pub heads-are : heads ≡ map (λ a. a .head) (bookArcs b)
+
+pub record HasEnds (e : ℕ) (tails heads : List ℕ) : Type 0 where
+  pub book : Book
+  pub ends : Ends book e tails heads
+
+-- the way whose flow it is, of each book that has these arcs
+pub record ReadsWay (e : ℕ) (tails heads flow way : List ℕ) : Type 0 where
+  pub each : (b : Book) → Ends b e tails heads → (w : List ℕ) → IsWay b w → flow ≡ flowOf b w → way ≡ padded 28 0 w
+
+-- the flow of the list w, of each book that has these arcs and as many players: on arc k, and on all
+pub record FlowAt (e players : ℕ) (tails heads w : List ℕ) (k r : ℕ) : Type 0 where
+  pub each : (b : Book) → Ends b e tails heads → players ≡ b .players → r ≡ getD (flowOf b w) k 0
+
+pub record LaysFlow (e players : ℕ) (tails heads w flow : List ℕ) : Type 0 where
+  pub each : (b : Book) → Ends b e tails heads → players ≡ b .players → flow ≡ padded 512 0 (flowOf b w)

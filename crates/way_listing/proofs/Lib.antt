@@ -1,0 +1,4 @@
+mod Progress
+mod Standing
+mod Turn
+mod Whole

@@ -1,0 +1,61 @@
+// The listing of the ways that a walk goes through.
+use enumerator::Place;
+use way_enumerator::WayWalk;
+ghost use mathlib.Core.Path.{_≡_};
+ghost use Prim.Native.Nat.{_+_, _≤_};
+ghost use lib.ListN.{length};
+ghost use Rattle.enumerator.specs.declared.Place.the-variants.{Line};
+ghost use Rattle.way_enumerator.specs.WayWalk.{Walking};
+ghost use Rattle.way_listing.specs.WayListing.{ListsOne, ListsFrom, Lists};
+
+// The line of the way that a walk stands on.
+fn list_one(walk: WayWalk, out: &mut [u8], at: usize) -> usize
+    requires { ⌜ Walking walk × (walk .walk .place ≡ Line) × (at + 90 ≤ length (now out)) ⌝ }
+    ensures { λ r. ⌜ (r ≤ at + 90) × ListsOne walk (now (out .entry)) at (now (out .exit)) r ⌝ }
+{
+    let way = walk.way();
+    let e = walk.entries;
+    listing::put_way(out, at, &way[..e])
+}
+
+// The lines from the first way on, which a walk stands on, and the last line.
+fn list_from(walk: WayWalk, out: &mut [u8], at: usize) -> usize
+    requires { ⌜ Walking walk × (walk .walk .place ≡ Line) × (at + 90012 ≤ length (now out)) ⌝ }
+    ensures { λ r. ⌜ ListsFrom walk (now (out .entry)) at (now (out .exit)) r ⌝ }
+{
+    let mut w = walk;
+    let mut k = at;
+    let mut n: usize = 0;
+    loop {
+        if n == 1000 {
+            return listing::put_more(out, k);
+        }
+        k = list_one(w, out, k);
+        n += 1;
+        w = w.next();
+        let inner = w.walk;
+        let place = inner.place;
+        match place {
+            Place::Line => {}
+            _ => return listing::put_end(out, k, n as u64),
+        }
+    }
+}
+
+// The listing of all ways, at the front of the list; how long it is.
+pub fn list(walk: WayWalk, out: &mut [u8]) -> usize
+    requires { ⌜ Walking walk × (90031 ≤ length (now out)) ⌝ }
+    ensures { λ r. ⌜ Lists walk (now (out .entry)) (now (out .exit)) r ⌝ }
+{
+    let first = walk.first();
+    let inner = first.walk;
+    let place = inner.place;
+    match place {
+        Place::Line => {
+            let cost = inner.cost;
+            let at = listing::put_cost(out, 0, cost as u64);
+            list_from(first, out, at)
+        }
+        _ => listing::put_none(out, 0),
+    }
+}
