@@ -100,6 +100,9 @@ module _ (fee e : ℕ) (ticks costs instruments starts finishes : List ℕ) wher
         (progress-put (bookArcs b) C (m + e + e) (lastArc b) [] few v))));
   }
 
+pub few-of : (players fee e : ℕ) (ticks costs instruments starts finishes : List ℕ) → HasBook players fee e ticks costs instruments starts finishes → e ≤ 28
+few-of players fee e ticks costs instruments starts finishes h = omega (arith, h .tables .entries-are, h .tables .accepted .few)
+
 -- the struct
 same : {n n′ m m′ : ℕ} {b b′ c c′ : List ℤ} {t t′ d d′ l l′ u u′ : List ℕ} → n ≡ n′ → m ≡ m′ → b ≡ b′ → t ≡ t′ → d ≡ d′ → l ≡ l′ → u ≡ u′ → c ≡ c′
     → _≡_ {A = Network} (record { nodes = n; arcs = m; balances = b; tails = t; heads = d; lows = l; ups = u; costs = c })
@@ -136,7 +139,7 @@ pub has-book : (s : CheckedBook) → Held s → HasBook (s .players) (s .fee) (s
 has-book s h = record { book = h .book; tables = tables-of (h .book) s (h .holds); players-is = players-of (h .book) s (h .holds); fee-is = fee-of (h .book) s (h .holds) }
 
 pub few-entries : (s : CheckedBook) → Held s → s .count ≤ 28
-few-entries s h = omega (arith, tables-of (h .book) s (h .holds) .entries-are, h .holds .accepted .few)
+few-entries s h = few-of (s .players) (s .fee) (s .count) (s .ticks) (s .costs) (s .instruments) (s .starts) (s .finishes) (has-book s h)
 
 pub few-players : (s : CheckedBook) → Held s → s .players ≤ 8
 few-players s h = omega (arith, players-of (h .book) s (h .holds), h .holds .accepted .players-high)

@@ -3,31 +3,24 @@ use Rattle.book_network.proofs.Lookup.{by-stay, by-late, by-none, by-mo
 use Rattle.book_network.proofs.join_by.Statement.{statement}
 use Rattle.book_network.proofs.join_by.Tie as tie
 
--- src/lib.rt:31:13
 returns : tie.Need-returns
 returns c = by-stay _ _ (c .before .before .args .t) (c .before .before .args .c) _ _ (c .before .if1 .taken) (c .if2 .taken)
 
--- src/lib.rt:33:9
 returns-2 : tie.Need-returns-2
 returns-2 c = by-late _ _ (c .before .before .args .t) (c .before .before .args .c) _ _ (c .before .if1 .taken) (c .if2 .left)
 
--- src/lib.rt:36:9
 returns-3 : tie.Need-returns-3
 returns-3 c = by-none _ _ _ _ _ _ (c .before .if1 .left) (c .if3 .taken)
 
--- src/lib.rt:38:18
 sub-if4 : tie.Need-sub-if4
 sub-if4 c = search needs
 
--- src/lib.rt:38:8
 add-if4 : tie.Need-add-if4
 add-if4 c = search needs
 
--- src/lib.rt:39:9
 returns-4 : tie.Need-returns-4
 returns-4 c = by-move _ _ _ _ _ _ (c .before .before .if1 .left) (c .before .if3 .left) (c .if4 .taken)
 
--- src/lib.rt:25:1
 returns-5 : tie.Need-returns-5
 returns-5 c = by-slow _ _ _ _ _ _ (c .before .before .if1 .left) (c .before .if3 .left) (c .if4 .left)
 

@@ -8,103 +8,84 @@ use Rattle.book_network.proofs.join_of.Tie as tie
 room : (c : tie.Start) → CanRead (c .args .ticks .now) (c .args .costs .now) (c .args .instruments .now) (c .args .starts .now) (c .args .finishes .now) (c .args .i) (c .args .j)
 room c = can-read (c .args .i) (c .args .j) (c .pre .0) (c .pre .1) (c .pre .2) (c .pre .3) (c .pre .4)
 
+-- from a place behind the first test to the start
+abbrev start : tie.Else1 → tie.Start
+start c = c .before .before .before .before .before .before
+
 returns : tie.Need-returns
 returns c =
     let s = c .before .before .before .before .before .before in
     record { each = λ b T. join-self b _ _ _ _ _ _ T _ _ (s .pre .1) (omega (arith, s .pre .2, T .entries-are)) (s .pre .3) (omega (arith, s .pre .4, T .entries-are)) (c .if1 .taken) }
 
--- src/lib.rt:61:25
 sub-a : tie.Need-sub-a
 sub-a c = search needs
 
--- src/lib.rt:61:13
 mul-a : tie.Need-mul-a
 mul-a c = search needs
 
--- src/lib.rt:61:13
 shared-slice-read-a : tie.Need-shared-slice-read-a
-shared-slice-read-a c = omega (arith, room (c .before .before .before .before .before .before .before))
+shared-slice-read-a c = omega (arith, room (start (c .before)))
 
--- src/lib.rt:62:25
 sub-b : tie.Need-sub-b
 sub-b c = search needs
 
--- src/lib.rt:62:13
 mul-b : tie.Need-mul-b
 mul-b c = search needs
 
--- src/lib.rt:62:13
 shared-slice-read-b : tie.Need-shared-slice-read-b
-shared-slice-read-b c = omega (arith, room (c .before .before .before .before .before .before .before .before))
+shared-slice-read-b c = omega (arith, room (start (c .before .before)))
 
--- src/lib.rt:63:19
 sub-place : tie.Need-sub-place
-sub-place c = omega (arith, room (c .before .before .before .before .before .before .before .before))
+sub-place c = omega (arith, room (start (c .before .before)))
 
--- src/lib.rt:63:18
 mul-place : tie.Need-mul-place
-mul-place c = omega (arith, room (c .before .before .before .before .before .before .before .before))
+mul-place c = omega (arith, room (start (c .before .before)))
 
--- src/lib.rt:63:34
 sub-place-2 : tie.Need-sub-place-2
-sub-place-2 c = omega (arith, room (c .before .before .before .before .before .before .before .before))
+sub-place-2 c = omega (arith, room (start (c .before .before)))
 
--- src/lib.rt:63:18
 add-place : tie.Need-add-place
-add-place c = omega (arith, room (c .before .before .before .before .before .before .before .before))
+add-place c = omega (arith, room (start (c .before .before)))
 
--- src/lib.rt:63:17
 cast-place : tie.Need-cast-place
-cast-place c = omega (arith, room (c .before .before .before .before .before .before .before .before))
+cast-place c = omega (arith, room (start (c .before .before)))
 
--- src/lib.rt:64:19
 mul-join-by : tie.Need-mul-join-by
-mul-join-by c = omega (arith, room (c .before .before .before .before .before .before .before .before))
+mul-join-by c = omega (arith, room (start (c .before .before)))
 
--- src/lib.rt:64:19
 shared-slice-read-join-by : tie.Need-shared-slice-read-join-by
-shared-slice-read-join-by c = omega (arith, room (c .before .before .before .before .before .before .before .before .before))
+shared-slice-read-join-by c = omega (arith, room (start (c .before .before .before)))
 
--- src/lib.rt:64:33
 mul-join-by-2 : tie.Need-mul-join-by-2
-mul-join-by-2 c = omega (arith, room (c .before .before .before .before .before .before .before .before .before))
+mul-join-by-2 c = omega (arith, room (start (c .before .before .before)))
 
--- src/lib.rt:64:33
 shared-slice-read-join-by-2 : tie.Need-shared-slice-read-join-by-2
-shared-slice-read-join-by-2 c = omega (arith, room (c .before .before .before .before .before .before .before .before .before .before))
+shared-slice-read-join-by-2 c = omega (arith, room (start (c .before .before .before .before)))
 
--- src/lib.rt:64:56
 sub-join-by : tie.Need-sub-join-by
 sub-join-by c = search needs
 
--- src/lib.rt:64:47
 mul-join-by-3 : tie.Need-mul-join-by-3
 mul-join-by-3 c = search needs
 
--- src/lib.rt:64:47
 shared-slice-read-join-by-3 : tie.Need-shared-slice-read-join-by-3
-shared-slice-read-join-by-3 c = omega (arith, room (c .before .before .before .before .before .before .before .before .before .before .before))
+shared-slice-read-join-by-3 c = omega (arith, room (start (c .before .before .before .before .before)))
 
--- src/lib.rt:64:71
 sub-join-by-2 : tie.Need-sub-join-by-2
 sub-join-by-2 c = search needs
 
--- src/lib.rt:64:64
 mul-join-by-4 : tie.Need-mul-join-by-4
 mul-join-by-4 c = search needs
 
--- src/lib.rt:64:64
 shared-slice-read-join-by-4 : tie.Need-shared-slice-read-join-by-4
-shared-slice-read-join-by-4 c = omega (arith, room (c .before .before .before .before .before .before .before .before .before .before .before .before))
+shared-slice-read-join-by-4 c = omega (arith, room (start (c .before .before .before .before .before .before)))
 
--- src/lib.rt:64:5
 join-by-requires : tie.Need-join-by-requires
-join-by-requires c κs = let r = room (c .before .before .before .before .before .before .before .before .before .before .before .before) in (r .ticks-in, r .finish-in)
+join-by-requires c κs = let r = room (start (c .before .before .before .before .before .before)) in (r .ticks-in, r .finish-in)
 
--- src/lib.rt:45:1
 returns-2 : tie.Need-returns-2
 returns-2 c =
-    let s = c .before .before .before .before .before .before .before .before .before .before .before .before .before in
+    let s = start (c .before .before .before .before .before .before .before) in
     record { each = λ b T. c .join-by .ensures ∙ join-told b _ _ _ _ _ _ T _ _ (s .pre .1) (omega (arith, s .pre .2, T .entries-are)) (s .pre .3) (omega (arith, s .pre .4, T .entries-are)) (c .before .before .before .before .before .before .before .if1 .left) _ _ refl refl }
 
 pub join-of-spec : {M : Type 1} → statement M

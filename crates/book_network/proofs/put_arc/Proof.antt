@@ -8,71 +8,54 @@ use Rattle.book_network.specs.Arrays.{arrays}
 use Rattle.book_network.proofs.put_arc.Statement.{statement}
 use Rattle.book_network.proofs.put_arc.Tie as tie
 
--- src/lib.rt:84:16
 cast-tails : tie.Need-cast-tails
 cast-tails c = search needs
 
--- src/lib.rt:84:5
 slice-write-tails : tie.Need-slice-write-tails
 slice-write-tails c = search needs
 
--- src/lib.rt:85:16
 cast-heads : tie.Need-cast-heads
 cast-heads c = search needs
 
--- src/lib.rt:85:5
 slice-write-heads : tie.Need-slice-write-heads
 slice-write-heads c = search needs
 
--- src/lib.rt:86:5
 mul-lows : tie.Need-mul-lows
 mul-lows c = search needs
 
--- src/lib.rt:86:5
 slice-write-lows : tie.Need-slice-write-lows
 slice-write-lows c = search needs
 
--- src/lib.rt:87:5
 mul-ups : tie.Need-mul-ups
 mul-ups c = search needs
 
--- src/lib.rt:87:5
 slice-write-ups : tie.Need-slice-write-ups
 slice-write-ups c = search needs
 
--- src/lib.rt:88:16
 cast-costs : tie.Need-cast-costs
 cast-costs c = search needs
 
--- src/lib.rt:88:5
 mul-t15 : tie.Need-mul-t15
 mul-t15 c = search needs
 
--- src/lib.rt:88:5
 slice-set-from-costs : tie.Need-slice-set-from-costs
 slice-set-from-costs c = search needs
 
--- src/lib.rt:68:1
 same-length : tie.Need-same-length
 same-length c = search needs
 
--- src/lib.rt:68:1
 same-length-2 : tie.Need-same-length-2
 same-length-2 c = search needs
 
--- src/lib.rt:68:1
 same-length-3 : tie.Need-same-length-3
 same-length-3 c = search needs
 
--- src/lib.rt:68:1
 same-length-4 : tie.Need-same-length-4
 same-length-4 c = search needs
 
--- src/lib.rt:68:1
 same-length-5 : tie.Need-same-length-5
 same-length-5 c = search needs
 
--- src/lib.rt:68:1
 returns : tie.Need-returns
 returns c =
     ap (λ z. arrays (set (c .args .tails .now) (c .args .m) (c .args .tail)) (set (c .args .heads .now) (c .args .m) (c .args .head))
