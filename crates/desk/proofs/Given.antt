@@ -19,7 +19,7 @@ use Rattle.desk.specs.ByteLists.{listed}
 use Rattle.enumerator.specs.declared.Place.{Place}
 use Rattle.enumerator.specs.declared.Place.the-variants.{Line}
 use Rattle.enumerator.specs.Enumerator.{lineAt}
-use Rattle.desk.specs.NetworkEntries.{onLine}
+use Rattle.desk.specs.Replies.{onLine}
 use Rattle.desk.proofs.HandingOut.{no-line, is-line, a-line}
 use Rattle.desk.proofs.NetworkLines.{flow-listed}
 
