@@ -9,5 +9,6 @@ pub mod FirstWay
 mod Given
 mod HandingOut
 mod NetworkEntries
+mod BookEntries
 mod NetworkExamples
 mod BookExamples
