@@ -18,7 +18,7 @@ none-failed : (n : ℕ) → failed n ≡ none → n ≡ 0
 none-failed zero e = refl
 none-failed (suc n) e = absurd (let z : _≡_ {A = ℕ} 0 1 = cc in omega arith)
 
-first-passed : (n k : ℕ) → orElse n k ≡ 0 → n ≡ 0
+pub first-passed : (n k : ℕ) → orElse n k ≡ 0 → n ≡ 0
 first-passed zero k e = refl
 first-passed (suc n) k e = absurd (omega arith)
 

@@ -2,7 +2,7 @@
 use mathlib.Core.Path.{_≡_}
 use mathlib.Core.Bool.{cond}
 use mathlib.Core.List.{List}
-use mathlib.Core.Option.{Option, none, some}
+use mathlib.Core.Option.{none, some}
 use Prim.Native.Nat.{ℕ}
 use lib.IntN.{pos}
 use Rattle.laws.specs.Tests.{ask}
@@ -17,7 +17,7 @@ use Rattle.book_network.specs.Held.{Holds}
 use Rattle.way_enumerator.specs.WayWalk.{Walks, wayAt}
 use Rattle.way_enumerator.specs.declared.WayWalk.{WayWalk}
 use Rattle.desk.specs.declared.Reply.{Reply}
-use Rattle.desk.specs.declared.books.Opened.{Opened}
+use Rattle.desk.specs.declared.books.Admitted.{Admitted}
 use Rattle.desk.specs.Replies.{orElse, HandedOut, countUnless}
 use Rattle.desk.specs.ByteLists.{room, listed}
 use Rattle.desk.specs.BookCalls.{size, Told, countWays}
@@ -27,7 +27,7 @@ abbrev pub refusedAt : ℕ → ℕ → Reply
 refusedAt k l = record { code = k; line = l; value = pos 0 }
 
 -- questions 11 to 17, with a list of so many bytes lent for the way
-pub record Opens (s : List ℕ) (bytes : ℕ) (r : Opened) : Type 0 where
+pub record Admits (s : List ℕ) (bytes : ℕ) (r : Admitted) : Type 0 where
   pub number-is : r .number ≡ orElse (refusal s) (ask (room (size s) bytes) 17 0)
   pub told : Told s (r .number) (r .line)
   pub book-is : r .book ≡ checkedBook s

@@ -9,13 +9,13 @@ ghost use Rattle.way_enumerator.specs.WayWalk.{Walking};
 ghost use Rattle.desk.specs.Replies.{sees};
 ghost use Rattle.desk.specs.ByteLists.{room};
 ghost use Rattle.desk.specs.BookRun.{AnswersBook};
-ghost use Rattle.desk.specs.BookEntries.{refusedAt, Opens, FindsGiven, HandsWay, CountsBook};
+ghost use Rattle.desk.specs.BookEntries.{refusedAt, Admits, FindsGiven, HandsWay, CountsBook};
 ghost use Rattle.desk.specs.BookNames.{Names};
-use book::CheckedBook;
 use crate::Reply;
 use crate::has_room;
 use crate::on_line;
 use crate::word;
+use book::CheckedBook;
 use way_enumerator::WayWalk;
 
 // A refusal, with the line that it tells.
@@ -30,14 +30,14 @@ fn refused(code: u32, line: u32) -> Reply
 }
 
 // The book of a call, and the number of the first of questions 11 to 17 that fails, or 0, where a list of so many bytes is lent for the way.
-struct Opened {
+struct Admitted {
     number: u32,
     line: u32,
     book: CheckedBook,
 }
 
-fn open(book: &[u8], bytes: usize) -> Opened
-    ensures { λ r. ⌜ Opens (now (book .entry)) bytes r ⌝ }
+fn admit(book: &[u8], bytes: usize) -> Admitted
+    ensures { λ r. ⌜ Admits (now (book .entry)) bytes r ⌝ }
 {
     let checked = book::check(book);
     let answer = checked.answer;
@@ -45,20 +45,20 @@ fn open(book: &[u8], bytes: usize) -> Opened
     let line = book::line(answer);
     let b = checked.book;
     if number != 0 {
-        return Opened {
+        return Admitted {
             number: number,
             line: line,
             book: b,
         };
     }
     if has_room(b.count, bytes) {
-        Opened {
+        Admitted {
             number: 0,
             line: 0,
             book: b,
         }
     } else {
-        Opened {
+        Admitted {
             number: 17,
             line: 0,
             book: b,
@@ -105,12 +105,12 @@ fn hand_way(walk: WayWalk, way: &mut [u8], code: u32) -> Reply
 pub extern "C" fn desk_first(book: &[u8], way: &mut [u8]) -> Reply
     ensures { λ r. ⌜ AnswersBook (now (book .entry)) (first (now (way .entry))) (sees r (now (way .exit))) ⌝ }
 {
-    let opened = open(book, way.len());
-    let number = opened.number;
+    let admitted = admit(book, way.len());
+    let number = admitted.number;
     if number != 0 {
-        return refused(number, opened.line);
+        return refused(number, admitted.line);
     }
-    let b = opened.book;
+    let b = admitted.book;
     let walk = way_enumerator::start(b).first();
     hand_way(walk, way, 100)
 }
@@ -120,12 +120,12 @@ pub extern "C" fn desk_first(book: &[u8], way: &mut [u8]) -> Reply
 pub extern "C" fn desk_next(book: &[u8], given: &[u8], way: &mut [u8]) -> Reply
     ensures { λ r. ⌜ AnswersBook (now (book .entry)) (next (now (given .entry)) (now (way .entry))) (sees r (now (way .exit))) ⌝ }
 {
-    let opened = open(book, way.len());
-    let number = opened.number;
+    let admitted = admit(book, way.len());
+    let number = admitted.number;
     if number != 0 {
-        return refused(number, opened.line);
+        return refused(number, admitted.line);
     }
-    let b = opened.book;
+    let b = admitted.book;
     let walk = find_way(b, given);
     let flows = walk.walk;
     let place = flows.place;

@@ -1,51 +1,72 @@
+use mathlib.Core.Path.{refl}
+use lib.ListN.{length}
+use Rattle.laws.specs.Run.{first}
+use Rattle.way_enumerator.specs.WayWalk.{Walks, wayAt, At}
+use Rattle.enumerator.specs.declared.Place.the-variants.{None}
+use Rattle.allocation.specs.FullWays.{firstWay}
+use Rattle.desk.proofs.BookEntries.{Past, past, fails, is-held, room-way, answers-first}
 use borrow.Author.Needs.{needs}
 use Rattle.desk.proofs.books.desk_first.Statement.{statement}
 use Rattle.desk.proofs.books.desk_first.Tie as tie
-use Rattle.desk.proofs.books.desk_first.Reads as reads
-use Rattle.desk.proofs.books.desk_first.Lts as lts
-use Rattle.desk.proofs.books.hand_way.Reads as hand-way-reads
-use Rattle.desk.proofs.books.open.Reads as open-reads
-use Rattle.desk.proofs.books.refused.Reads as refused-reads
-use Rattle.way_enumerator.proofs.WayWalk.first.Reads as first-reads
-use Rattle.way_enumerator.proofs.start.Reads as start-reads
 
--- src/books.rt:108:9
-open-requires : tie.Need-open-requires
-open-requires c κs = search needs
+abbrev entry : tie.After-admit → tie.Start
+entry c = c .before .before .before
 
--- src/books.rt:111:9
+-- past questions 11 to 17
+gone : (c : tie.Else1) → Past (entry (c .before) .args .book .now) (length (entry (c .before) .args .way .now)) (c .before .admit .result .book)
+gone c =
+    let b = c .before in
+    let a = entry b .args in
+    past (a .book .now) (b .admit .result) (length (a .way .now)) (b .admit .ensures) (c .if1 .left)
+
+-- the walk, before its first way and on it
+begun : (c : tie.After-start) → Walks (gone (c .before .before) .book) (c .start .result)
+begun c = let p = gone (c .before .before) in c .start .ensures .each (p .book) (p .holds) .walks
+
+on-first : (c : tie.After-first) → let b = gone (c .before .before .before) .book in At b None (firstWay b) (c .first .result)
+on-first c = c .first .ensures .each (gone (c .before .before .before) .book) (begun (c .before))
+
+admit-requires : tie.Need-admit-requires
+admit-requires c κs = search needs
+
 refused-requires : tie.Need-refused-requires
 refused-requires c κs = search needs
 
--- src/books.rt:111:9
 returns : tie.Need-returns
-returns c = ?
+returns c =
+    let b = c .before .before in
+    let a = entry b .args in
+    fails (a .book .now) (b .admit .result) (length (a .way .now)) (b .admit .ensures) (first (a .way .now)) (c .refused .result) refl (c .before .if1 .taken) (c .refused .ensures)
 
--- src/books.rt:114:16
 start-requires : tie.Need-start-requires
-start-requires c κs = ?
+start-requires c κs = is-held _ _ _ (gone (c .before))
 
--- src/books.rt:114:9
 first-requires : tie.Need-first-requires
-first-requires c κs = ?
+first-requires c κs = record { book = gone (c .before .before) .book; walks = begun c }
 
--- src/books.rt:115:5
 hand-way-requires : tie.Need-hand-way-requires
-hand-way-requires c κs = ?
+hand-way-requires c κs =
+    let f = c .before in
+    let p = gone (f .before .before .before) in
+    (record { book = p .book; walks = on-first f .walks }, room-way _ _ _ p (f .first .result) (on-first f .walks))
 
--- src/books.rt:104:1
 same-length : tie.Need-same-length
 same-length c = search needs
 
--- src/books.rt:104:1
 returns-2 : tie.Need-returns-2
-returns-2 c = ?
+returns-2 c =
+    let h = c .before .before in
+    let f = h .before .before in
+    let e = f .before .before .before in
+    let a = entry (e .before) .args in
+    let p = gone e in
+    answers-first (a .book .now) _ _ p (a .way .now) refl (wayAt (p .book) (f .first .result)) (on-first f .way-is) (h .hand-way .result) _ (h .hand-way .ensures .each (p .book) (on-first f .walks))
 
 pub desk-first-spec : {M : Type 1} → statement M
 desk-first-spec =
     tie.close
     (tie.spec
-    open-requires
+    admit-requires
     refused-requires
     returns
     start-requires
