@@ -1,42 +1,21 @@
 -- The full list of an accepted book as bytes.
-use mathlib.Core.Path.{_≡_, refl}
-use mathlib.Core.Bool.{Bool, true, false}
+use mathlib.Core.Path.{_≡_}
+use mathlib.Core.Bool.{true}
 use mathlib.Core.List.{List, [], _∷_}
 use mathlib.Core.Logic.{_↔_}
-use mathlib.Core.Option.{Option, none, some}
 use Prim.Native.Nat.{ℕ, suc, _*_, _<_}
 use native.Mathlib.Omega.{arith}
-use lib.Dec.{leb}
 use lib.ListN.{length}
-use Rattle.laws.specs.Tests.{ask}
 use Rattle.laws.specs.Members.{Every}
 use Rattle.bytes32.specs.Words.{words}
-use Rattle.book.specs.Book.{Book, parse}
-use Rattle.book.specs.Questions.{refusal}
-use Rattle.book.proofs.Accepted.{Accepted, accepted}
+use Rattle.book.specs.Book.{Book}
+use Rattle.book.proofs.Accepted.{Accepted}
 use Rattle.allocation.specs.Follow.{size}
 use Rattle.allocation.specs.Ways.{Joined, LeastCostWay}
 use Rattle.allocation.specs.FullWays.{fullWays}
 use Rattle.allocation.proofs.FullWays.{full-way, full-ways-ascending}
 use Rattle.desk.specs.ByteLists.{listed}
 use Rattle.desk.proofs.Lines.{FullOf, listed-line, line-listed}
-
--- what passes 11 to 16 holds a book
-pub record Holds (s : List ℕ) : Type 0 where
-  pub book : Book
-  pub is : parse s ≡ some book
-  pub accepted : Accepted book
-
-no-form : (t : Bool) → ¬ (ask t 11 12 ≡ 0)
-no-form true e = omega arith
-no-form false e = omega arith
-
-pub holds : (s : List ℕ) → refusal s ≡ 0 → Holds s
-holds s e = go (parse s) refl
-  where
-    go : (o : Option Book) → parse s ≡ o → Holds s
-    go (some b) p = record { book = b; is = p; accepted = accepted s b e p }
-    go none p = absurd (no-form (leb (length s) 16384) (rw p at e))
 
 module _ (b : Book) (ok : Accepted b) where
   joined-small : (j : ℕ) (w : List ℕ) → Joined b j w → Every (λ n. n < 4294967296) w

@@ -14,18 +14,19 @@ use Rattle.laws.specs.Listing.{askOn, lastWord, lists-all}
 use Rattle.laws.specs.Count.{count, count-is}
 use Rattle.bytes32.specs.Words.{encodeWords}
 use Rattle.book.specs.Questions.{refusal}
+use Rattle.book_network.proofs.Made.{held}
 use Rattle.desk.specs.declared.Reply.{Reply}
 use Rattle.desk.specs.Replies.{sees}
 use Rattle.desk.specs.ByteLists.{room}
 use Rattle.desk.specs.BookCalls.{BookCall, lent, ways, size, refuses, countWays}
 use Rattle.desk.specs.BookRun.{RightBook, answer, AnswersBook, FairBook, KeptBook, ReadBook}
 use Rattle.desk.proofs.Lines.{FullOf, member-listed, lines-apart}
-use Rattle.desk.proofs.BookLines.{holds, full-ways}
+use Rattle.desk.proofs.BookLines.{full-ways}
 use Rattle.desk.proofs.Turns as turns
 
 module _ (s : List ℕ) where
   pub full : refusal s ≡ 0 → FullOf (size s) (ways s)
-  full e = let h = holds s e in rw (h .is) (full-ways (h .book) (h .accepted))
+  full e = let (b, p, h) = held s e in rw p (full-ways b (h .accepted))
 
   apart : refusal s ≡ 0 → Apart encodeWords (ways s)
   apart e = lines-apart (size s) (ways s) (full e)

@@ -8,7 +8,8 @@ use Rattle.laws.specs.Lexicographic.{_<lex_}
 use Rattle.laws.specs.Members.{first?}
 use Rattle.laws.specs.Run.{first, nothing, shown}
 use Rattle.laws.specs.Seen.{Seen}
-use Rattle.book.specs.Book.{Book}
+use Rattle.book.specs.Book.{Book, parse}
+use Rattle.book_network.proofs.Made.{held}
 use Rattle.allocation.specs.Ways.{IsWay, LeastCostWay}
 use Rattle.allocation.specs.FullWays.{fullWays, firstWay}
 use Rattle.allocation.specs.BookNet.{bookNet}
@@ -18,11 +19,10 @@ use Rattle.allocation.proofs.Arcs.{well-formed}
 use Rattle.allocation.proofs.Matched.{way-flow}
 use Rattle.allocation.proofs.LineByLine.{matched}
 use Rattle.network.proofs.FullList.{none-iff}
-use Rattle.desk.specs.BookCalls.{ways, refuses}
+use Rattle.desk.specs.BookCalls.{waysIn, ways, refuses}
 use Rattle.desk.specs.BookRun.{RightBook, AnswersBook}
 use Rattle.desk.specs.FirstWay.{FindsWay, FindsNoWay}
 use Rattle.desk.proofs.Lines.{first-least, first-none}
-use Rattle.desk.proofs.BookLines.{Holds, holds}
 use Rattle.desk.proofs.BookRun.{accepts}
 
 module _ (b : Book) where
@@ -43,19 +43,13 @@ module _ (b : Book) where
 
 -- of every call of `first` that passes the questions, by what its entry ensures
 pub first-finds-way : (s l : List ℕ) (t : Seen (List ℕ)) → refuses s (first l) ≡ none → AnswersBook s (first l) t → FindsWay s l t ⊎ FindsNoWay s l t
-first-finds-way s l t e h = go (holds s (accepts s (first l) e))
+first-finds-way s l t e h = let (b, p, k) = held s (accepts s (first l) e) in go b p (firstWay b) refl
   where
     shown-is : RightBook s (first l) (shown (first? (ways s)) nothing) t
     shown-is = rw e at h
 
-    go : Holds s → FindsWay s l t ⊎ FindsNoWay s l t
-    go k = split (firstWay (k .book)) refl
-      where
-        line-is : first? (ways s) ≡ firstWay (k .book)
-        line-is = rw (k .is)
-
-        split : (o : Option (List ℕ)) → firstWay (k .book) ≡ o → FindsWay s l t ⊎ FindsNoWay s l t
-        split none q = inr (record { book = k .book; holds = k .is; no-way = no-way-exactly (k .book) .0 q; shows = rw (line-is ∙ q) at shown-is })
-        split (some w) q =
-            let (least, before) = first-way-least (k .book) w q in
-            inl (record { book = k .book; holds = k .is; way = w; least-cost = least; first-of-all = before; shows = rw (line-is ∙ q) at shown-is })
+    go : (b : Book) → parse s ≡ some b → (o : Option (List ℕ)) → firstWay b ≡ o → FindsWay s l t ⊎ FindsNoWay s l t
+    go b p none q = inr (record { book = b; holds = p; no-way = no-way-exactly b .0 q; shows = rw (ap (λ x. first? (waysIn x)) p ∙ q) at shown-is })
+    go b p (some w) q =
+        let (least, before) = first-way-least b w q in
+        inl (record { book = b; holds = p; way = w; least-cost = least; first-of-all = before; shows = rw (ap (λ x. first? (waysIn x)) p ∙ q) at shown-is })

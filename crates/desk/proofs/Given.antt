@@ -4,24 +4,21 @@ use mathlib.Core.Bool.{Bool, true, false, cond}
 use mathlib.Core.List.{List}
 use mathlib.Core.Logic.{_≢_}
 use mathlib.Core.Option.{Option, none, some}
-use Prim.Native.Nat.{ℕ, _*_, _<_}
+use Prim.Native.Nat.{ℕ, _*_, _≤_, _<_}
 use native.Mathlib.Omega.{arith}
 use lib.ListN.{length, take}
 use lib.Seq.{take-all}
-use Rattle.laws.specs.Members.{Every, none-some}
+use Rattle.laws.specs.Members.{_∈_, Every, none-some}
 use Rattle.laws.specs.Padded.{padded, take-padded}
 use Rattle.bytes32.specs.Words.{words}
 use Rattle.bytes32.proofs.Words.{length-words}
-use Rattle.network.specs.Network.{Net, arcs, LeastCost}
-use Rattle.network.specs.FullList.{fullList}
-use Rattle.network.specs.Checked.{AcceptedNet}
 use Rattle.desk.specs.ByteLists.{listed}
 use Rattle.enumerator.specs.declared.Place.{Place}
 use Rattle.enumerator.specs.declared.Place.the-variants.{Line}
 use Rattle.enumerator.specs.Enumerator.{lineAt}
-use Rattle.desk.specs.NetworkEntries.{onLine}
-use Rattle.desk.proofs.HandingOut.{no-line, is-line, a-line}
-use Rattle.desk.proofs.NetworkLines.{flow-listed}
+use Rattle.desk.specs.Replies.{onLine}
+use Rattle.desk.proofs.HandingOut.{no-line, is-line}
+use Rattle.desk.proofs.Lines.{FullOf, listed-line, line-listed}
 
 differ : ¬ (false ≡ true)
 differ e = let z : _≡_ {A = ℕ} 0 1 = cc in omega arith
@@ -35,24 +32,27 @@ pub on-some : (b : Bool) (v f : List ℕ) (o : Option (List ℕ)) → o ≡ cond
 on-some true v f o e q = (refl, e)
 on-some false v f o e q = absurd (none-some f (sym e ∙ q))
 
-module _ (N : Net) (ok : AcceptedNet N) (g : List ℕ) where
-  -- of m numbers, all are read
-  pub read-all : length g ≡ 4 * arcs N → take (arcs N) (padded 512 0 (take 512 (words g))) ≡ words g
-  read-all e =
-      let l : length (words g) ≡ arcs N = rw (length-words g) (omega (arith, e)) in
-      let t : take 512 (words g) ≡ words g = take-all 512 (words g) (omega (arith, l, ok .few-arcs)) in
-      ap (λ x. take (arcs N) (padded 512 0 x)) t ∙ ap (λ k. take k (padded 512 0 (words g))) (sym l) ∙ take-padded 512 0 (words g)
+-- of k numbers, all are read
+pub read-all : (k : ℕ) → k ≤ 512 → (g : List ℕ) → length g ≡ 4 * k → take k (padded 512 0 (take 512 (words g))) ≡ words g
+read-all k h g e =
+    let l : length (words g) ≡ k = rw (length-words g) (omega (arith, e)) in
+    let t : take 512 (words g) ≡ words g = take-all 512 (words g) (omega (arith, l, h)) in
+    ap (λ x. take k (padded 512 0 x)) t ∙ ap (λ n. take n (padded 512 0 (words g))) (sym l) ∙ take-padded 512 0 (words g)
 
-  -- what question 8 finds: the state is on the line of the bytes, or on none
-  pub found : Every (λ b. b < 256) g → length g ≡ 4 * arcs N → (p : Place) (f w : List ℕ) → w ≡ words g → (p ≡ Line → (f ≡ w) × LeastCost N w) → (p ≢ Line → ¬ LeastCost N w)
-      → lineAt p f ≡ cond (listed g (fullList N)) (some (words g)) none
-  found bytes e p f w q there away = go (onLine p) refl (listed g (fullList N)) refl
-    where
-      least : listed g (fullList N) ≡ true → LeastCost N w
-      least h = rw q (flow-listed N ok g bytes .0 h .1)
+-- what the question about the given list finds: the state, at place p, is on the line of the bytes, or on none
+pub found : (k : ℕ) (L : List (List ℕ)) → FullOf k L → (g : List ℕ) → Every (λ b. b < 256) g → length g ≡ 4 * k → (p : Place) (o : Option (List ℕ))
+    → (p ≡ Line → (o ≡ some (words g)) × (words g ∈ L)) → (p ≢ Line → (o ≡ none) × ¬ (words g ∈ L)) → o ≡ cond (listed g L) (some (words g)) none
+found k L full g bytes e p o there away = go (onLine p) refl (listed g L) refl
+  where
+    go : (t : Bool) → onLine p ≡ t → (b : Bool) → listed g L ≡ b → o ≡ cond b (some (words g)) none
+    go true h true q = there (is-line p h) .0
+    go true h false q = absurd (differ (sym q ∙ line-listed k L full g bytes e (there (is-line p h) .1)))
+    go false h true q = absurd (away (λ l. differ (sym h ∙ ap onLine l)) .1 (listed-line k L full g q .1))
+    go false h false q = away (λ l. differ (sym h ∙ ap onLine l)) .0
 
-      go : (t : Bool) → onLine p ≡ t → (b : Bool) → listed g (fullList N) ≡ b → lineAt p f ≡ cond b (some (words g)) none
-      go true h true k = a-line p f h ∙ ap some (there (is-line p h) .0 ∙ q)
-      go true h false k = absurd (differ (sym k ∙ flow-listed N ok g bytes .1 (e, rw (← q) (there (is-line p h) .1))))
-      go false h true k = absurd (away (λ l. differ (sym h ∙ ap onLine l)) (least k))
-      go false h false k = no-line p f h
+pub off-line : (p : Place) (f : List ℕ) → p ≢ Line → lineAt p f ≡ none
+off-line p f n = go (onLine p) refl
+  where
+    go : (t : Bool) → onLine p ≡ t → lineAt p f ≡ none
+    go true h = absurd (n (is-line p h))
+    go false h = no-line p f h

@@ -25,7 +25,7 @@ use Rattle.desk.specs.NetworkCalls.{Prices}
 use Rattle.enumerator.specs.declared.Place.{Place}
 use Rattle.enumerator.specs.declared.Place.the-variants.{Start, Line, None, End}
 use Rattle.enumerator.specs.Enumerator.{lineAt}
-use Rattle.desk.specs.NetworkEntries.{onLine}
+use Rattle.desk.specs.Replies.{onLine}
 
 -- a list with room takes all
 pub room-fits : (m : ℕ) (out : List ℕ) → room m (length out) ≡ true → fitting m out ≡ m

@@ -1,6 +1,6 @@
 mod Lines
-mod NetworkLines
-mod BookLines
+pub mod NetworkLines
+pub mod BookLines
 mod Turns
 pub mod NetworkRun
 pub mod BookRun
@@ -9,5 +9,7 @@ pub mod FirstWay
 mod Given
 mod HandingOut
 mod NetworkEntries
+mod HandingWays
+mod BookEntries
 mod NetworkExamples
 mod BookExamples

@@ -4,15 +4,14 @@ use mathlib.Core.Bool.{Bool, true, false}
 use mathlib.Core.List.{List}
 use mathlib.Core.Option.{Option, none, some}
 use Prim.Native.Nat.{ℕ, zero, suc, _≤_, _<_}
-use native.Mathlib.Omega.{arith}
 use lib.IntN.{pos}
 use lib.ListN.{length}
 use borrow.Author.Tests.{le-leb, lt-leb}
 use Rattle.laws.specs.Tests.{ask}
-use Rattle.laws.specs.Run.{Answer, first, next, nothing, end, shown}
+use Rattle.laws.specs.Run.{first, next, shown}
 use Rattle.laws.specs.Count.{Count, counted}
 use Rattle.bytes32.specs.Words.{words}
-use Rattle.network.specs.Network.{Net, nodes, arcs}
+use Rattle.network.specs.Network.{Net, nodes, arcs, costOf}
 use Rattle.network.specs.FullList.{fullList, firstFlow, nextFlow, countFlows}
 use Rattle.network.specs.Questions.{refusal, numberOf}
 use Rattle.network.specs.Checked.{Checks, netIn}
@@ -21,27 +20,14 @@ use Rattle.network.specs.declared.Checked.{Checked}
 use Rattle.network.proofs.Accepted.{accepted-net, checked-net, checked-sound}
 use Rattle.desk.specs.declared.Begun.{Begun}
 use Rattle.desk.specs.declared.Reply.{Reply}
-use Rattle.desk.specs.Replies.{orElse, codeOf, sees, word, countUnless}
+use Rattle.desk.specs.Replies.{orElse, codeOf, sees, word, HandedOut, countUnless}
 use Rattle.desk.specs.ByteLists.{room, listed}
 use Rattle.desk.specs.NetworkCalls.{net, NetCall, lends, lent, roomIf, number}
 use Rattle.desk.specs.NetworkRun.{RightNetwork, Answers}
-use Rattle.desk.specs.NetworkEntries.{Ready, Begins, HandedOut, PricesOut}
+use Rattle.desk.specs.NetworkEntries.{Ready, Begins, PricesOut}
+use Rattle.desk.proofs.Turns.{wordOf, all-passed, fails-first}
 use Rattle.desk.proofs.Lines.{after-given}
 use Rattle.desk.proofs.NetworkLines.{full-flows}
-
--- the word where there is no line
-abbrev pub wordOf : NetCall → Answer (List ℕ)
-wordOf (first l) = nothing
-wordOf (next g fs) = end
-
-all-passed : (n : ℕ) (b : Bool) → orElse n (ask b 7 0) ≡ 0 → b ≡ true
-all-passed zero true e = refl
-all-passed zero false e = absurd (omega arith)
-all-passed (suc n) b e = absurd (omega arith)
-
-fails-first : (n k r : ℕ) → r ≡ n → ¬ (r ≡ 0) → r ≡ orElse n k
-fails-first zero k r e h = absurd (h e)
-fails-first (suc n) k r e h = e
 
 unpriced : (N : Net) (o : Option (List ℕ)) → PricesOut N o none none
 unpriced N none = refl
@@ -54,7 +40,7 @@ module _ (bs xs : List ℕ) where
       record { ok = q; sound = checked-sound bs xs v h q; is = checked-net bs xs v h q }
 
   -- what was handed out is right for the line, or for the word
-  handed : (c : NetCall) (o : Option (List ℕ)) (r : Reply) (fs′ : List ℕ) (ps′ : Option (List ℕ)) → HandedOut (net bs xs) o (codeOf (wordOf c)) (lent c .flows) r fs′
+  handed : (c : NetCall) (o : Option (List ℕ)) (r : Reply) (fs′ : List ℕ) (ps′ : Option (List ℕ)) → HandedOut (costOf (net bs xs)) o (codeOf (wordOf c)) (lent c .flows) r fs′
       → PricesOut (net bs xs) o (lent c .prices) ps′ → RightNetwork bs xs c (shown o (wordOf c)) (sees r (lends fs′ ps′))
   handed (first l) none r fs′ ps′ h k = rw (h .0, h .1, k) (record { number-is = refl; told-is = refl; cost-is = refl; lists-are = refl })
   handed (next g fs) none r fs′ ps′ h k = rw (h .0, h .1, k) (record { number-is = refl; told-is = refl; cost-is = refl; lists-are = refl })
@@ -82,7 +68,7 @@ module _ (bs xs : List ℕ) where
     pub passes : b .number ≡ 0 → Ready bs xs (b .net) × (room (b .net .arcs) bytes ≡ true)
     passes z =
         let ok = h .ready z in
-        let e = all-passed (refusal bs xs) (room (arcs (net bs xs)) bytes) (sym (h .number-is) ∙ z) in
+        let e = all-passed (refusal bs xs) 6 (room (arcs (net bs xs)) bytes) (sym (h .number-is) ∙ z) in
         (ok, ap (λ m. room m bytes) (ok .sound .arcs-held ∙ ap arcs (ok .is)) ∙ e)
 
     pub fails : (c : NetCall) (r : Reply) → length (lent c .flows) ≡ bytes → ¬ (b .number ≡ 0) → r ≡ word (b .number) → Answers bs xs c (sees r (lent c))
@@ -105,11 +91,11 @@ module _ (bs xs : List ℕ) where
           says (first (lends fs (some ps))) r 6 (rw (ready .ok, room-is s ready true (length fs) fits, prices-room-is false (length ps) e)) q
 
       -- `first`: N and o are what the program's state stands for and its line
-      module _ (N : Net) (o : Option (List ℕ)) (same : N ≡ net bs xs) (line-is : o ≡ firstFlow (net bs xs)) (r : Reply) (fs′ : List ℕ) (h : HandedOut N o 100 fs r fs′) where
+      module _ (N : Net) (o : Option (List ℕ)) (same : N ≡ net bs xs) (line-is : o ≡ firstFlow (net bs xs)) (r : Reply) (fs′ : List ℕ) (h : HandedOut (costOf N) o 100 fs r fs′) where
         first-from : (p p′ : Option (List ℕ)) → roomIf (nodes (net bs xs)) p ≡ true → PricesOut N o p p′ → Answers bs xs (first (lends fs p)) (sees r (lends fs′ p′))
         first-from p p′ e k =
             rw (ready .ok, room-is s ready true (length fs) fits, e, ← line-is)
-            (handed (first (lends fs p)) o r fs′ p′ (subst (λ M. HandedOut M o 100 fs r fs′) same h) (subst (λ M. PricesOut M o p p′) same k))
+            (handed (first (lends fs p)) o r fs′ p′ (subst (λ M. HandedOut (costOf M) o 100 fs r fs′) same h) (subst (λ M. PricesOut M o p p′) same k))
 
         pub answers-first : Answers bs xs (first (lends fs none)) (sees r (lends fs′ none))
         answers-first = first-from none none refl (unpriced N o)
@@ -123,10 +109,10 @@ module _ (bs xs : List ℕ) where
       fails-given g r e q = says (next g fs) r 7 (rw (ready .ok, room-is s ready true (length fs) fits, e)) q
 
       pub answers-next : (g : List ℕ) (N : Net) (o : Option (List ℕ)) → N ≡ net bs xs → listed g (fullList (net bs xs)) ≡ true → o ≡ nextFlow (net bs xs) (words g)
-          → (r : Reply) (fs′ : List ℕ) → HandedOut N o 101 fs r fs′ → Answers bs xs (next g fs) (sees r (lends fs′ none))
+          → (r : Reply) (fs′ : List ℕ) → HandedOut (costOf N) o 101 fs r fs′ → Answers bs xs (next g fs) (sees r (lends fs′ none))
       answers-next g N o same e line-is r fs′ h =
           rw (ready .ok, room-is s ready true (length fs) fits, e, after-given (arcs (net bs xs)) (fullList (net bs xs)) (full-flows (net bs xs) (accepted-net bs xs (ready .ok))) g e, ← line-is)
-          (handed (next g fs) o r fs′ none (subst (λ M. HandedOut M o 101 fs r fs′) same h) (unpriced (net bs xs) o))
+          (handed (next g fs) o r fs′ none (subst (λ M. HandedOut (costOf M) o 101 fs r fs′) same h) (unpriced (net bs xs) o))
 
 -- counting
 pub counts-refused : (bs xs : List ℕ) (v : Checked) (k : ℕ) (n : Count) (r : Reply) → Checks bs xs v → k ≡ numberOf (v .verdict) → ¬ (k ≡ 0) → r ≡ word k → r ≡ countUnless (refusal bs xs) n

@@ -8,7 +8,7 @@ use Prim.Native.Nat.{ℕ, zero, suc}
 use native.Mathlib.Omega.{arith}
 use Rattle.laws.specs.Tests.{ask}
 use Rattle.laws.specs.Equality.{same-list}
-use Rattle.laws.specs.Run.{Call, next, Strange}
+use Rattle.laws.specs.Run.{Call, first, next, Answer, nothing, end, Strange}
 use Rattle.bytes32.specs.Words.{encodeWords}
 use Rattle.desk.specs.Replies.{failed, orElse}
 use Rattle.desk.specs.ByteLists.{fairGiven}
@@ -18,7 +18,7 @@ none-failed : (n : ℕ) → failed n ≡ none → n ≡ 0
 none-failed zero e = refl
 none-failed (suc n) e = absurd (let z : _≡_ {A = ℕ} 0 1 = cc in omega arith)
 
-first-passed : (n k : ℕ) → orElse n k ≡ 0 → n ≡ 0
+pub first-passed : (n k : ℕ) → orElse n k ≡ 0 → n ≡ 0
 first-passed zero k e = refl
 first-passed (suc n) k e = absurd (omega arith)
 
@@ -26,6 +26,20 @@ one-fails : (n : ℕ) (b : Bool) (q r : ℕ) → (k : ℕ) × (failed (orElse n 
 one-fails zero true q r = (suc r, refl)
 one-fails zero false q r = (suc q, refl)
 one-fails (suc n) b q r = (suc n, refl)
+
+pub all-passed : (n q : ℕ) (b : Bool) → orElse n (ask b (suc q) 0) ≡ 0 → b ≡ true
+all-passed zero q true e = refl
+all-passed zero q false e = absurd (omega arith)
+all-passed (suc n) q b e = absurd (omega arith)
+
+pub fails-first : (n k r : ℕ) → r ≡ n → ¬ (r ≡ 0) → r ≡ orElse n k
+fails-first zero k r e h = absurd (h e)
+fails-first (suc n) k r e h = e
+
+-- the word where there is no line
+abbrev pub wordOf : {F G N : Type 0} → Call F G N → Answer (List ℕ)
+wordOf (first l) = nothing
+wordOf (next g l) = end
 
 module _ {F N : Type 0} (asked : ℕ) (fits : Call F (List ℕ) N → Bool) (q r : ℕ) (L : List (List ℕ)) where
   abbrev turns : Call F (List ℕ) N → Option ℕ

@@ -8,4 +8,5 @@ pub mod BookCalls
 pub mod BookRun
 pub mod FirstWay
 pub mod Listing
+pub mod BookEntries
 pub mod BookNames

@@ -1,20 +1,15 @@
 -- What the entries of a network share.
 use mathlib.Core.Path.{_≡_}
-use mathlib.Core.Bool.{Bool, true, false}
 use mathlib.Core.List.{List}
 use mathlib.Core.Option.{Option, none, some}
 use Prim.Native.Nat.{ℕ}
 use Rattle.laws.specs.Tests.{ask}
-use Rattle.bytes32.specs.Words.{encodeWords, over}
-use Rattle.network.specs.Network.{Net, arcs, costOf}
+use Rattle.network.specs.Network.{Net, arcs}
 use Rattle.network.specs.Questions.{refusal}
 use Rattle.network.specs.Checked.{Sound, netIn}
 use Rattle.network.specs.declared.Network.{Network}
-use Rattle.enumerator.specs.declared.Place.{Place}
-use Rattle.enumerator.specs.declared.Place.the-variants.{Start, Line, None, End}
 use Rattle.desk.specs.declared.Begun.{Begun}
-use Rattle.desk.specs.declared.Reply.{Reply}
-use Rattle.desk.specs.Replies.{orElse, word}
+use Rattle.desk.specs.Replies.{orElse}
 use Rattle.desk.specs.ByteLists.{room}
 use Rattle.desk.specs.NetworkCalls.{net, PricesAfter}
 
@@ -29,18 +24,7 @@ pub record Begins (bs xs : List ℕ) (bytes : ℕ) (r : Begun) : Type 0 where
   pub number-is : r .number ≡ orElse (refusal bs xs) (ask (room (arcs (net bs xs)) bytes) 7 0)
   pub ready : r .number ≡ 0 → Ready bs xs (r .net)
 
--- a line is written to the first places of a list, and its cost replied; without one the reply is the word k
-abbrev pub HandedOut : Net → Option (List ℕ) → ℕ → List ℕ → Reply → List ℕ → Type 0
-HandedOut N none k out r out′ = (r ≡ word k) × (out′ ≡ out)
-HandedOut N (some f) k out r out′ = (r ≡ record { code = 0; line = 0; value = costOf N f }) × (out′ ≡ over (encodeWords f) out)
-
--- its prices, where a list is lent for them
+-- the prices of a line, where a list is lent for them
 abbrev pub PricesOut : Net → Option (List ℕ) → Option (List ℕ) → Option (List ℕ) → Type 0
 PricesOut N none out out′ = out′ ≡ out
 PricesOut N (some f) out out′ = PricesAfter N f out out′
-
-abbrev pub onLine : Place → Bool
-onLine Start = false
-onLine Line = true
-onLine None = false
-onLine End = false

@@ -1,10 +1,16 @@
 -- The reply of a call, and what C sees of a call.
+use mathlib.Core.Path.{_≡_}
+use mathlib.Core.Bool.{Bool, true, false}
+use mathlib.Core.List.{List}
 use mathlib.Core.Option.{Option, none, some}
 use Prim.Native.Nat.{ℕ, zero, suc}
-use lib.IntN.{pos}
+use lib.IntN.{ℤ, pos}
 use Rattle.laws.specs.Run.{Answer, refused, nothing, end, line}
 use Rattle.laws.specs.Seen.{Seen}
 use Rattle.laws.specs.Count.{Count, exactly, more}
+use Rattle.bytes32.specs.Words.{encodeWords, over}
+use Rattle.enumerator.specs.declared.Place.{Place}
+use Rattle.enumerator.specs.declared.Place.the-variants.{Start, Line, None, End}
 use Rattle.desk.specs.declared.Reply.{Reply}
 
 -- "A 'no' gives its number"; 0 says that no question is failed
@@ -31,6 +37,18 @@ sees r l = record { number = r .code; told = r .line; cost = r .value; lists = l
 -- "The rest of the result is then zero"
 abbrev pub word : ℕ → Reply
 word k = record { code = k; line = 0; value = pos 0 }
+
+-- a line is written to the first places of a list, and its cost replied; without one the reply is the word k
+abbrev pub HandedOut : (List ℕ → ℤ) → Option (List ℕ) → ℕ → List ℕ → Reply → List ℕ → Type 0
+HandedOut cost none k out r out′ = (r ≡ word k) × (out′ ≡ out)
+HandedOut cost (some v) k out r out′ = (r ≡ record { code = 0; line = 0; value = cost v }) × (out′ ≡ over (encodeWords v) out)
+
+-- whether a walk stands on a line
+abbrev pub onLine : Place → Bool
+onLine Start = false
+onLine Line = true
+onLine None = false
+onLine End = false
 
 -- "the length of the list if that is at most the cap, else 'more'"
 abbrev pub countReply : Count → Reply

@@ -5,15 +5,16 @@ ghost use mathlib.Core.Option.{none, some};
 ghost use lib.ListN.{length};
 ghost use Rattle.laws.specs.Run.{first, next};
 ghost use Rattle.bytes32.specs.Words.{words};
+ghost use Rattle.network.specs.Network.{costOf};
 ghost use Rattle.network.specs.FullList.{fullList, countFlows};
 ghost use Rattle.network.specs.Questions.{numberOf, refusal};
 ghost use Rattle.network.specs.Checked.{Sound, netIn};
 ghost use Rattle.enumerator.specs.Enumerator.{Stands, lineOf};
-ghost use Rattle.desk.specs.Replies.{word, sees, countUnless};
+ghost use Rattle.desk.specs.Replies.{word, sees, countUnless, HandedOut, onLine};
 ghost use Rattle.desk.specs.ByteLists.{room, listed};
 ghost use Rattle.desk.specs.NetworkCalls.{net, lends};
 ghost use Rattle.desk.specs.NetworkRun.{Answers};
-ghost use Rattle.desk.specs.NetworkEntries.{Begins, HandedOut, PricesOut, onLine};
+ghost use Rattle.desk.specs.NetworkEntries.{Begins, PricesOut};
 
 pub mod books;
 
@@ -113,7 +114,7 @@ fn on_line(place: Place) -> bool
 // Writes the line that the walk stands on; without one the reply is `code`.
 fn hand_out(walk: Enumerator, flows: &mut [u8], code: u32) -> Reply
     requires { ⌜ Stands walk × (room (walk .net .arcs) (length (now flows)) ≡ true) ⌝ }
-    ensures { λ r. ⌜ HandedOut (netIn (walk .net)) (lineOf walk) code (now (flows .entry)) r (now (flows .exit)) ⌝ }
+    ensures { λ r. ⌜ HandedOut (costOf (netIn (walk .net))) (lineOf walk) code (now (flows .entry)) r (now (flows .exit)) ⌝ }
 {
     let place = walk.place;
     if !on_line(place) {

@@ -9,10 +9,11 @@ use Rattle.network.specs.Network.{arcs}
 use Rattle.network.specs.FullList.{fullList}
 use Rattle.network.specs.Checked.{netIn}
 use Rattle.desk.specs.ByteLists.{listed}
-use Rattle.enumerator.specs.Enumerator.{lineAt, flowIn}
+use Rattle.network.proofs.FullList.{full-member}
+use Rattle.enumerator.specs.Enumerator.{lineAt, lineOf, flowIn}
 use Rattle.desk.proofs.Lines.{every-at, other-length}
 use Rattle.desk.proofs.NetworkLines.{full-flows}
-use Rattle.desk.proofs.Given.{read-all, found}
+use Rattle.desk.proofs.Given.{read-all, found, off-line}
 use borrow.Author.Needs.{needs}
 use Rattle.desk.proofs.find.Statement.{statement}
 use Rattle.desk.proofs.find.Tie as tie
@@ -47,10 +48,14 @@ returns-2 c =
     let (stands, same, resumes) = c .resume .ensures in
     let e : length g ≡ 4 * arcs N = c .before .before .if1 .left ∙ ap (λ k. 4 * k) (a .pre .arcs-held) in
     let q : take (s .arcs) (c .before .read-words .result) ≡ words g =
-    ap (λ l. take (s .arcs) l) (c .before .read-words .ensures) ∙ ap (λ k. take k (padded 512 0 (take 512 (words g)))) (a .pre .arcs-held) ∙ read-all N (a .pre .accepted) g e in (
+    ap (λ l. take (s .arcs) l) (c .before .read-words .ensures) ∙ ap (λ k. take k (padded 512 0 (take 512 (words g)))) (a .pre .arcs-held) ∙ read-all (arcs N) (a .pre .accepted .few-arcs) g e in
+    let r = c .resume .result in
+    let member = full-member N (a .pre .accepted .well-formed) (words g) in (
       stands,
       same,
-      found N (a .pre .accepted) g (every-at g 256 (λ i h. c .before .before .before .shared-slice-known .given i .fits)) e (c .resume .result .place) (flowIn (c .resume .result)) _ q (resumes .on) (resumes .off),
+      found (arcs N) (fullList N) (full-flows N (a .pre .accepted)) g (every-at g 256 (λ i h. c .before .before .before .shared-slice-known .given i .fits)) e (r .place) (lineOf r)
+          (λ p. (ap (λ x. lineAt x (flowIn r)) p ∙ ap some (resumes .on p .0 ∙ q), member .1 (rw q at (resumes .on p .1))))
+          (λ n. (off-line (r .place) (flowIn r) n, λ m. resumes .off n (rw q (member .0 m)))),
     )
 
 pub find-spec : {M : Type 1} → statement M

@@ -5,9 +5,10 @@ use mir.Syntax.{w64}
 use mir.Facts.{toZ-ofZ}
 use borrow.Author.Tests.{not-true, not-false}
 use Rattle.bytes32.specs.Words.{encodeWords, over}
+use Rattle.network.specs.Network.{costOf}
 use Rattle.network.specs.Checked.{netIn}
 use Rattle.enumerator.specs.Enumerator.{lineOf, flowIn}
-use Rattle.desk.specs.NetworkEntries.{HandedOut}
+use Rattle.desk.specs.Replies.{HandedOut}
 use Rattle.desk.proofs.HandingOut.{no-line, a-line, room-fits}
 use borrow.Author.Needs.{needs}
 use Rattle.desk.proofs.hand_out.Statement.{statement}
@@ -24,7 +25,7 @@ returns c =
     let a = c .before .before .before .before in
     let s = a .args .walk in
     let e : lineOf s ≡ none = no-line (s .place) (flowIn s) (sym (c .before .before .on-line .ensures) ∙ not-true (c .before .before .on-line .result) (c .before .if1 .taken)) in
-    subst (λ o. HandedOut (netIn (s .net)) o (a .args .code) (a .args .flows .now) (c .word .result) (a .args .flows .now)) (sym e) (c .word .ensures, refl)
+    subst (λ o. HandedOut (costOf (netIn (s .net))) o (a .args .code) (a .args .flows .now) (c .word .result) (a .args .flows .now)) (sym e) (c .word .ensures, refl)
 
 slice-aggregate-write-words : tie.Need-slice-aggregate-write-words
 slice-aggregate-write-words c = search needs

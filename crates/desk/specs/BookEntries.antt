@@ -1,0 +1,47 @@
+-- What the entries of a book share.
+use mathlib.Core.Path.{_≡_}
+use mathlib.Core.Bool.{cond}
+use mathlib.Core.List.{List}
+use mathlib.Core.Option.{none, some}
+use Prim.Native.Nat.{ℕ}
+use lib.IntN.{pos}
+use Rattle.laws.specs.Tests.{ask}
+use Rattle.bytes32.specs.Words.{words}
+use Rattle.book.specs.Book.{Book}
+use Rattle.book.specs.Questions.{refusal}
+use Rattle.book.specs.Checked.{checkedBook}
+use Rattle.book.specs.declared.CheckedBook.{CheckedBook}
+use Rattle.allocation.specs.Ways.{wayCost}
+use Rattle.allocation.specs.FullWays.{fullWays}
+use Rattle.book_network.specs.Held.{Holds}
+use Rattle.way_enumerator.specs.WayWalk.{Walks, wayAt}
+use Rattle.way_enumerator.specs.declared.WayWalk.{WayWalk}
+use Rattle.desk.specs.declared.Reply.{Reply}
+use Rattle.desk.specs.declared.books.Admitted.{Admitted}
+use Rattle.desk.specs.Replies.{orElse, HandedOut, countUnless}
+use Rattle.desk.specs.ByteLists.{room, listed}
+use Rattle.desk.specs.BookCalls.{size, Told, countWays}
+
+-- "The rest of the result is then zero", but for the line
+abbrev pub refusedAt : ℕ → ℕ → Reply
+refusedAt k l = record { code = k; line = l; value = pos 0 }
+
+-- questions 11 to 17, with a list of so many bytes lent for the way
+pub record Admits (s : List ℕ) (bytes : ℕ) (r : Admitted) : Type 0 where
+  pub number-is : r .number ≡ orElse (refusal s) (ask (room (size s) bytes) 17 0)
+  pub told : Told s (r .number) (r .line)
+  pub book-is : r .book ≡ checkedBook s
+
+-- question 18: a walk that stands on the way given, or on none
+pub record FindsGiven (c : CheckedBook) (g : List ℕ) (r : WayWalk) : Type 0 where
+  pub each : (b : Book) → Holds b c → Walks b r × (wayAt b r ≡ cond (listed g (fullWays b)) (some (words g)) none)
+
+-- the way that a walk stands on is handed out
+pub record HandsWay (s : WayWalk) (k : ℕ) (out : List ℕ) (r : Reply) (out′ : List ℕ) : Type 0 where
+  pub each : (b : Book) → Walks b s → HandedOut (λ w. pos (wayCost b w)) (wayAt b s) k out r out′
+
+-- the reply of counting, and the line that it tells with a refusal
+pub record CountsBook (s : List ℕ) (cap : ℕ) (r : Reply) : Type 0 where
+  pub code-is : r .code ≡ countUnless (refusal s) (countWays s cap) .code
+  pub value-is : r .value ≡ countUnless (refusal s) (countWays s cap) .value
+  pub told : Told s (refusal s) (r .line)
