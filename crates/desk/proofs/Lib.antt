@@ -13,3 +13,4 @@ mod HandingWays
 mod BookEntries
 mod NetworkExamples
 mod BookExamples
+mod Texts

@@ -17,6 +17,7 @@ ghost use Rattle.desk.specs.NetworkRun.{Answers};
 ghost use Rattle.desk.specs.NetworkEntries.{Begins, PricesOut};
 
 pub mod books;
+pub mod listings;
 
 use enumerator::Enumerator;
 use enumerator::Place;

@@ -1,0 +1,44 @@
+use mathlib.Core.Path.{ap, _∙_}
+use borrow.Author.Needs.{needs}
+use Rattle.desk.specs.Listing.{listing, fit}
+use Rattle.desk.proofs.Texts.{taken}
+use Rattle.desk.proofs.listings.desk_listing.Statement.{statement}
+use Rattle.desk.proofs.listings.desk_listing.Tie as tie
+
+
+blank-requires : tie.Need-blank-requires
+blank-requires c κs = search needs
+
+slice-aggregate-write-listing : tie.Need-slice-aggregate-write-listing
+slice-aggregate-write-listing c = search needs
+
+write-listing-requires : tie.Need-write-listing-requires
+write-listing-requires c κs = search needs
+
+slice-aggregate-copy-if-room : tie.Need-slice-aggregate-copy-if-room
+slice-aggregate-copy-if-room c = search needs
+
+copy-if-room-requires : tie.Need-copy-if-room-requires
+copy-if-room-requires c κs = search needs
+
+same-length : tie.Need-same-length
+same-length c = search needs
+
+returns : tie.Need-returns
+returns c =
+    let s = c .before .before .before .before .before .before .before .before .before .before .before in
+    let w = c .before .before .before .before .before .before .write-listing in
+    let (long, is) = taken (listing (s .args .book .now)) _ (w .last .1 .0) (w .result) (w .ensures) in
+    record { long = long; text = c .before .before .copy-if-room .ensures ∙ ap (λ v. fit v (s .args .text .now)) is }
+
+pub desk-listing-spec : {M : Type 1} → statement M
+desk-listing-spec =
+    tie.close
+    (tie.spec
+    blank-requires
+    slice-aggregate-write-listing
+    write-listing-requires
+    slice-aggregate-copy-if-room
+    copy-if-room-requires
+    same-length
+    returns)
