@@ -1,4 +1,4 @@
-/* The percussion allocation desk, as C calls it: the flow engine's entries on networks.
+/* The percussion allocation desk, as C calls it: the entries of books, and the flow engine's entries on networks.
  *
  * Numbers lent as bytes: four a number, two's complement, lowest byte first.
  * A list is a pointer to its first byte and its length in bytes; (NULL, 0) is the empty list.
@@ -36,6 +36,41 @@ typedef struct {
     size_t start;
     size_t length;
 } desk_span;
+
+/* Books.
+ *
+ * book: its bytes. A way is an unsigned 32-bit number an entry, for E entries: the number of the entry before it, or 0 if it opens a part.
+ * Questions, in this order:
+ *   11  at most 16384 bytes
+ *   12  the form of a book
+ *   13  1 to 8 players, and a fee of at most 1000000
+ *   14  every move between two instruments from 1 to 16, with ticks and a cost of at most 1000000, and no pair twice
+ *   15  every entry on an instrument from 1 to 16, with start < finish <= 1000000
+ *   16  at most 28 entries
+ *   17  the lent list a multiple of four bytes, with room for E numbers
+ *   18  the given list E numbers long, and a least-cost way of the book
+ *   19  (names, straight after 16) the entry from 1 to E
+ * The least-cost ways are listed in order: of two, the one with the smaller number at the first entry where they differ comes first. A way
+ * fills the first E numbers of its list; all other bytes keep what they held. With every code but DESK_OK the lent list does not change.
+ */
+
+/* The first least-cost way, written to way; the value is its cost.
+ * Codes: DESK_OK, DESK_NONE, 11 to 17. */
+desk_reply desk_first(const uint8_t *book, size_t book_len, uint8_t *way, size_t way_len);
+
+/* The least-cost way that follows the one given, written to way; the value is its cost.
+ * Codes: DESK_OK, DESK_END, 11 to 18. */
+desk_reply desk_next(const uint8_t *book, size_t book_len, const uint8_t *given, size_t given_len, uint8_t *way, size_t way_len);
+
+/* How many least-cost ways there are, up to the cap; none count 0. The value is the count.
+ * Codes: DESK_OK, DESK_MORE, 11 to 16. */
+desk_reply desk_count(const uint8_t *book, size_t book_len, uint16_t cap);
+
+/* Where in the book the name of an entry lies, counted from 1; (0, 0) if it is refused, and no name is empty. */
+desk_span desk_name(const uint8_t *book, size_t book_len, uint32_t entry);
+
+/* The number of the question that refuses that name, 11 to 16 or 19, or 0. */
+uint32_t desk_name_refusal(const uint8_t *book, size_t book_len, uint32_t entry);
 
 /* Networks.
  *

@@ -1,4 +1,4 @@
-// What C calls: the entries of a network. Each ensures what a caller sees of it, refused calls included.
+// What C calls: here the entries of a network, in books.rt those of a book. Each ensures what a caller sees of it, refused calls included.
 ghost use mathlib.Core.Path.{_≡_};
 ghost use mathlib.Core.Bool.{true, cond};
 ghost use mathlib.Core.Option.{none, some};
