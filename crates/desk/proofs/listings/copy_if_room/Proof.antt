@@ -10,7 +10,6 @@ use Rattle.desk.proofs.Texts.{copied-more, fitted, too-short}
 use Rattle.desk.proofs.listings.copy_if_room.Statement.{statement}
 use Rattle.desk.proofs.listings.copy_if_room.Tie as tie
 
-
 abbrev Inv-loop : tie.InvT-loop
 Inv-loop from to₀ n i₀ to i = (i ≤ n) × (length to ≡ length to₀) × Appended to₀ 0 (take i from) to i
 
@@ -36,7 +35,7 @@ loop-less : tie.Need-loop-less Inv-loop μ-loop
 loop-less c = omega (arith, c .before .loop-test .taken)
 
 loop-again : tie.Need-loop-again Inv-loop μ-loop
-loop-again c = 
+loop-again c =
     let s = c .before .before .before .before in
     let l = c .before .before .loop in (
       omega (arith, c .before .loop-test .taken),

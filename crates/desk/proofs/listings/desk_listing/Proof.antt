@@ -5,7 +5,6 @@ use Rattle.desk.proofs.Texts.{taken}
 use Rattle.desk.proofs.listings.desk_listing.Statement.{statement}
 use Rattle.desk.proofs.listings.desk_listing.Tie as tie
 
-
 blank-requires : tie.Need-blank-requires
 blank-requires c κs = search needs
 

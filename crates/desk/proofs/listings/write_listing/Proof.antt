@@ -15,7 +15,6 @@ use Rattle.desk.proofs.Texts.{question-few, refused-text, ways-text}
 use Rattle.desk.proofs.listings.write_listing.Statement.{statement}
 use Rattle.desk.proofs.listings.write_listing.Tie as tie
 
-
 abbrev entry : tie.After-question → tie.Start
 entry n = n .before .before .before .before
 
