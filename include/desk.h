@@ -66,6 +66,11 @@ desk_reply desk_next(const uint8_t *book, size_t book_len, const uint8_t *given,
  * Codes: DESK_OK, DESK_MORE, 11 to 16. */
 desk_reply desk_count(const uint8_t *book, size_t book_len, uint16_t cap);
 
+/* The listing of a book: `(cost C)`, `(way ..)` for each least-cost way, then `(end N)`; after 1000 ways, if there are more, `(more 1000)`;
+ * `(none)` without a way, `(refused R)` for a book that fails question R. Each line ends in byte 10. The length of the whole text is
+ * handed back, at most 90031; the text is written to the front of a list that has room for all of it, and a shorter list does not change. */
+size_t desk_listing(const uint8_t *book, size_t book_len, uint8_t *text, size_t text_len);
+
 /* Where in the book the name of an entry lies, counted from 1; (0, 0) if it is refused, and no name is empty. */
 desk_span desk_name(const uint8_t *book, size_t book_len, uint32_t entry);
 
