@@ -23,6 +23,9 @@ enum {
     DESK_MORE = 102  /* there are more lines than the cap */
 };
 
+/* Room for every listing, in bytes. */
+#define DESK_LISTING_ROOM 98304
+
 /* value: with DESK_OK the cost or the count, and otherwise 0.
  * line: with 13, 14 and 15 a line of the book that fails, counted from 1, and otherwise 0. */
 typedef struct {
@@ -68,7 +71,7 @@ desk_reply desk_count(const uint8_t *book, size_t book_len, uint16_t cap);
 
 /* The listing of a book: `(cost C)`, `(way ..)` for each least-cost way, then `(end N)`; after 1000 ways, if there are more, `(more 1000)`;
  * `(none)` without a way, `(refused R)` for a book that fails question R. Each line ends in byte 10. The length of the whole text is
- * handed back, at most 90031; the text is written to the front of a list that has room for all of it, and a shorter list does not change. */
+ * handed back, at most DESK_LISTING_ROOM; the text is written to the front of a list that has room for all of it, and a shorter list does not change. */
 size_t desk_listing(const uint8_t *book, size_t book_len, uint8_t *text, size_t text_len);
 
 /* Where in the book the name of an entry lies, counted from 1; (0, 0) if it is refused, and no name is empty. */

@@ -2,7 +2,7 @@
 use mathlib.Core.Path.{_≡_}
 use mathlib.Core.Bool.{cond}
 use mathlib.Core.List.{List}
-use Prim.Native.Nat.{ℕ, zero, suc}
+use Prim.Native.Nat.{ℕ, zero, suc, _≤_}
 use lib.Dec.{leb}
 use lib.ListN.{length}
 use Rattle.bytes32.specs.Words.{over}
@@ -28,4 +28,5 @@ fit v out = cond (leb (length v) (length out)) (over v out) out
 -- what the entry hands back, and the lent list at exit
 pub record Listed (s before after : List ℕ) (r : ℕ) : Type 0 where
   pub long : r ≡ length (listing s)
+  pub few : r ≤ 98304
   pub text : after ≡ fit (listing s) before

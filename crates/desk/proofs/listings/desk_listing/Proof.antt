@@ -1,4 +1,5 @@
 use mathlib.Core.Path.{ap, _∙_}
+use native.Mathlib.Omega.{arith}
 use borrow.Author.Needs.{needs}
 use Rattle.desk.specs.Listing.{listing, fit}
 use Rattle.desk.proofs.Texts.{taken}
@@ -28,7 +29,7 @@ returns c =
     let s = c .before .before .before .before .before .before .before .before .before .before .before in
     let w = c .before .before .before .before .before .before .write-listing in
     let (long, is) = taken (listing (s .args .book .now)) _ (w .last .1 .0) (w .result) (w .ensures) in
-    record { long = long; text = c .before .before .copy-if-room .ensures ∙ ap (λ v. fit v (s .args .text .now)) is }
+    record { long = long; few = omega (arith, w .ensures .within, c .before .before .before .before .before .before .before .before .blank .ensures); text = c .before .before .copy-if-room .ensures ∙ ap (λ v. fit v (s .args .text .now)) is }
 
 pub desk-listing-spec : {M : Type 1} → statement M
 desk-listing-spec =
