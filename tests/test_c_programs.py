@@ -93,15 +93,16 @@ class Programs:
 
     def test_refused(self):
         """A sentence for each refusal and, for 13 to 15, a line that fails."""
-        sentences = {}
+        words, met = {11: "16384 bytes", 12: "form", 13: "players", 14: "move", 15: "entry", 16: "28 entries"}, set()
         for question, book in refused():
             status, out, complaint = run([self.list_ways], book)
             self.assertEqual((status, out), (NOT_LISTED, ""))
             line, code, sentence = re.fullmatch(r"standard input(?::(\d+))?: refused \((\d+)\): (.+)\n", complaint).groups()
             self.assertEqual(int(code), question)
             self.assertIn(int(line or 0), book_reader.refusal(book)[1])
-            sentences.setdefault(question, set()).add(sentence)
-        self.assertEqual((set(sentences), len(set.union(*sentences.values()))), ({11, 12, 13, 14, 15, 16}, 6))
+            self.assertIn(words[question], sentence)
+            met.add(question)
+        self.assertEqual(met, set(words))
 
     def test_refused_files(self):
         for name, line in ("refused-12", ""), ("refused-13", ":2"), ("refused-14", ":6"), ("refused-15", ":9"), ("refused-16", ""):

@@ -92,6 +92,7 @@ static const char *meaning(uint32_t code) {
 
 static int list_ways(const char *name, const book *b, unsigned long most) {
     uint8_t way[4 * DESK_ENTRIES], given[4 * DESK_ENTRIES];
+    size_t length = 4 * (size_t)b->entries;
     unsigned long shown = 0;
     desk_reply reply = desk_first(b->bytes, b->length, way, sizeof way);
 
@@ -100,9 +101,9 @@ static int list_ways(const char *name, const book *b, unsigned long most) {
     while (reply.code == DESK_OK && shown < most) {
         printf("way %lu\n", ++shown);
         print_way(b, way);
-        /* The list given must not overlap the list lent, and it is as long as the book has entries. */
-        memcpy(given, way, sizeof given);
-        reply = desk_next(b->bytes, b->length, given, 4 * (size_t)b->entries, way, sizeof way);
+        /* The list given is exactly the way, and must not overlap the list lent. */
+        memcpy(given, way, length);
+        reply = desk_next(b->bytes, b->length, given, length, way, sizeof way);
     }
     switch (reply.code) {
     case DESK_OK:
