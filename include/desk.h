@@ -3,10 +3,15 @@
  * Numbers lent as bytes: four a number, two's complement, lowest byte first.
  * A list is a pointer to its first byte and its length in bytes; (NULL, 0) is the empty list.
  * No two lists of one call may overlap where one of them is lent to be written to.
- * The library keeps nothing between calls, and writes to nothing but the lists that it is lent.
+ * Whatever bytes the lists hold, every call ends, reads and writes within them, and answers.
+ * The library keeps nothing between calls, and writes to nothing but the lists that it is lent: calls may run in several threads at once, if
+ * nobody else writes to a list of a call meanwhile, or reads one that is lent to be written to.
  */
 #ifndef DESK_H
 #define DESK_H
+
+/* The version of the library and of the program ways. */
+#define DESK_VERSION "1.0.0"
 
 #include <stddef.h>
 #include <stdint.h>
@@ -17,17 +22,21 @@ extern "C" {
 
 /* The codes of a reply that are no refusal. Any other code is the number of the first question that the call fails. */
 enum {
-    DESK_OK = 0,     /* a line was written, or the count was reached */
-    DESK_NONE = 100, /* there is no line */
-    DESK_END = 101,  /* no line follows the one given */
-    DESK_MORE = 102  /* there are more lines than the cap */
+    DESK_OK = 0,     /* a way or a flow was written, or counting came to the end */
+    DESK_NONE = 100, /* there is no way, or no flow */
+    DESK_END = 101,  /* no least-cost way or flow follows the one given */
+    DESK_MORE = 102  /* there are more than the cap */
 };
 
-/* Room for every listing, in bytes. */
+/* The most that an accepted book or network has, for lists of a fixed size; and room for every listing, in bytes. */
+#define DESK_BOOK_BYTES 16384
+#define DESK_ENTRIES 28
+#define DESK_NODES 64
+#define DESK_ARCS 512
 #define DESK_LISTING_ROOM 98304
 
 /* value: with DESK_OK the cost or the count, and otherwise 0.
- * line: with 13, 14 and 15 a line of the book that fails, counted from 1, and otherwise 0. */
+ * line: with 13, 14 and 15 a line of the book that fails that question, counted from 1, and otherwise 0. */
 typedef struct {
     uint32_t code;
     uint32_t line;
@@ -42,19 +51,32 @@ typedef struct {
 
 /* Books.
  *
- * book: its bytes. A way is an unsigned 32-bit number an entry, for E entries: the number of the entry before it, or 0 if it opens a part.
+ * book: its bytes, in this form, each line closed by byte 10, one space between items and none elsewhere:
+ *   (book
+ *   (players P)              the most players
+ *   (fee C)                  the cost of each part
+ *   (move A B T C)           any count of these: going from instrument A to B takes T ticks and costs C
+ *   (entry (name W) I S F)   any count of these: played on instrument I from tick S to tick F
+ *   )                        and nothing more
+ * A number is 1 to 7 digits without a needless leading 0; W is 1 to 16 of a-z and 0-9. Entries are numbered from 1 to E in book order.
+ * Entry j may follow another entry i on the same instrument, at cost 0, if F of i <= S of j, and on another one, at the cost of the move
+ * from i's instrument to j's, if there is such a move and F of i + T <= S of j.
+ * A way is an unsigned 32-bit number an entry: the number of the entry before it, which it may follow, or 0 if it opens a part. No entry is
+ * before two, and at most P open a part. A way costs the fee for each part and what its entries cost that follow another.
  * Questions, in this order:
  *   11  at most 16384 bytes
  *   12  the form of a book
  *   13  1 to 8 players, and a fee of at most 1000000
- *   14  every move between two instruments from 1 to 16, with ticks and a cost of at most 1000000, and no pair twice
+ *   14  every move between two different instruments from 1 to 16, with ticks and a cost of at most 1000000, and the pair A, B on no
+ *       earlier line
  *   15  every entry on an instrument from 1 to 16, with start < finish <= 1000000
  *   16  at most 28 entries
  *   17  the lent list a multiple of four bytes, with room for E numbers
  *   18  the given list E numbers long, and a least-cost way of the book
  *   19  (names, straight after 16) the entry from 1 to E
- * The least-cost ways are listed in order: of two, the one with the smaller number at the first entry where they differ comes first. A way
- * fills the first E numbers of its list; all other bytes keep what they held. With every code but DESK_OK the lent list does not change.
+ * Each question is put of the whole input before the next. The least-cost ways are listed in order: of two, the one with the smaller number
+ * at the first entry where they differ comes first. A way fills the first E numbers of its list; all other bytes keep what they held. With
+ * every code but DESK_OK the lent list does not change.
  */
 
 /* The first least-cost way, written to way; the value is its cost.
@@ -69,12 +91,13 @@ desk_reply desk_next(const uint8_t *book, size_t book_len, const uint8_t *given,
  * Codes: DESK_OK, DESK_MORE, 11 to 16. */
 desk_reply desk_count(const uint8_t *book, size_t book_len, uint16_t cap);
 
-/* The listing of a book: `(cost C)`, `(way ..)` for each least-cost way, then `(end N)`; after 1000 ways, if there are more, `(more 1000)`;
- * `(none)` without a way, `(refused R)` for a book that fails question R. Each line ends in byte 10. The length of the whole text is
- * handed back, at most DESK_LISTING_ROOM; the text is written to the front of a list that has room for all of it, and a shorter list does not change. */
+/* The listing of a book: `(cost C)`, `(way ..)` with its E numbers for each least-cost way in order, then `(end N)` with their count; after
+ * 1000 ways, if there are more, `(more 1000)`; `(none)` without a way, `(refused R)` for a book that fails question R, 11 to 16. Each line
+ * ends in byte 10; no byte 0 follows the last. The length of the whole text is handed back, at most DESK_LISTING_ROOM. The text is written to
+ * the front of a list that has room for all of it, and the bytes after it keep what they held; a shorter list does not change. */
 size_t desk_listing(const uint8_t *book, size_t book_len, uint8_t *text, size_t text_len);
 
-/* Where in the book the name of an entry lies, counted from 1; (0, 0) if it is refused, and no name is empty. */
+/* Where the name of an entry, from 1 to E, lies in the book; start is counted from 0. (0, 0) if it is refused, and no name is empty. */
 desk_span desk_name(const uint8_t *book, size_t book_len, uint32_t entry);
 
 /* The number of the question that refuses that name, 11 to 16 or 19, or 0. */
@@ -83,7 +106,10 @@ uint32_t desk_name_refusal(const uint8_t *book, size_t book_len, uint32_t entry)
 /* Networks.
  *
  * balances: a signed 32-bit number a node, for n nodes. arcs: five signed 32-bit numbers an arc (tail, head, lower bound,
- * upper bound, cost), for m arcs. Questions, in this order:
+ * upper bound, cost), for m arcs; nodes and arcs are numbered from 0. Arcs may share their ends, and an arc may return to its own node.
+ * A flow is a signed 32-bit number an arc, within the arc's bounds, such that at each node what flows out less what flows in is the balance;
+ * an arc that returns to its own node counts in no balance. Its cost is the sum over the arcs of cost times flow. If the balances do not sum
+ * to 0, there is no flow. Questions, in this order:
  *   1  1 to 64 balances, in a length that is a multiple of four
  *   2  a multiple of five numbers in arcs, at most 512 arcs
  *   3  every tail and head from 0 to n - 1
@@ -92,9 +118,9 @@ uint32_t desk_name_refusal(const uint8_t *book, size_t book_len, uint32_t entry)
  *   6  every balance from -1000000000 to 1000000000
  *   7  each lent list a multiple of four bytes, with room for m flows or n prices
  *   8  the given list m numbers long, and a least-cost flow of the network
- * The least-cost flows are listed in order: of two, the one with the smaller number on the first arc where they differ
- * comes first. A flow fills the first m numbers of its list and the prices the first n; all other bytes keep what they held. With every
- * code but DESK_OK no lent list changes.
+ * Each question is put of the whole input before the next. The least-cost flows are listed in order: of two, the one with the smaller number
+ * on the first arc where they differ comes first. A flow fills the first m numbers of its list and the prices the first n; all other bytes
+ * keep what they held. With every code but DESK_OK no lent list changes.
  */
 
 /* The first least-cost flow, written to flows; the value is its cost.
@@ -102,7 +128,9 @@ uint32_t desk_name_refusal(const uint8_t *book, size_t book_len, uint32_t entry)
 desk_reply desk_network_first(const uint8_t *balances, size_t balances_len, const uint8_t *arcs, size_t arcs_len,
                               uint8_t *flows, size_t flows_len);
 
-/* The same, with the price of each node written to prices: the least cost of a residual walk that ends there.
+/* The same, with the price of each node, a signed 32-bit number, written to prices: the least cost of a residual walk that ends there, from
+ * any node, the walk without arcs (cost 0) included. The residual network of the flow has each arc forward, at its cost, if the flow is below
+ * the upper bound, and backward, at minus its cost, if it is above the lower bound.
  * Codes: DESK_OK, DESK_NONE, 1 to 7. */
 desk_reply desk_network_first_priced(const uint8_t *balances, size_t balances_len, const uint8_t *arcs, size_t arcs_len,
                                      uint8_t *flows, size_t flows_len, uint8_t *prices, size_t prices_len);

@@ -12,6 +12,12 @@ OK, NONE, END, MORE = 0, 100, 101, 102
 LIST = [ctypes.c_void_p, ctypes.c_size_t]
 
 
+def make(*words):
+    """Runs the Makefile and gives what it printed. Of a make that it runs under it takes nothing over."""
+    kept = {k: v for k, v in os.environ.items() if k not in ("MAKEFLAGS", "MFLAGS", "MAKELEVEL", "MAKEOVERRIDES", "PREFIX", "DESTDIR")}
+    return subprocess.run(["make", *words], cwd=ROOT, env=kept, check=True, stdout=subprocess.PIPE, text=True).stdout
+
+
 class Reply(ctypes.Structure):
     _fields_ = [("code", ctypes.c_uint32), ("line", ctypes.c_uint32), ("value", ctypes.c_int64)]
 
@@ -56,13 +62,19 @@ class Entry:
 
 
 @functools.lru_cache(None)
+def archive():
+    """Builds the archive; DESK_ARCHIVE names another one to try instead."""
+    named = os.environ.get("DESK_ARCHIVE")
+    if named: return pathlib.Path(named)
+    path = "target/staticlib/libdesk.a"
+    make(path)
+    return ROOT / path
+
+
+@functools.lru_cache(None)
 def load():
-    """Builds the archive and loads it; DESK_ARCHIVE names another one to try instead."""
-    archive = os.environ.get("DESK_ARCHIVE")
-    if not archive:
-        subprocess.run(["rt", "staticlib", "desk"], cwd=ROOT, check=True, stdout=subprocess.DEVNULL)
-        archive = ROOT / "target/staticlib/libdesk.a"
+    """Loads the archive."""
     with tempfile.TemporaryDirectory() as dir:
         shared = dir + "/library.so"
-        subprocess.run(["cc", "-shared", "-o", shared, "-Wl,--whole-archive", archive, "-Wl,--no-whole-archive"], check=True)
+        subprocess.run(["cc", "-shared", "-o", shared, "-Wl,--whole-archive", archive(), "-Wl,--no-whole-archive"], check=True)
         return ctypes.CDLL(shared)

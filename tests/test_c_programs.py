@@ -1,0 +1,177 @@
+"""The C programs of examples/c and the header: compiled without a warning, run on the example books, on refused ones and on trouble, also with the sanitizers and under valgrind."""
+import pathlib
+import re
+import shutil
+import subprocess
+import tempfile
+import unittest
+
+import book_reader
+import desk_library
+import trial
+from test_way_trial import EXAMPLES, examples
+from way_books import refused
+
+ROOT = desk_library.ROOT
+HEADER = ROOT / "include/desk.h"
+STRICT = ["-std=c11", "-pedantic", "-Wall", "-Wextra", "-Werror", "-I", HEADER.parent]
+SANITIZED = ["-g", "-fsanitize=address,undefined", "-fno-sanitize-recover=all"]
+VALGRIND = ["valgrind", "-q", "--error-exitcode=9", "--leak-check=full"]
+LISTED, NOT_LISTED, TROUBLE = 0, 1, 2
+
+
+def compiled(program, to, compiler="gcc", flags=("-O2",)):
+    """Compiles a program of examples/c with the archive; a warning is an error."""
+    subprocess.run([compiler, *STRICT, *flags, "-o", to, ROOT / "examples/c" / (program + ".c"), desk_library.archive()], check=True)
+    return to
+
+
+def run(command, data=b"", out=subprocess.PIPE):
+    """The status of a program, what it printed and what it complained of."""
+    done = subprocess.run(command, input=data, stdout=out, stderr=subprocess.PIPE, timeout=60)
+    return done.returncode, (done.stdout or b"").decode(), done.stderr.decode()
+
+
+def listed(text):
+    """A stored listing: the cost, the ways and the last line as list_ways prints it; None where it has no ways."""
+    if not text.startswith(b"(cost "): return None
+    first, *lines, last = [line[1:-1].split() for line in text.decode().splitlines()]
+    return int(first[1]), [tuple(map(int, w[1:])) for w in lines], {"end": "%s in all", "more": "%s shown, and there are more"}[last[0]] % last[1]
+
+
+def printed(text, book):
+    """The same of what list_ways printed, read back from the parts. The names are those of the book."""
+    names = [book[start:end].decode() for start, end in book_reader.read(book).names]
+    first, *lines, last = text.splitlines()
+    ways = []
+    for line in lines:
+        if line.startswith("way "):
+            ways.append([None] * len(names))
+            assert line == "way %d" % len(ways), line
+            continue
+        before = 0
+        for word in line.removeprefix("  ").split(", "):
+            name, number = re.fullmatch(r"([a-z0-9]+) \((\d+)\)", word).groups()
+            entry = int(number)
+            assert name == names[entry - 1] and ways[-1][entry - 1] is None, line
+            ways[-1][entry - 1] = before
+            before = entry
+    return int(first.removeprefix("cost ")), [tuple(w) for w in ways], last
+
+
+class Programs:
+    """What both programs do, whatever they are compiled with."""
+    flags = ["-O2"]
+
+    @classmethod
+    def setUpClass(cls):
+        cls.dir = tempfile.TemporaryDirectory()
+        cls.addClassCleanup(cls.dir.cleanup)
+        cls.folder = pathlib.Path(cls.dir.name)
+        cls.list_ways, cls.solve_network = [compiled(p, cls.folder / p, flags=cls.flags) for p in ("list_ways", "solve_network")]
+
+    def test_examples(self):
+        """The ways of each example book, in the order of its listing."""
+        for name, book, listing in examples():
+            with self.subTest(name):
+                wanted = listed(listing)
+                status, out, complaint = run([self.list_ways, "-n", "1000", EXAMPLES / (name + ".book")])
+                self.assertEqual((status, bool(complaint)), (LISTED if wanted else NOT_LISTED, listing.startswith(b"(refused")))
+                if wanted: self.assertEqual(printed(out, book), wanted)
+                else: self.assertEqual(out, "no way\n" if listing == b"(none)\n" else "")
+
+    def test_count(self):
+        """No more ways than -n says, 20 without it; the book on standard input."""
+        book = (EXAMPLES / "symphony.book").read_bytes()
+        cost, ways, _ = listed((EXAMPLES / "symphony.listing").read_bytes())
+        for words, count in ([], 20), (["-n", "0"], 0), (["-n", "1"], 1), (["-n", "255"], 255):
+            status, out, complaint = run([self.list_ways, *words], book)
+            self.assertEqual((status, complaint), (LISTED, ""))
+            self.assertEqual(printed(out, book), (cost, ways[:count], "%d shown, and there are more" % count))
+        for count in ("256", "257", "999999999"):
+            self.assertEqual(printed(run([self.list_ways, "-n", count], book)[1], book), (cost, ways, "256 in all"))
+
+    def test_refused(self):
+        """A sentence for each refusal and, for 13 to 15, a line that fails."""
+        words, met = {11: "16384 bytes", 12: "form", 13: "players", 14: "move", 15: "entry", 16: "28 entries"}, set()
+        for question, book in refused():
+            status, out, complaint = run([self.list_ways], book)
+            self.assertEqual((status, out), (NOT_LISTED, ""))
+            line, code, sentence = re.fullmatch(r"standard input(?::(\d+))?: refused \((\d+)\): (.+)\n", complaint).groups()
+            self.assertEqual(int(code), question)
+            self.assertIn(int(line or 0), book_reader.refusal(book)[1])
+            self.assertIn(words[question], sentence)
+            met.add(question)
+        self.assertEqual(met, set(words))
+
+    def test_refused_files(self):
+        for name, line in ("refused-12", ""), ("refused-13", ":2"), ("refused-14", ":6"), ("refused-15", ":9"), ("refused-16", ""):
+            path = EXAMPLES / (name + ".book")
+            status, out, complaint = run([self.list_ways, path])
+            self.assertEqual((status, out), (NOT_LISTED, ""))
+            self.assertTrue(complaint.startswith("%s%s: refused (%s): " % (path, line, name[-2:])), complaint)
+        empty, long = self.folder / "empty", self.folder / "long"
+        empty.write_bytes(b"")
+        long.write_bytes((EXAMPLES / "document.book").read_bytes() * 1000)
+        for path, question in (empty, 12), (long, 11):
+            status, out, complaint = run([self.list_ways, path])
+            self.assertEqual((status, out), (NOT_LISTED, ""))
+            self.assertTrue(complaint.startswith("%s: refused (%d): " % (path, question)), complaint)
+
+    def test_trouble(self):
+        """Wrong arguments, a file that is not there or cannot be read, output that cannot be written."""
+        book = EXAMPLES / "document.book"
+        for words in (["-n"], ["-n", ""], ["-n", "x"], ["-n", "-1"], ["-n", "1234567890"], ["-n", "1", "-n", "1"], ["-x"], [book, book], [self.folder / "nowhere"], [self.folder]):
+            with self.subTest(words): self.wrong([self.list_ways, *words])
+        for words in ([""], ["x"], ["-1"], ["1234567890"], ["1", "1"]):
+            with self.subTest(words): self.wrong([self.solve_network, *words])
+        with open("/dev/full", "wb") as full:
+            for command in [self.list_ways, book], [self.solve_network]:
+                self.assertEqual(run(command, out=full)[0], TROUBLE)
+
+    def wrong(self, command):
+        status, out, complaint = run(command)
+        self.assertEqual((status, out, complaint.count("\n")), (TROUBLE, "", 1))
+
+    def test_network(self):
+        """The flows, prices and count of the transport problem are those of the search by trial."""
+        names, balances = ["north", "south", "arena", "church", "opera"], [5, 4, -3, -3, -3]
+        arcs = [(0, 2, 0, 3, 2), (0, 3, 0, 3, 3), (0, 4, 1, 3, 5), (1, 2, 0, 3, 3), (1, 3, 0, 3, 4), (1, 4, 0, 3, 4)]
+        flows, cost = trial.full_list(balances, arcs)
+        lines = ["cost %d" % cost, "prices: " + ", ".join("%s %d" % p for p in zip(names, trial.prices(balances, arcs, flows[0])))]
+        shown = ["flow %d: " % k + ", ".join("%s-%s %d" % (names[a[0]], names[a[1]], x) for a, x in zip(arcs, f)) for k, f in enumerate(flows, 1)]
+        self.assertGreater(len(flows), 2)
+        for words, count in ([], len(flows)), (["0"], 0), (["2"], 2), (["999999999"], len(flows)):
+            self.assertEqual(run([self.solve_network, *words]), (LISTED, "\n".join(lines + shown[:count] + ["%d in all" % len(flows)]) + "\n", ""))
+
+
+class Plain(Programs, unittest.TestCase):
+    def test_valgrind(self):
+        """A few runs with the library's own reads and writes watched: the status and the words are those without valgrind."""
+        book = (EXAMPLES / "symphony.book").read_bytes()
+        for command, data in ([self.list_ways, EXAMPLES / "ballet.book"], b""), ([self.list_ways, "-n", "3"], book), ([self.list_ways, EXAMPLES / "refused-14.book"], b""), ([self.solve_network], b""):
+            self.assertEqual(run(VALGRIND + command, data), run(command, data))
+
+
+    def test_clang(self):
+        """clang, where there is one, warns of nothing either."""
+        if shutil.which("clang"):
+            for program in "list_ways", "solve_network": compiled(program, self.folder / "other", "clang")
+
+
+class Sanitized(Programs, unittest.TestCase):
+    flags = SANITIZED
+
+
+class Header(unittest.TestCase):
+    def test_cpp(self):
+        source = "#include <desk.h>\nint main() { return desk_first(nullptr, 0, nullptr, 0).code == 12 ? 0 : 1; }\n"
+        subprocess.run(["g++", "-std=c++11", "-Wall", "-Wextra", "-Werror", "-pedantic", "-I", HEADER.parent, "-fsyntax-only", "-x", "c++", "-"], input=source.encode(), check=True)
+
+    def test_limits(self):
+        limits = {name: int(value) for name, value in re.findall(r"^#define DESK_(\w+) (\d+)$", HEADER.read_text(), re.M)}
+        self.assertEqual(limits, {"BOOK_BYTES": book_reader.LONGEST, "ENTRIES": 28, "NODES": trial.NODES, "ARCS": trial.ARCS, "LISTING_ROOM": 98304})
+
+
+if __name__ == "__main__":
+    unittest.main()
