@@ -76,13 +76,19 @@ class Entry:
 
 
 @functools.lru_cache(None)
+def archive():
+    """The path of the archive, which is built; DESK_ARCHIVE names another one to try instead."""
+    other = os.environ.get("DESK_ARCHIVE")
+    if other: return pathlib.Path(other)
+    built = subprocess.run(["rt", "staticlib", "desk"], cwd=ROOT, stdout=subprocess.PIPE, stderr=subprocess.STDOUT, text=True)
+    assert built.returncode == 0, built.stdout
+    return ROOT / "target/staticlib/libdesk.a"
+
+
+@functools.lru_cache(None)
 def load():
-    """Builds the archive and loads it; DESK_ARCHIVE names another one to try instead."""
-    archive = os.environ.get("DESK_ARCHIVE")
-    if not archive:
-        subprocess.run(["rt", "staticlib", "desk"], cwd=ROOT, check=True, stdout=subprocess.DEVNULL)
-        archive = ROOT / "target/staticlib/libdesk.a"
+    """The archive, loaded."""
     with tempfile.TemporaryDirectory() as dir:
         shared = dir + "/library.so"
-        subprocess.run(["cc", "-shared", "-o", shared, "-Wl,--whole-archive", archive, "-Wl,--no-whole-archive"], check=True)
+        subprocess.run(["cc", "-shared", "-o", shared, "-Wl,--whole-archive", archive(), "-Wl,--no-whole-archive"], check=True)
         return ctypes.CDLL(shared)

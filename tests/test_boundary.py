@@ -182,8 +182,8 @@ class Boundary(unittest.TestCase):
 
     def test_caps(self):
         """Lists of no line, one and more, and every kind of cap."""
-        for length, net in ((0, network([1, 0], [(0, 1, 0, 1, 0)])), (1, network([0], [])), (6, (BALANCES, ALL_ARCS)), (300, network([0], [(0, 0, 0, 299, 0)])), (None, network([0], [(0, 0, 0, 10**6, 0)]))):
-            for cap in (0, 1, 2, 5, 6, 7, 255, 256, 299, 300, 301, 32767, 32768, CAP - 1, CAP):
+        for length, net in ((0, network([1, 0], [(0, 1, 0, 1, 0)])), (1, network([0], [])), (6, (BALANCES, ALL_ARCS)), (300, network([0], [(0, 0, 0, 299, 0)])), (40000, network([0], [(0, 0, 0, 39999, 0)])), (None, network([0], [(0, 0, 0, 10**6, 0)]))):
+            for cap in (0, 1, 2, 5, 6, 7, 255, 256, 299, 300, 301, 32767, 32768, 39999, 40000, CAP - 1, CAP):
                 self.assertEqual(self.compare("desk_network_count", dict(balances=net[0], arcs=net[1], cap=cap)), OK if length is not None and length <= cap else MORE)
         for length, book in ((0, made(1, 0, [], [(b"a", 1, 0, 2), (b"b", 1, 1, 3)])), (1, made()), (2, EXAMPLE), *THOUSAND.items()):
             for cap in (0, 1, 2, 3, 255, 256, 998, 999, 1000, 1001, 32767, 32768, CAP - 1, CAP):
