@@ -7,9 +7,9 @@ PLACE = 21                             # bits for a place of a flow: 2 * trial.B
 TRIED = 10**6                          # the most lists to try
 
 
-def negative_cycle(nodes, rows, flow):
-    """A residual cycle of negative weight, as (arc, 1 or -1) each, or nothing."""
-    steps = [(t, h, w, a, 1) for a, (t, h, l, u, w) in enumerate(rows) if flow[a] < u] + [(h, t, -w, a, -1) for a, (t, h, l, u, w) in enumerate(rows) if flow[a] > l]
+def negative_cycle(nodes, rows, flow, room):
+    """A residual cycle of negative weight with so much room, as (arc, 1 or -1) each, or nothing."""
+    steps = [(t, h, w, a, 1) for a, (t, h, l, u, w) in enumerate(rows) if u - flow[a] >= room] + [(h, t, -w, a, -1) for a, (t, h, l, u, w) in enumerate(rows) if flow[a] - l >= room]
     walk, before = [0] * nodes, [None] * nodes
     for _ in range(nodes):
         last = None
@@ -25,7 +25,8 @@ def negative_cycle(nodes, rows, flow):
 
 
 def lightest(balances, arcs, weights):
-    """A flow with the least sum of weights, or None. What the lower bounds leave over runs through one node more at first, at a weight above all others together."""
+    """A flow with the least sum of weights, or None. What the lower bounds leave over runs through one node more at first, at a weight above all others together.
+    Cycles with much room are cancelled first, so that they are few."""
     hub, over = len(balances), list(balances)
     rows, flow = [(t, h, l, u, w) for (t, h, l, u, c), w in zip(arcs, weights)], [l for t, h, l, u, c in arcs]
     for t, h, l, u, c in arcs:
@@ -36,9 +37,11 @@ def lightest(balances, arcs, weights):
     for v, x in enumerate(over):
         rows.append((v, hub, 0, x, heavy) if x > 0 else (hub, v, 0, -x, heavy))
         flow.append(abs(x))
-    while cycle := negative_cycle(hub + 1, rows, flow):
-        room = min(rows[a][3] - flow[a] if way > 0 else flow[a] - rows[a][2] for a, way in cycle)
-        for a, way in cycle: flow[a] += way * room
+    room = 1 << max(u - l for t, h, l, u, w in rows).bit_length()
+    while room := room >> 1:
+        while cycle := negative_cycle(hub + 1, rows, flow, room):
+            push = min(rows[a][3] - flow[a] if way > 0 else flow[a] - rows[a][2] for a, way in cycle)
+            for a, way in cycle: flow[a] += way * push
     return None if any(flow[len(arcs):]) else tuple(flow[:len(arcs)])
 
 

@@ -55,7 +55,7 @@ def damaged_call(rng, surface, entry, a):
     """A call with no list, one or more of them damaged, each list at some address."""
     names = lists(entry)
     for name in rng.sample(names, min(len(names), rng.choice((0, 1, 1, 1, 2, 4)))): a[name] = damage(rng, a[name])
-    if "cap" in a: a["cap"] = rng.choice((0, 1, 2, 5, rng.randint(0, CAP) if rng.random() < 0.1 else 3))
+    if "cap" in a: a["cap"] = rng.choice((0, 1, 2, 5, rng.randint(0, CAP) if "book" in a else 3))     # the solver counts far for few networks
     if "entry" in a: a["entry"] = rng.choice(ENTRY_NUMBERS)
     return surface.compare(entry, a, {name: List(a[name], rng.randrange(8), rng.random() < 0.5) for name in names})
 
