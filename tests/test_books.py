@@ -21,7 +21,7 @@ class Run:
     """`seen` has the refusals told, 0 for none."""
 
     def __init__(self, desk):
-        self.desk, self.calls, self.wrong, self.seen = desk, 0, 0, {}
+        self.desk, self.calls, self.wrong, self.seen, self.turn = desk, 0, 0, {}, 0
 
     def expect(self, what, got, wanted):
         self.calls += 1
@@ -29,15 +29,16 @@ class Run:
             self.wrong += 1
             if self.wrong <= 10: print("%s: %r, and not %r" % (what, got, wanted))
 
-    def asked(self, text):
-        """Code and line, by the count and by the first way. A code that is no refusal is 0."""
-        yield self.desk.count(text, 0)[0], self.desk.line, (OK, MORE)
-        yield self.desk.first(text, LENT)[0][0], self.desk.line, (OK, NONE)
+    def asked(self, text, both):
+        """Code, line and the codes that are no refusal, by the count and by the first way, or by the two in turn."""
+        self.turn += 1
+        if both or self.turn % 2: yield self.desk.count(text, 0)[0], self.desk.line, (OK, MORE)
+        if both or self.turn % 2 == 0: yield self.desk.first(text, LENT)[0][0], self.desk.line, (OK, NONE)
 
     def check(self, text, code=None, line=None):
         """The library's answer is the reader's, and that of the case where it states one."""
         wanted, lines, _ = reader.refusal(text)
-        for got, told, accepted in self.asked(text):
+        for got, told, accepted in self.asked(text, code is not None):
             if got in accepted: got = 0
             self.seen[got] = self.seen.get(got, 0) + 1
             self.expect("refusal of %r" % text[:200], got, wanted)
@@ -203,7 +204,7 @@ class Books(unittest.TestCase):
         self.assertEqual((run.wrong, run.calls, sorted(run.seen)), (0, calls, answers))
 
     def test_near_misses(self):
-        self.compare(near_misses, 5670, [0, 12, 13, 14, 15])
+        self.compare(near_misses, 5568, [0, 12, 13, 14, 15])
 
     def test_sizes(self):
         self.compare(sizes, 1350, [0, 11, 12, 14, 16])
@@ -212,7 +213,7 @@ class Books(unittest.TestCase):
         self.compare(orders, 1482, [0, 11, 12, 13, 14, 15, 16])
 
     def test_damaged(self):
-        self.compare(damaged, 355312, [0, 12, 13, 14, 15, 16])
+        self.compare(damaged, 182366, [0, 12, 13, 14, 15, 16])
 
 
 if __name__ == "__main__":

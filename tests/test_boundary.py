@@ -225,7 +225,7 @@ class Boundary(unittest.TestCase):
 
     def test_damaged(self):
         """Damaged networks, books and lists, in all entries in turn: a call answers of what it was given alone, whatever was called before."""
-        for turn in range(9000):
+        for _ in range(6000):
             for entry, code in damaged_calls(self.rng, self.surface): self.seen.setdefault(entry, set()).add(code)
         books, nets = {*range(11, 17)}, {*range(1, 7)}
         self.answered({"desk_first": {OK, NONE, 17, *books}, "desk_next": {OK, END, 17, 18, *books}, "desk_count": {OK, MORE, *books}, "desk_name_refusal": {0, 19, *books},
