@@ -1,11 +1,10 @@
-/* How long a check takes of a book of 16,384 bytes: cc -O2 judging_time.c libbook_test.a && ./a.out */
+/* How long the questions take of a book of 16,384 bytes that fails one: cc -O2 -Iinclude bench/judging_time.c target/staticlib/libdesk.a && ./a.out */
 #include <stdint.h>
 #include <stdio.h>
 #include <string.h>
 #include <time.h>
 
-typedef struct { uint32_t code, line; } reply;
-reply book_check(const uint8_t *book, size_t length);
+#include "desk.h"
 
 static double now(void) {
     struct timespec t;
@@ -32,10 +31,10 @@ static void measure(const char *what, int entries, int pairs) {
     static char text[20000];
     size_t n = fill(text, entries, pairs);
     double best = 1e9;
-    reply r = {0, 0};
+    desk_reply r = {0, 0, 0};
     for (int round = 0; round < 200; round++) {
         double start = now();
-        for (int i = 0; i < 10; i++) r = book_check((const uint8_t *)text, n);
+        for (int i = 0; i < 10; i++) r = desk_count((const uint8_t *)text, n, 0);
         double each = (now() - start) / 10;
         if (each < best) best = each;
     }

@@ -62,15 +62,3 @@ def name(text, entry):
     if code: return code, (0, 0)
     if not 1 <= entry <= len(book.entries): return 19, (0, 0)
     return 0, book.names[entry - 1]
-
-
-def fields(book):
-    """The checked book, all zeros for a refusal: (players, fee, count), ticks + 1 and costs by pair, and five columns of 28."""
-    if book is None: return [0, 0, 0], [0] * 256, [0] * 256, [[0] * 28] * 5
-    ticks, costs = [0] * 256, [0] * 256
-    for a, b, t, c in book.moves:
-        ticks[(a - 1) * 16 + b - 1], costs[(a - 1) * 16 + b - 1] = t + 1, c
-    rest = [0] * (28 - len(book.entries))
-    columns = [[e[j] for e in book.entries] + rest for j in range(3)]
-    columns += [[s for s, _ in book.names] + rest, [e - s for s, e in book.names] + rest]
-    return [book.players, book.fee, len(book.entries)], ticks, costs, columns

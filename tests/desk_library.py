@@ -1,6 +1,7 @@
-"""The archive of crate desk, by ctypes. Every list stands between guard bytes, at no multiple of four, and is looked at after the call."""
+"""The archive of crate desk, by ctypes. Every list stands between guard bytes, at an odd address, and is looked at after the call."""
 import ctypes
 import functools
+import mmap
 import os
 import pathlib
 import struct
@@ -27,23 +28,42 @@ def numbers(values):
 
 
 class List:
-    """A list of bytes as C sees it: a pointer and a length, bytes of its own around it. An empty one is (NULL, 0)."""
-    GUARD = 13
+    """A list of bytes as C sees it: a pointer and a length, bytes of its own around it, at an address of which the rest by 8 is `at`. An empty one is (NULL, 0), or a pointer to nothing."""
 
-    def __init__(self, data):
-        self.data = data
-        self.whole = b"\xa5" * self.GUARD + data + b"\x5a" * self.GUARD
-        self.memory = ctypes.create_string_buffer(self.whole, len(self.whole))
-        self.pointer = ctypes.addressof(self.memory) + self.GUARD if data else None
+    def __init__(self, data, at=5, null=True):
+        self._place(data, ctypes.create_string_buffer(len(data) + 32), lambda base: 8 + (at - base) % 8, null)
+
+    def _place(self, data, memory, offset, null):
+        base = ctypes.addressof(memory)
+        self.data, self.memory, self.start = data, memory, offset(base)
+        self.whole = b"\xa5" * self.start + data + b"\x5a" * (len(memory) - self.start - len(data))
+        memory.raw = self.whole
+        self.pointer = base + self.start if data or not null else None
 
     def after(self):
         """What the list holds, if the bytes around it are as they were."""
-        whole = self.memory.raw
-        assert whole[:self.GUARD] == self.whole[:self.GUARD] and whole[self.GUARD + len(self.data):] == self.whole[self.GUARD + len(self.data):], "bytes around a list changed"
-        return whole[self.GUARD:self.GUARD + len(self.data)]
+        whole, end = self.memory.raw, self.start + len(self.data)
+        assert whole[:self.start] == self.whole[:self.start] and whole[end:] == self.whole[end:], "bytes around a list changed"
+        return whole[self.start:end]
 
     def kept(self):
         assert self.memory.raw == self.whole, "a list that is only read changed"
+
+
+class Fenced(List):
+    """A list at the end of its page, or at the start: a page on either side can neither be read nor written, so that a byte too far ends the run."""
+
+    def __init__(self, data, at_end=True):
+        size = max(1, -(-len(data) // mmap.PAGESIZE)) * mmap.PAGESIZE
+        self.pages = mmap.mmap(-1, size + 2 * mmap.PAGESIZE)
+        base = ctypes.addressof(ctypes.c_char.from_buffer(self.pages))
+        for page in (base, base + mmap.PAGESIZE + size):
+            if PROTECT(page, mmap.PAGESIZE, 0): raise OSError("mprotect")
+        self._place(data, (ctypes.c_char * size).from_address(base + mmap.PAGESIZE), lambda _: size - len(data) if at_end else 0, False)
+
+
+PROTECT = ctypes.CDLL(None).mprotect
+PROTECT.argtypes = [ctypes.c_void_p, ctypes.c_size_t, ctypes.c_int]
 
 
 class Entry:
@@ -54,8 +74,8 @@ class Entry:
         self._entry.restype, self._entry.argtypes = result, LIST * lists + list(more)
 
     def __call__(self, read, lent, *more):
-        """What it answers, and the lent lists after it; those that are read stay as they were."""
-        read, lent = [List(d) for d in read], [List(d) for d in lent]
+        """What it answers, and the lent lists after it; those that are read stay as they were. Each is bytes, or a List."""
+        read, lent = [[l if isinstance(l, List) else List(l) for l in lists] for lists in (read, lent)]
         reply = self._entry(*(x for l in read + lent for x in (l.pointer, len(l.data))), *more)
         for l in read: l.kept()
         return reply, [l.after() for l in lent]

@@ -1,11 +1,13 @@
-"""The book's questions and names, against the reader in book_reader.py. Deterministic."""
+"""The book's questions by desk_count and desk_first, and the names by desk_name and desk_name_refusal, beside the reader in book_reader.py. Deterministic."""
 import random
 import unittest
 
-import book_library as library
 import book_reader as reader
+import way_library
+from desk_library import MORE, NONE, OK
 
 EXAMPLE = b"(book\n(players 2)\n(fee 6)\n(move 1 2 24 3)\n(move 2 1 24 3)\n(entry (name snare) 1 0 96)\n(entry (name xylo) 2 120 200)\n(entry (name snare2) 1 240 300)\n)\n"
+LENT = b"\x55" * 112                   # room for 28 entries
 
 
 def made(players=2, fee=6, moves=(), entries=()):
@@ -16,8 +18,10 @@ def made(players=2, fee=6, moves=(), entries=()):
 
 
 class Run:
-    def __init__(self, tested):
-        self.tested, self.calls, self.wrong, self.seen = tested, 0, 0, {}
+    """`seen` has the refusals told, 0 for none."""
+
+    def __init__(self, desk):
+        self.desk, self.calls, self.wrong, self.seen, self.turn = desk, 0, 0, {}, 0
 
     def expect(self, what, got, wanted):
         self.calls += 1
@@ -25,26 +29,28 @@ class Run:
             self.wrong += 1
             if self.wrong <= 10: print("%s: %r, and not %r" % (what, got, wanted))
 
+    def asked(self, text, both):
+        """Code, line and the codes that are no refusal, by the count and by the first way, or by the two in turn."""
+        self.turn += 1
+        if both or self.turn % 2: yield self.desk.count(text, 0)[0], self.desk.line, (OK, MORE)
+        if both or self.turn % 2 == 0: yield self.desk.first(text, LENT)[0][0], self.desk.line, (OK, NONE)
+
     def check(self, text, code=None, line=None):
         """The library's answer is the reader's, and that of the case where it states one."""
         wanted, lines, _ = reader.refusal(text)
-        got, told = self.tested.check(text)
-        self.seen[got] = self.seen.get(got, 0) + 1
-        self.expect("refusal of %r" % text[:200], got, wanted)
-        self.expect("line told of %r" % text[:200], told in lines, True)
-        if code is not None: self.expect("stated refusal of %r" % text[:200], got, code)
-        if line is not None: self.expect("stated line of %r" % text[:200], told, line)
+        for got, told, accepted in self.asked(text, code is not None):
+            if got in accepted: got = 0
+            self.seen[got] = self.seen.get(got, 0) + 1
+            self.expect("refusal of %r" % text[:200], got, wanted)
+            self.expect("line told of %r" % text[:200], told in lines, True)
+            if code is not None: self.expect("stated refusal of %r" % text[:200], got, code)
+            if line is not None: self.expect("stated line of %r" % text[:200], told, line)
 
     def names(self, text, entries):
         for j in entries:
             code, (start, end) = reader.name(text, j)
-            self.expect("name %d of %r" % (j, text[:200]), self.tested.name(text, j), text[start:end])
-            self.expect("refusal of name %d of %r" % (j, text[:200]), self.tested.name_refusal(text, j), code)
-
-    def fields(self, text):
-        head, ticks, costs, columns = reader.fields(reader.refusal(text)[2])
-        for field, wanted in zip(library.FIELDS, [[h] for h in head] + [ticks, costs] + columns):
-            self.expect("%s of %r" % (field, text[:200]), self.tested.field(text, field, len(wanted)), wanted)
+            self.expect("name %d of %r" % (j, text[:200]), self.desk.name(text, j), (start, end - start))
+            self.expect("refusal of name %d of %r" % (j, text[:200]), self.desk.name_refusal(text, j), code)
 
 
 def near_misses(run):
@@ -108,7 +114,6 @@ def sizes(run):
         text = made(entries=[(b"e%d" % j, 1, j, j + 1) for j in range(count)])
         run.check(text, code)
         run.names(text, range(0, count + 3))
-        run.fields(text)
 
 
 def orders(run):
@@ -141,7 +146,6 @@ def orders(run):
     run.check(made(moves=[(1, 2, 9999999, 0), (1, 2, 0, 0)]), 14)
     every = [(a, b, a, b) for a in range(1, 17) for b in range(1, 17) if a != b]
     run.check(made(moves=every), 0)
-    run.fields(made(moves=every, entries=[(b"same", 16, 0, 1000000), (b"same", 1, 999999, 1000000)]))
     run.check(made(moves=every + [(3, 4, 0, 0)]), 14, 4 + 240)
     for k in range(3):
         for bad in ((b"x", 0, 0, 1), (b"x", 17, 0, 1), (b"x", 1, 1, 1), (b"x", 1, 2, 1), (b"x", 1, 0, 1000001), (b"x", 1, 9999999, 9999999)):
@@ -174,9 +178,7 @@ def damaged(run):
     books = [EXAMPLE] + full + [random_book(rng) for _ in range(3000)]
     for k, text in enumerate(books):
         run.check(text)
-        if k % 10 == 0:
-            run.names(text, (0, 1, 2, 3, 28, 29))
-            run.fields(text)
+        if k % 10 == 0: run.names(text, (0, 1, 2, 3, 28, 29))
     for text in books[:40]:
         for i in range(len(text)):
             run.check(text[:i] + text[i + 1:])
@@ -193,25 +195,25 @@ def damaged(run):
 class Books(unittest.TestCase):
     @classmethod
     def setUpClass(cls):
-        cls.tested = library.load()
+        cls.desk = way_library.load()
 
     def compare(self, part, calls, answers):
         """No call differs; and as many were made, with these answers, as when the test was written."""
-        run = Run(self.tested)
+        run = Run(self.desk)
         part(run)
         self.assertEqual((run.wrong, run.calls, sorted(run.seen)), (0, calls, answers))
 
     def test_near_misses(self):
-        self.compare(near_misses, 2835, [0, 12, 13, 14, 15])
+        self.compare(near_misses, 5568, [0, 12, 13, 14, 15])
 
     def test_sizes(self):
-        self.compare(sizes, 1381, [0, 11, 12, 14, 16])
+        self.compare(sizes, 1350, [0, 11, 12, 14, 16])
 
     def test_orders(self):
-        self.compare(orders, 1076, [0, 11, 12, 13, 14, 15, 16])
+        self.compare(orders, 1482, [0, 11, 12, 13, 14, 15, 16])
 
     def test_damaged(self):
-        self.compare(damaged, 185376, [0, 12, 13, 14, 15, 16])
+        self.compare(damaged, 182366, [0, 12, 13, 14, 15, 16])
 
 
 if __name__ == "__main__":

@@ -5,9 +5,9 @@ import unittest
 
 import network_library as library
 import trial
+from flow_networks import damaged, extremes, large, limits, small, wider
 from network_library import END, MORE, NONE, OK, network, numbers
 from test_networks import networks
-from test_questions import damaged, extremes, limits
 
 CAP = 65535
 
@@ -108,56 +108,6 @@ class Session:
                 self.refused()
                 self.next()                # the end once more
                 return
-
-
-def small(rng):
-    """Up to 5 nodes and 6 arcs: loops, parallel and opposite arcs, few costs so that many flows tie; most of them have a flow."""
-    n, m = rng.choice((1, 1, 2, 2, 2, 3, 3, 3, 4, 4, 5)), rng.randint(0, 6)
-    costs = rng.choice(([0], [0, 1], [-1, 0, 1], [-1, 0, 1], [-3, -2, -1, 0, 1, 2, 3], [-10**6, 0, 10**6]))
-    arcs, flow = [], []
-    for _ in range(m):
-        if arcs and rng.random() < 0.3:
-            t, h = arcs[rng.randrange(len(arcs))][:2]
-            if rng.random() < 0.5: t, h = h, t
-        else: t, h = rng.randrange(n), rng.randrange(n)
-        l = rng.choice((0, 0, 0, 0, 0, 1, 2, 3))
-        u = max(rng.randint(l, 3), rng.randint(l, 3))
-        arcs.append((t, h, l, u, rng.choice(costs)))
-        flow.append(rng.randint(l, u))
-    return balanced(rng, n, arcs, flow), arcs
-
-
-def wider(rng):
-    """More nodes and arcs, with room for 1."""
-    n, m = rng.randint(4, 8), rng.randint(8, 11)
-    costs = rng.choice(([0], [0, 1], [-1, 0, 1], [1, 2, 3]))
-    arcs = [(rng.randrange(n), rng.randrange(n), 0, 1, rng.choice(costs)) for _ in range(m)]
-    return balanced(rng, n, arcs, [rng.randint(0, 1) for _ in range(m)]), arcs
-
-
-def balanced(rng, n, arcs, flow):
-    """The balances of the flow; of one in eight networks, others."""
-    out = [0] * n
-    for (t, h, l, u, c), x in zip(arcs, flow):
-        out[t] += x
-        out[h] -= x
-    if rng.random() < 0.125:
-        out[rng.randrange(n)] += rng.choice((-1, 1))
-        if rng.random() < 0.7: out[rng.randrange(n)] -= sum(out)
-    return out
-
-
-def large(rng, costs):
-    """64 nodes and 512 arcs, bounds to the limit; and a flow of it."""
-    arcs, flow, out = [], [], [0] * 64
-    for _ in range(512):
-        u = rng.choice((1, 10**6, rng.randint(0, 10**6)))
-        l = rng.choice((0, 0, 0, rng.randint(0, u)))
-        arcs.append((rng.randrange(64), rng.randrange(64), l, u, rng.choice(costs)))
-        flow.append(rng.randint(l, u))
-        out[arcs[-1][0]] += flow[-1]
-        out[arcs[-1][1]] -= flow[-1]
-    return out, arcs
 
 
 class NetworkCalls(unittest.TestCase):

@@ -1,5 +1,6 @@
 """The book entries of the C surface beside the reader of way_trial.py: document 01's books, the stored examples, thousands of small books, the limits. Deterministic."""
 import random
+import re
 import struct
 import unittest
 
@@ -141,6 +142,24 @@ class WayCalls(unittest.TestCase):
         # the books are of all kinds, without a line, with one, few and many; and so are the calls
         self.assertTrue(all(seen[length] > 100 for length in (0, 1, 2, 3, 4, 20)), seen)
         self.assertTrue(all(calls[code] > 100 for code in (OK, NONE, END, *range(11, 19))), calls)
+
+    def test_each_number(self):
+        """A book with one number changed, beside the trial. Each kind of number changes listings, those of accepted books."""
+        rng, changed = random.Random(15), {}
+        for _ in range(3000):
+            while (book := small(rng, 5)).count(b"(move") < 2: pass
+            places = {}
+            for number in re.finditer(rb"(?<= )\d+(?=[ )])", book):
+                line = book[book.rindex(b"\n", 0, number.start()) + 1:number.start()]
+                places.setdefault((line[1:line.index(b" ")].decode(), line.count(b" ")), []).append(number)
+            kind = rng.choice(sorted(places))
+            number = rng.choice(places[kind])
+            other = book[:number.start()] + b"%d" % max(0, int(number[0]) + rng.choice((-24, -3, -2, -1, 1, 2, 3, 24))) + book[number.end():]
+            listing = way_trial.listing(other)
+            self.assertEqual(self.desk.listed(other), listing, other)
+            if not listing.startswith(b"(refused") and listing != way_trial.listing(book): changed[kind] = changed.get(kind, 0) + 1
+        kinds = [("players", 1), ("fee", 1), *(("move", k) for k in (1, 2, 3, 4)), *(("entry", k) for k in (3, 4, 5))]
+        self.assertTrue(set(changed) == set(kinds) and min(changed.values()) > 10, changed)
 
     def test_any_line_given(self):
         """Next gives the line after any line, whatever was written last."""

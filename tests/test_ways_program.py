@@ -11,8 +11,7 @@ from test_books import EXAMPLE, sized
 from test_way_trial import examples
 from way_books import THOUSAND, damaged, large, refused, small
 
-ROOT = pathlib.Path(__file__).parents[1]
-PROGRAM = pathlib.Path(os.environ.get("WAYS_PROGRAM", ROOT / "target/bin/ways"))     # WAYS_PROGRAM names another one to try
+PROGRAM = os.environ.get("WAYS_PROGRAM") or pathlib.Path(__file__).parents[1] / "target/bin/ways"     # WAYS_PROGRAM names another one to try
 
 
 def printed(data):
@@ -22,7 +21,6 @@ def printed(data):
     return run.stdout
 
 
-@unittest.skipUnless("WAYS_PROGRAM" in os.environ or (ROOT / "crates/ways").exists(), "there is no crate ways yet, so desk_listing has no program")
 class WaysProgram(unittest.TestCase):
     def same(self, data, listing=None):
         """The program prints the listing that is known, or else the trial's."""
