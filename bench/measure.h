@@ -1,76 +1,74 @@
-// How the benches measure: the time of a call, its stack, and a network lent as C lends it.
+// How the benches measure: the median time of a call, and tables of the medians.
 #pragma once
-#include "../include/desk.h"
-#include "networks.h"
+#include <algorithm>
 #include <cstdio>
-#include <cstring>
-#include <functional>
-#include <pthread.h>
-#include <sys/mman.h>
+#include <string>
 #include <time.h>
+#include <vector>
 
-enum { OK = DESK_OK, NONE = DESK_NONE, END = DESK_END, MORE = DESK_MORE };
-
-static double now() {                      // microseconds of this thread
+inline double now() {                      // microseconds of this thread
     timespec t;
     clock_gettime(CLOCK_THREAD_CPUTIME_ID, &t);
     return double(t.tv_sec) * 1e6 + double(t.tv_nsec) / 1e3;
 }
 
-static double median(std::vector<double> x) {
+__attribute__((noinline)) inline double median(std::vector<double> x) {      // inlined, g++ 12 warns of its copy
     if (x.empty()) return 0;
     std::sort(x.begin(), x.end());
     return x[x.size() / 2];
 }
 
-static double largest(const std::vector<double> &x) { return x.empty() ? 0 : *std::max_element(x.begin(), x.end()); }
+inline double largest(const std::vector<double> &x) { return x.empty() ? 0 : *std::max_element(x.begin(), x.end()); }
 
-// The median time of a call: at least three calls, more while they are short.
-template <class F> static double time_of(F call) {
-    std::vector<double> times;
-    double start = now();
+// The median time of a call, from 3 samples at least and 31 at most, as many as go into `limit` microseconds. A sample is 20 microseconds or
+// more of calls.
+template <class F> double time_of(F call, double limit = 20000) {
+    const double start = now();
+    call();
+    const int calls = 1 + int(20 / std::max(now() - start, 0.1));
+    std::vector<double> samples;
     do {
         double t = now();
-        call();
-        times.push_back(now() - t);
-    } while (times.size() < 3 || (times.size() < 31 && now() - start < 20000));
-    return median(times);
+        for (int k = 0; k < calls; k++) call();
+        samples.push_back((now() - t) / calls);
+    } while (samples.size() < 3 || (samples.size() < 31 && now() - start < limit));
+    return median(samples);
 }
 
-// A network as C lends it: numbers of four bytes, lowest first.
-struct Lent {
-    std::vector<uint8_t> balances, arcs, flows, prices;
+// Three figures of a number.
+inline std::string shown(double x) {
+    char text[32];
+    snprintf(text, sizeof text, x < 0.1 ? "%.3f" : x < 10 ? "%.2f" : x < 100 ? "%.1f" : "%.0f", x);
+    return text;
+}
 
-    static void put(std::vector<uint8_t> &to, int x) { for (int k = 0; k < 4; k++) to.push_back(uint8_t(uint32_t(x) >> 8 * k)); }
-    explicit Lent(const Network &n) : flows(4 * n.arcs.size()), prices(4 * n.balances.size()) {
-        for (int b : n.balances) put(balances, b);
-        for (const Arc &a : n.arcs) for (int x : {a.tail, a.head, a.low, a.up, a.cost}) put(arcs, x);
+// The median of what was measured, if anything was.
+inline std::string middle(const std::vector<double> &x) { return x.empty() ? "" : shown(median(x)); }
+
+inline std::string whole(double x) { return std::to_string((long long)(x + 0.5)); }
+
+// A table in Markdown, printed when it is complete.
+struct Table {
+    std::vector<std::vector<std::string>> rows;
+
+    explicit Table(std::vector<std::string> head) : rows{head, std::vector<std::string>(head.size(), "-")} {}
+    void row(std::vector<std::string> cells) { rows.push_back(cells); }
+    ~Table() {
+        std::vector<size_t> width(rows[0].size());
+        for (auto &r : rows) for (size_t c = 0; c < r.size(); c++) width[c] = std::max(width[c], r[c].size());
+        for (auto &r : rows) {
+            for (size_t c = 0; c < r.size(); c++) printf("| %-*s ", int(width[c]), r[c] == "-" ? std::string(width[c], '-').c_str() : r[c].c_str());
+            printf("|\n");
+        }
+        printf("\n");
+        fflush(stdout);
     }
-    desk_reply first() { return desk_network_first(balances.data(), balances.size(), arcs.data(), arcs.size(), flows.data(), flows.size()); }
-    desk_reply first_priced() { return desk_network_first_priced(balances.data(), balances.size(), arcs.data(), arcs.size(), flows.data(), flows.size(), prices.data(), prices.size()); }
-    desk_reply next(std::vector<uint8_t> &to) { return desk_network_next(balances.data(), balances.size(), arcs.data(), arcs.size(), flows.data(), flows.size(), to.data(), to.size()); }
-    desk_reply count(uint16_t cap) { return desk_network_count(balances.data(), balances.size(), arcs.data(), arcs.size(), cap); }
 };
 
-// ---- stack: the call runs on a thread whose stack was painted; the bytes no longer painted, less those of a thread that does nothing ----
+inline int wrong = 0;                      // answers that differ
 
-static const size_t STACK = 8 << 20;
-
-static void *on_thread(void *call) {
-    (*static_cast<std::function<void()> *>(call))();
-    return nullptr;
-}
-
-static size_t touched(std::function<void()> call) {
-    uint8_t *stack = static_cast<uint8_t *>(mmap(nullptr, STACK, PROT_READ | PROT_WRITE, MAP_PRIVATE | MAP_ANONYMOUS, -1, 0));
-    if (stack == MAP_FAILED) abort();
-    memset(stack, 0xa5, STACK);
-    pthread_attr_t attributes;
-    pthread_t thread;
-    pthread_attr_init(&attributes);
-    if (pthread_attr_setstack(&attributes, stack, STACK) || pthread_create(&thread, &attributes, on_thread, &call) || pthread_join(thread, nullptr)) abort();
-    size_t low = 0;
-    while (low < STACK && stack[low] == 0xa5) low++;
-    munmap(stack, STACK);
-    return STACK - low;
+// The status of a bench: 1 if answers differ.
+inline int verdict() {
+    if (wrong) printf("%d answers DIFFER\n", wrong);
+    return wrong ? 1 : 0;
 }

@@ -1,0 +1,76 @@
+// Books to measure with: movements made up from a seed, and the book that lists most; and a book as bytes.
+#pragma once
+#include "dice.h"
+#include <algorithm>
+#include <string>
+#include <vector>
+
+struct Entry { int instrument, start, finish; };
+
+struct Book {
+    int players, fee;
+    int ticks[17][17], costs[17][17];    // ticks -1: no move
+    std::vector<Entry> entries;          // entry j is entries[j - 1]
+
+    int join(int i, int j) const {       // the cost of j after i, or -1
+        const Entry &a = entries[i - 1], &b = entries[j - 1];
+        if (i == j) return -1;
+        if (a.instrument == b.instrument) return a.finish <= b.start ? 0 : -1;
+        int t = ticks[a.instrument][b.instrument];
+        return t >= 0 && a.finish + t <= b.start ? costs[a.instrument][b.instrument] : -1;
+    }
+};
+
+// A movement: bars of 384 ticks, entries of a beat to two bars that begin on a beat, most of the moves, few different costs (so that
+// many ways cost the same), book order near the order of time. `bars` spreads the entries: with many bars almost every later entry may follow.
+// Moves cost 1 to `dearest` at most.
+inline Book random_book(uint64_t seed, int bars, int dearest = 3, int entries = 28) {
+    Dice dice(seed);
+    Book b;
+    const int instruments = dice.roll(3, 16), dear = dice.roll(1, dearest), beat = 96;
+    b.players = dice.roll(4, 8);
+    b.fee = dice.roll(3, 9);
+    for (auto &row : b.ticks) std::fill(std::begin(row), std::end(row), -1);
+    for (auto &row : b.costs) std::fill(std::begin(row), std::end(row), 0);
+    for (int i = 1; i <= instruments; i++)
+        for (int j = 1; j <= instruments; j++)
+            if (i != j && dice.chance(96)) {
+                b.ticks[i][j] = 24 * dice.roll(0, 4);
+                b.costs[i][j] = dice.roll(1, dear);
+            }
+    for (int k = 0; k < entries; k++) {
+        int start = beat * (k * bars * 4 / entries + dice.roll(0, 3)), length = beat * dice.roll(1, dice.chance(20) ? 8 : 3);
+        b.entries.push_back({dice.roll(1, instruments), start, start + length - dice.roll(0, 1) * 12});
+    }
+    for (int k = 0; k < entries * 6 / 28; k++) {         // here and there two lines of the book are not in the order of time
+        int i = dice.roll(0, entries - 2);
+        std::swap(b.entries[i], b.entries[i + 1]);
+    }
+    return b;
+}
+
+// The book as bytes.
+inline std::string text_of(const Book &b) {
+    auto form = [](const std::string &head, const std::vector<int> &numbers) {
+        std::string line = head;
+        for (int x : numbers) line += " " + std::to_string(x);
+        return line + ")\n";
+    };
+    std::string text = "(book\n" + form("(players", {b.players}) + form("(fee", {b.fee});
+    for (int i = 1; i <= 16; i++)
+        for (int j = 1; j <= 16; j++)
+            if (b.ticks[i][j] >= 0 && i != j) text += form("(move", {i, j, b.ticks[i][j], b.costs[i][j]});
+    for (size_t k = 0; k < b.entries.size(); k++) text += form("(entry (name e" + std::to_string(k + 1) + ")", {b.entries[k].instrument, b.entries[k].start, b.entries[k].finish});
+    return text + ")\n";
+}
+
+// The book that lists most: every entry may follow every earlier one at one cost.
+inline Book level_book(int entries, int players) {
+    Book b;
+    b.players = players;
+    b.fee = 1;
+    for (auto &row : b.ticks) std::fill(std::begin(row), std::end(row), 0);
+    for (auto &row : b.costs) std::fill(std::begin(row), std::end(row), 1);
+    for (int k = 0; k < entries; k++) b.entries.push_back({k % 16 + 1, 10 * k, 10 * k + 10});
+    return b;
+}
