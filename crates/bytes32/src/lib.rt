@@ -36,7 +36,14 @@ fn to_signed(n: u32) -> i32
     }
 }
 
-fn to_unsigned(x: i32) -> u32
+// The same number in 64 bits.
+pub fn to_i64(x: i32) -> i64
+    ensures { λ r. ⌜ r ≡ x ⌝ }
+{
+    x as i64
+}
+
+pub fn to_unsigned(x: i32) -> u32
     ensures { λ r. ⌜ r ≡ unsigned x ⌝ }
 {
     if 0 <= x {

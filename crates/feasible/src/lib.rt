@@ -17,13 +17,6 @@ ghost use Rattle.feasible.specs.Excess.{supplies, SmallNumbers, Excesses
 ghost use Rattle.feasible.specs.Sending.{Capped, SendsTo, Sends};
 ghost use Rattle.feasible.specs.Answer.{Given, AllFree, Answer, Decides, IsFlowTest};
 
-// The same number in 64 bits.
-fn wide(c: i32) -> i64
-    ensures { λ r. ⌜ r ≡ c ⌝ }
-{
-    c as i64
-}
-
 // A number of units, as a signed number.
 fn signed(x: u32) -> i64
     ensures { λ r. ⌜ r ≡ pos x ⌝ }
@@ -54,7 +47,7 @@ fn copy_balances(balances: &[i32], excess: &mut [i64])
 {
     let mut i = 0;
     while i < balances.len() {
-        let x = wide(balances[i]);
+        let x = bytes32::to_i64(balances[i]);
         excess[i] = x;
         i += 1;
     }
@@ -181,7 +174,7 @@ fn total(balances: &[i32]) -> i64
     let mut sum: i64 = 0;
     let mut i = 0;
     while i < balances.len() {
-        sum += wide(balances[i]);
+        sum += bytes32::to_i64(balances[i]);
         i += 1;
     }
     sum

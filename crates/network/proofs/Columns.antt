@@ -29,6 +29,9 @@ casts w hi (pos n) h g l u =
     record { ok = rw (toZ-ofZ f) (tt, record { fits = omega (arith, le→ℕ u) }); is = ap natAbs (toZ-ofZ f) }
 casts w hi (negsuc n) h g l u = absurd (omega (arith, le→ℕ l))
 
+pub column-few : {xs : List ℕ} {place hi : ℕ} → Column xs place hi → length xs / 20 ≤ 512
+column-few {xs} column = omega (arith, arcs-of xs, column .few)
+
 pub record Filling (xs : List ℕ) (place a : ℕ) (r : List ℕ) : Type 0 where
   pub upto : a ≤ length xs / 20
   pub is : r ≡ filled (λ t. natAbs (part place t)) (rows (ints xs)) 512 0 a

@@ -1,13 +1,14 @@
 // The checked network: questions 1 to 6, put to two lists of bytes.
 ghost use mathlib.Core.Path.{_≡_};
 ghost use mathlib.Core.List.{map};
-ghost use Prim.Native.Nat.{_+_, _*_, _-_, _/_, _≤_};
+ghost use Prim.Native.Nat.{_+_, _*_, _-_, _/_, _≤_, _<_};
 ghost use lib.ListN.{length, getD};
 ghost use lib.IntN.{pos, natAbs};
 ghost use Rattle.laws.specs.Tests.{all};
 ghost use Rattle.laws.specs.Padded.{padded};
 ghost use Rattle.bytes32.specs.Words.{ints};
 ghost use Rattle.network.specs.Questions.{rows, netOf, inside, passes, fairBalance, fairNodes, fairArcs, refusal, numberOf};
+ghost use Rattle.network.specs.Residual.{either};
 ghost use Rattle.network.specs.Checked.{structOf, noNet, Checks};
 ghost use Rattle.network.specs.Columns.{noArc, part, Column};
 
@@ -271,6 +272,18 @@ fn empty() -> Network
         ups: [0u32; 512],
         costs: [0i32; 512],
     }
+}
+
+// Where the residual arc c starts.
+pub fn source(tails: &[u8], heads: &[u8], c: usize) -> usize
+    requires { ⌜ (c / 2 < length (now tails)) × (c / 2 < length (now heads)) ⌝ }
+    ensures { λ r. ⌜ r ≡ either c (getD (now (tails .entry)) (c / 2) 0) (getD (now (heads .entry)) (c / 2) 0) ⌝ }
+{
+    let a = c / 2;
+    if c % 2 == 0 {
+        return tails[a] as usize;
+    }
+    heads[a] as usize
 }
 
 // The network of two lists of bytes, or the first question that it fails.

@@ -1,13 +1,12 @@
 -- A code by its parity, and the ends of a residual arc.
 use mathlib.Core.Path.{_≡_}
 use mathlib.Core.List.{List}
-use mathlib.Core.Bool.{Bool, true, false, cond}
-use Prim.Native.Nat.{ℕ, _+_, _/_, _%_, _<_}
-use native.Mathlib.Omega.{arith}
-use lib.Dec.{eqb}
+use mathlib.Core.Bool.{Bool}
+use Prim.Native.Nat.{ℕ, _+_, _%_, _<_}
 use borrow.Author.Tests.{eq-eqb, ne-eqb}
-use Rattle.network.specs.Network.{Net, arcs, tail, head}
+use Rattle.network.specs.Network.{Net, arcs}
 use Rattle.network.specs.Residual.{either, src, dst}
+use Rattle.certificates.specs.Codes.{src-below, dst-below}
 use Rattle.paths.specs.Reaching.{Searchable}
 
 pub either-even : {A : Type 0} (c : ℕ) (x y : A) → c % 2 ≡ 0 → either c x y ≡ x
@@ -17,19 +16,8 @@ pub either-odd : {A : Type 0} (c : ℕ) (x y : A) → ¬ (c % 2 ≡ 0) → eithe
 either-odd c x y e = rw (ne-eqb (c % 2) 0 e)
 
 module _ (n : ℕ) (N : Net) (f : List ℕ) (free : List Bool) (ok : Searchable n N f free) (c : ℕ) (l : c < arcs N + arcs N) where
-  arc-in : c / 2 < arcs N
-  arc-in = omega arith
-
   pub src-in : src N c < n
-  src-in = go (eqb (c % 2) 0)
-    where
-      go : (b : Bool) → cond b (tail N (c / 2)) (head N (c / 2)) < n
-      go true = ok .tail-in (c / 2) arc-in
-      go false = ok .head-in (c / 2) arc-in
+  src-in = src-below n N (ok .tail-in) (ok .head-in) c l
 
   pub dst-in : dst N c < n
-  dst-in = go (eqb (c % 2) 0)
-    where
-      go : (b : Bool) → cond b (head N (c / 2)) (tail N (c / 2)) < n
-      go true = ok .head-in (c / 2) arc-in
-      go false = ok .tail-in (c / 2) arc-in
+  dst-in = dst-below n N (ok .tail-in) (ok .head-in) c l

@@ -6,7 +6,7 @@ ghost use Prim.Native.Nat.{ℕ, _+_, _-_, _/_, _%_, _≤_, _<_, min};
 ghost use lib.Dec.{eqb};
 ghost use lib.ListN.{length, getD, take};
 ghost use Rattle.laws.specs.Members.{Every};
-ghost use Rattle.network.specs.Residual.{either, src, dst};
+ghost use Rattle.network.specs.Residual.{src, dst};
 ghost use Rattle.certificates.specs.Push.{InBounds, roomOf, pushOne, pushAll};
 ghost use Rattle.certificates.specs.Reach.{Spread, Falls, TracedAny};
 ghost use Rattle.paths.specs.Graph.{graph};
@@ -17,18 +17,6 @@ ghost use Rattle.paths.specs.Pushing.{SmallBounds, roomAll, Pushable};
 pub enum Route {
     Codes(usize),
     Cut,
-}
-
-// Where code c starts, given tails and heads; given heads and tails, where it ends.
-fn end_of(a: &[u8], b: &[u8], c: usize) -> usize
-    requires { ⌜ (c / 2 < length (now a)) × (c / 2 < length (now b)) ⌝ }
-    ensures { λ r. ⌜ r ≡ either c (getD (now (a .entry)) (c / 2) 0) (getD (now (b .entry)) (c / 2) 0) ⌝ }
-{
-    let h = c / 2;
-    if c % 2 == 0 {
-        return a[h] as usize;
-    }
-    b[h] as usize
 }
 
 // Code c leads from u to v, and goes if `on`: v is reached if u is. How many nodes are reached now.
@@ -196,7 +184,7 @@ pub fn trace(
         let c = via[v];
         codes[len] = c;
         len += 1;
-        v = end_of(tails, heads, c);
+        v = network::source(tails, heads, c);
         p = rank[v];
     }
     len

@@ -19,7 +19,8 @@ use Rattle.network.specs.Residual.{codes, usable, src, dst, stepCost, Walk, wal
 use Rattle.search.specs.Labels.{costGraph, Relaxable, roomy, State, state, label, offer, better, relaxed, relaxedAll, Sized}
 use Rattle.search.specs.Search.{Quiet, Settled}
 use Rattle.search.specs.Prices.{PriceLabels}
-use Rattle.search.proofs.Codes.{src-in, dst-in, either-is}
+use Rattle.certificates.specs.Codes.{either-is}
+use Rattle.search.proofs.Codes.{src-in, dst-in}
 use Rattle.search.proofs.Rounds.{Trip, AtMost, Changed, quiet, noisy, all-length, round-at-most, round-changed, all-sized, sized-more}
 use Rattle.search.proofs.Cycles.{roomy-usable}
 use Rattle.search.proofs.Shorten.{rise, shorten}

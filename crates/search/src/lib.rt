@@ -1,24 +1,18 @@
 // The search for a negative cycle in the residual network of a flow: labels corrected in rounds over the arcs (Bellman and Ford).
 ghost use mathlib.Core.Path.{_≡_};
 ghost use mathlib.Core.Bool.{_&&_};
-ghost use Prim.Native.Nat.{suc, _+_, _/_, _≤_, _<_};
+ghost use Prim.Native.Nat.{suc, _+_, _≤_, _<_};
 ghost use lib.ListN.{length, getD};
 ghost use lib.IntN.{pos, _+ℤ_};
 ghost use lib.Signed.{ltZ};
 ghost use mir.Syntax.{w64};
 ghost use mir.Val.{SFits};
 ghost use mathlib.Core.List.{[]};
-ghost use Rattle.network.specs.Residual.{codes, src};
+ghost use Rattle.network.specs.Residual.{codes};
 ghost use Rattle.search.specs.Labels.{costGraph, SmallGraph, Relaxable, state, setIf, relaxed, relaxedAll, Sized};
 ghost use Rattle.search.specs.Predecessors.{Returns, WentBack, Collected};
 ghost use Rattle.search.specs.Search.{Searched, Settled};
 ghost use Rattle.search.specs.Prices.{PriceLabels};
-
-fn wide(c: i32) -> i64
-    ensures { λ r. ⌜ r ≡ c ⌝ }
-{
-    c as i64
-}
 
 // The residual arc `code` from u to v, if it is on: a better label for v, or nothing. The node whose label fell last.
 fn relax(
@@ -67,7 +61,7 @@ fn relax_arc(
 {
     let t = tails[a] as usize;
     let h = heads[a] as usize;
-    let c = wide(costs[a]);
+    let c = bytes32::to_i64(costs[a]);
     let f = flow[a];
     let forward = f + need <= ups[a];
     let next = relax(labels, preds, forward, t, h, c, (a + a) as u16, last);
@@ -109,18 +103,6 @@ fn round(
     last
 }
 
-// Where the residual arc c starts.
-fn source(tails: &[u8], heads: &[u8], c: usize) -> usize
-    requires { ⌜ (c / 2 < length (now tails)) × (c / 2 < length (now heads)) ⌝ }
-    ensures { λ r. ⌜ r ≡ src (costGraph (now (tails .entry)) (now (heads .entry)) [] [] []) c ⌝ }
-{
-    let a = c / 2;
-    if c % 2 == 0 {
-        return tails[a] as usize;
-    }
-    heads[a] as usize
-}
-
 // 64 predecessors back from v, or 64 where a node without one is met.
 fn go_back(tails: &[u8], heads: &[u8], preds: &[u16], v: usize) -> usize
     requires { ⌜ SmallGraph (costGraph (now tails) (now heads) [] [] []) × (length (now preds) ≡ 64) × (v < 64) ⌝ }
@@ -133,7 +115,7 @@ fn go_back(tails: &[u8], heads: &[u8], preds: &[u16], v: usize) -> usize
         if m <= c {
             return 64;
         }
-        w = source(tails, heads, c);
+        w = network::source(tails, heads, c);
     }
     w
 }
@@ -149,7 +131,7 @@ fn collect(tails: &[u8], heads: &[u8], preds: &[u16], x: usize, out: &mut [usize
         let c = preds[w] as usize;
         out[len] = c;
         len += 1;
-        w = source(tails, heads, c);
+        w = network::source(tails, heads, c);
         if w == x {
             return len;
         }

@@ -3,20 +3,12 @@
 ghost use mathlib.Core.Path.{_≡_};
 ghost use Prim.Native.Nat.{_+_, _≤_, _<_, _%_, _^_};
 ghost use lib.ListN.{length};
-ghost use mir.Syntax.{w32};
-ghost use mir.Val.{ofZ};
 ghost use Rattle.feasible.specs.Answer.{Given, Answer};
 ghost use Rattle.simplex.specs.Lengths.{SameLengths};
 
-// The nodes of the tree are those of the network and the root; arc m + v joins node v to the root.
+// The nodes of the tree are those of the network and the root; arc m + v joins node v to the root. Code 2a is the arc a from its tail to
+// its head, 2a + 1 the same arc back. What an array says of a code: its head, its room, its cost.
 const ROOT: u8 = 64;
-
-// The state of an arc.
-const IN_TREE: u8 = 0;
-
-const EMPTY: u8 = 1;
-
-const FULL: u8 = 2;
 
 // More than any path costs.
 const BIG: u32 = 100000000;
@@ -27,33 +19,27 @@ fn is_negative(x: u32) -> bool {
 }
 
 // x, negated.
-fn negated(x: u32) -> u32
-    ensures { λ r. ⌜ (r + x) % 2 ^ 32 ≡ 0 ⌝ }
-{
+fn negated(x: u32) -> u32 {
     std::num::wrapping_sub_u32(0, x)
 }
 
-// The bits of a signed number.
-fn bits(x: i32) -> u32
-    ensures { λ r. ⌜ r ≡ ofZ w32 x ⌝ }
+// The code of the same arc the other way.
+fn back(code: usize) -> usize
+    ensures { λ r. ⌜ r < 2048 ⌝ }
 {
-    if x < 0 {
-        return negated((-(x as i64)) as u32);
-    }
-    x as u32
+    (code ^ 1) % 2048
 }
 
-// x and d more, or d less.
-fn changed(x: u32, d: u32, more: bool) -> u32 {
-    if more {
-        return std::num::wrapping_add_u32(x, d);
-    }
-    std::num::wrapping_sub_u32(x, d)
+// The code from x to the node above it.
+fn up_from(up: &[usize; 256], x: u8) -> usize
+    ensures { λ r. ⌜ r < 2048 ⌝ }
+{
+    up[x as usize] % 2048
 }
 
 // The node above x.
-fn parent_of(parent: &[u8; 256], x: u8) -> u8 {
-    parent[x as usize]
+fn parent_of(head: &[u8; 2048], up: &[usize; 256], x: u8) -> u8 {
+    head[up_from(up, x)]
 }
 
 // The subtree of x, as a set of nodes.
@@ -61,62 +47,43 @@ fn subtree_of(below: &[u64; 256], x: u8) -> u64 {
     below[x as usize]
 }
 
-// The price of x.
-fn price_of(price: &[u32; 256], x: u8) -> u32 {
-    price[x as usize]
-}
-
-// The predecessor arc of x.
-fn arc_of(pred: &[usize; 256], x: u8) -> usize
-    ensures { λ r. ⌜ r < 1024 ⌝ }
-{
-    pred[x as usize] % 1024
-}
-
-// What can go along the predecessor arc of x, towards the root or away from it.
-fn tree_room(
-    tail: &[u8; 1024],
-    room: &[u32; 1024],
-    flow: &[u32; 1024],
-    pred: &[usize; 256],
-    x: u8,
-    rootwards: bool,
-) -> u32 {
-    let a = arc_of(pred, x);
-    if (tail[a] == x) == rootwards {
-        return std::num::wrapping_sub_u32(room[a], flow[a]);
-    }
-    flow[a]
-}
-
-// Sends d along the predecessor arc of x.
-fn tree_push(
-    tail: &[u8; 1024],
-    flow: &mut [u32; 1024],
-    pred: &[usize; 256],
-    x: u8,
-    rootwards: bool,
-    d: u32,
-) {
-    let a = arc_of(pred, x);
-    let f = changed(flow[a], d, (tail[a] == x) == rootwards);
-    flow[a] = f;
-}
-
 // Whether the subtree of x has v.
 fn is_below(below: &[u64; 256], x: u8, v: u8) -> bool {
     (subtree_of(below, x) >> (v % 64)) & 1 == 1
 }
 
-// Sends d from x up to `meet`, or down.
+// The price of x.
+fn price_of(price: &[u32; 256], x: u8) -> u32 {
+    price[x as usize]
+}
+
+// The cost of the code at the prices.
+fn reduced(head: &[u8; 2048], cost: &[u32; 2048], price: &[u32; 256], code: usize) -> u32
+    requires { ⌜ code < 2048 ⌝ }
+{
+    let from = price_of(price, head[back(code)]);
+    let to = price_of(price, head[code]);
+    std::num::wrapping_sub_u32(std::num::wrapping_add_u32(from, cost[code]), to)
+}
+
+// Sends d along the code.
+fn push(room: &mut [u32; 2048], code: usize, d: u32)
+    requires { ⌜ code < 2048 ⌝ }
+{
+    let left = std::num::wrapping_sub_u32(room[code], d);
+    room[code] = left;
+    let other = back(code);
+    let more = std::num::wrapping_add_u32(room[other], d);
+    room[other] = more;
+}
+
+// Sends d from x up to `meet`.
 fn push_up(
-    tail: &[u8; 1024],
-    flow: &mut [u32; 1024],
-    pred: &[usize; 256],
-    parent: &[u8; 256],
+    head: &[u8; 2048],
+    room: &mut [u32; 2048],
+    up: &[usize; 256],
     from: u8,
     meet: u8,
-    rootwards: bool,
     d: u32,
 ) {
     let mut x = from;
@@ -124,58 +91,53 @@ fn push_up(
         if x == meet {
             return;
         }
-        tree_push(tail, flow, pred, x, rootwards, d);
-        x = parent_of(parent, x);
+        push(room, up_from(up, x), d);
+        x = parent_of(head, up, x);
     }
 }
 
-// The ends of an arc, in the direction in which it is used.
-struct Ends {
-    from: u8,
-    to: u8,
-}
-
-// The ends, turned round where the arc is not used forward.
-fn ends_of(t: u8, h: u8, forward: bool) -> Ends {
-    if forward {
-        return Ends { from: t, to: h };
-    }
-    Ends { from: h, to: t }
-}
-
-// A walk up the tree: the node where it ended, the least room on the way, and the node whose predecessor arc has it; ROOT if the
-// entering arc itself has no more.
+// A walk up the tree: the node where it ended, the least room on the way, and the node whose arc upwards has it; ROOT if no arc of the
+// walk has less than could come.
 struct Walked {
     meet: u8,
     leave: u8,
     amount: u32,
 }
 
-// From u up to the first node whose subtree has w, where `most` can enter.
+// What can go by the arc above x, upwards or down.
+fn tree_room(room: &[u32; 2048], up: &[usize; 256], x: u8, upwards: bool) -> u32 {
+    let code = up_from(up, x);
+    if upwards {
+        return room[code];
+    }
+    room[back(code)]
+}
+
+// From `from` up to the first node whose subtree has `to`, where `most` can come. Of the arcs with the least room, the last on the way
+// round the cycle is taken: down from `meet`, by the entering arc, and up again. Then no tree comes back.
 fn climb(
-    tail: &[u8; 1024],
-    room: &[u32; 1024],
-    flow: &[u32; 1024],
-    pred: &[usize; 256],
-    parent: &[u8; 256],
+    head: &[u8; 2048],
+    room: &[u32; 2048],
+    up: &[usize; 256],
     below: &[u64; 256],
-    u: u8,
-    w: u8,
+    from: u8,
+    to: u8,
+    upwards: bool,
     most: u32,
 ) -> Walked {
-    let mut x = u;
+    let mut x = from;
     let mut leave = ROOT;
     let mut amount = most;
     for _ in 0..65usize {
-        if is_below(below, x, w) {
+        if is_below(below, x, to) {
             break;
         }
-        let r = tree_room(tail, room, flow, pred, x, false);
-        if r < amount {
+        let r = tree_room(room, up, x, upwards);
+        if r < amount || (upwards && r == amount) {
             amount = r;
             leave = x;
         }
-        x = parent_of(parent, x);
+        x = parent_of(head, up, x);
     }
     Walked {
         meet: x,
@@ -184,161 +146,122 @@ fn climb(
     }
 }
 
-// What leaves the tree: the predecessor arc of `leave`, or the entering arc itself if that is ROOT. Of the entering arc, q is the end
-// below `leave` and p the other; the cycle is closed at `meet`.
+// What leaves the tree: the arc above `leave`, or the entering arc itself if that is ROOT. The code `into` of the entering arc leads into
+// the subtree of `leave`; the cycle is closed at `meet`.
 struct Leaving {
+    into: usize,
     leave: u8,
-    q: u8,
-    p: u8,
     meet: u8,
     amount: u32,
 }
 
-// From w up to the same node. Of the arcs with the least room, the last on the way round from `meet` leaves: then no tree comes back.
-fn climb_back(
-    tail: &[u8; 1024],
-    room: &[u32; 1024],
-    flow: &[u32; 1024],
-    pred: &[usize; 256],
-    parent: &[u8; 256],
-    u: u8,
-    w: u8,
-    first: Walked,
-) -> Leaving {
-    let meet = first.meet;
-    let mut x = w;
-    let mut leave = first.leave;
-    let mut q = u;
-    let mut amount = first.amount;
-    for _ in 0..65usize {
-        if x == meet {
-            break;
-        }
-        let r = tree_room(tail, room, flow, pred, x, true);
-        if r <= amount {
-            amount = r;
-            leave = x;
-            q = w;
-        }
-        x = parent_of(parent, x);
+// What leaves when e enters.
+fn leaving_arc(
+    head: &[u8; 2048],
+    room: &[u32; 2048],
+    up: &[usize; 256],
+    below: &[u64; 256],
+    e: usize,
+) -> Leaving
+    requires { ⌜ e < 2048 ⌝ }
+    ensures { λ r. ⌜ r .into < 2048 ⌝ }
+{
+    let other = back(e);
+    let u = head[other];
+    let w = head[e];
+    let down = climb(head, room, up, below, u, w, false, room[e]);
+    let above = climb(head, room, up, below, w, u, true, down.amount);
+    let meet = above.meet;
+    let amount = above.amount;
+    if above.leave == ROOT {
+        return Leaving {
+            into: other,
+            leave: down.leave,
+            meet,
+            amount,
+        };
     }
-    let p = if q == w { u } else { w };
     Leaving {
-        leave,
-        q,
-        p,
+        into: e,
+        leave: above.leave,
         meet,
         amount,
     }
 }
 
-// What leaves when `most` can enter from u to w.
-fn leaving_arc(
-    tail: &[u8; 1024],
-    room: &[u32; 1024],
-    flow: &[u32; 1024],
-    pred: &[usize; 256],
-    parent: &[u8; 256],
-    below: &[u64; 256],
-    u: u8,
-    w: u8,
-    most: u32,
-) -> Leaving {
-    let first = climb(tail, room, flow, pred, parent, below, u, w, most);
-    climb_back(tail, room, flow, pred, parent, u, w, first)
-}
-
-// Sends d round the cycle of the entering arc e.
+// Sends d round the cycle that e closes at `meet`.
 fn send_round(
-    tail: &[u8; 1024],
-    flow: &mut [u32; 1024],
-    pred: &[usize; 256],
-    parent: &[u8; 256],
-    u: u8,
-    w: u8,
-    meet: u8,
+    head: &[u8; 2048],
+    room: &mut [u32; 2048],
+    up: &[usize; 256],
     e: usize,
-    forward: bool,
+    meet: u8,
     d: u32,
 )
-    requires { ⌜ e < 1024 ⌝ }
+    requires { ⌜ e < 2048 ⌝ }
 {
     if d == 0 {
         return;
     }
-    let f = changed(flow[e], d, forward);
-    flow[e] = f;
-    push_up(tail, flow, pred, parent, u, meet, false, d);
-    push_up(tail, flow, pred, parent, w, meet, true, d);
+    push(room, e, d);
+    push_up(head, room, up, head[back(e)], meet, negated(d));
+    push_up(head, room, up, head[e], meet, d);
 }
 
-// The subtree of x: what `keep` has stays, and `more` comes in.
-fn change_subtree(below: &mut [u64; 256], x: u8, keep: u64, more: u64) {
+// Takes `part` out of the subtree of x where it is in it, and puts it in where it is not.
+fn change_subtree(below: &mut [u64; 256], x: u8, part: u64) {
     let s = subtree_of(below, x);
-    below[x as usize] = (s & keep) | more;
+    below[x as usize] = s ^ part;
 }
 
-// The subtrees from x up to `meet`: what `keep` has stays, and `more` comes in.
-fn change_below(
-    parent: &[u8; 256],
+// The same from x up to `meet`.
+fn change_subtrees(
+    head: &[u8; 2048],
+    up: &[usize; 256],
     below: &mut [u64; 256],
     from: u8,
     meet: u8,
-    keep: u64,
-    more: u64,
+    part: u64,
 ) {
     let mut x = from;
     for _ in 0..65usize {
         if x == meet {
             return;
         }
-        change_subtree(below, x, keep, more);
-        x = parent_of(parent, x);
+        change_subtree(below, x, part);
+        x = parent_of(head, up, x);
     }
 }
 
-// Hangs x on `up` by the arc `via`, with its new subtree.
-fn hang(
-    parent: &mut [u8; 256],
-    pred: &mut [usize; 256],
-    below: &mut [u64; 256],
-    x: u8,
-    up: u8,
-    via: usize,
-    subtree: u64,
-) {
-    parent[x as usize] = up;
-    pred[x as usize] = via;
+// Hangs x by the code `via`, with its new subtree.
+fn hang(up: &mut [usize; 256], below: &mut [u64; 256], x: u8, via: usize, subtree: u64) {
+    up[x as usize] = via;
     below[x as usize] = subtree;
 }
 
-// Hangs the subtree `part` of `leave` on p by the arc e, at its node q: the arcs from q up to `leave` are turned round.
+// Hangs the subtree `part` of `leave` by the code e that leads into it: the arcs from there up to `leave` are turned round.
 fn rehang(
-    parent: &mut [u8; 256],
-    pred: &mut [usize; 256],
+    head: &[u8; 2048],
+    up: &mut [usize; 256],
     below: &mut [u64; 256],
     leave: u8,
     part: u64,
-    q: u8,
-    p: u8,
     e: usize,
-) {
-    let mut x = q;
-    let mut up = p;
-    let mut via = e;
+)
+    requires { ⌜ e < 2048 ⌝ }
+{
+    let mut code = e;
     let mut rest = part;
     for _ in 0..65usize {
-        let above = parent_of(parent, x);
-        let a = arc_of(pred, x);
+        let x = head[code];
+        let next = up_from(up, x);
         let s = subtree_of(below, x);
-        hang(parent, pred, below, x, up, via, rest);
+        hang(up, below, x, back(code), rest);
         if x == leave {
             return;
         }
         rest = part & !s;
-        up = x;
-        via = a;
-        x = above;
+        code = next;
     }
 }
 
@@ -363,123 +286,74 @@ fn shift_prices(price: &mut [u32; 256], part: u64, d: u32) {
     }
 }
 
-// The state of an arc that leaves the tree.
-fn state_of(flow: u32) -> u8 {
-    if flow == 0 {
-        return EMPTY;
-    }
-    FULL
-}
-
-// The other bound.
-fn opposite(state: u8) -> u8 {
-    if state == EMPTY {
-        return FULL;
-    }
-    EMPTY
-}
-
-// Brings e into the tree in the place of the predecessor arc of `leave`; q is the end of e that hangs below `leave`, p the other.
+// Brings the arc of e into the tree in the place of the arc above `leave`; e leads into the subtree of `leave`.
 fn exchange(
-    tail: &[u8; 1024],
-    state: &mut [u8; 1024],
-    flow: &[u32; 1024],
-    cost: &[u32; 1024],
-    parent: &mut [u8; 256],
-    pred: &mut [usize; 256],
+    head: &[u8; 2048],
+    cost: &[u32; 2048],
+    up: &mut [usize; 256],
     price: &mut [u32; 256],
     below: &mut [u64; 256],
     e: usize,
     leave: u8,
-    q: u8,
-    p: u8,
     meet: u8,
 )
-    requires { ⌜ e < 1024 ⌝ }
+    requires { ⌜ e < 2048 ⌝ }
 {
-    let gone = arc_of(pred, leave);
-    state[gone] = state_of(flow[gone]);
-    state[e] = IN_TREE;
     let part = subtree_of(below, leave);
-    change_below(parent, below, parent_of(parent, leave), meet, !part, 0);
-    change_below(parent, below, p, meet, !0, part);
-    let gap = std::num::wrapping_sub_u32(price_of(price, p), price_of(price, q));
-    let d = changed(gap, cost[e], tail[e] != q);
-    rehang(parent, pred, below, leave, part, q, p, e);
-    shift_prices(price, part, d);
+    change_subtrees(head, up, below, parent_of(head, up, leave), meet, part);
+    change_subtrees(head, up, below, head[back(e)], meet, part);
+    rehang(head, up, below, leave, part, e);
+    shift_prices(price, part, reduced(head, cost, price, e));
 }
 
 // Lets e enter: sends round its cycle what can go, and takes an arc that is then full or empty out of the tree.
 fn pivot(
-    tail: &[u8; 1024],
-    head: &[u8; 1024],
-    state: &mut [u8; 1024],
-    room: &[u32; 1024],
-    flow: &mut [u32; 1024],
-    cost: &[u32; 1024],
-    parent: &mut [u8; 256],
-    pred: &mut [usize; 256],
+    head: &[u8; 2048],
+    room: &mut [u32; 2048],
+    cost: &[u32; 2048],
+    up: &mut [usize; 256],
     price: &mut [u32; 256],
     below: &mut [u64; 256],
     e: usize,
 )
-    requires { ⌜ e < 1024 ⌝ }
+    requires { ⌜ e < 2048 ⌝ }
 {
-    let s = state[e];
-    let forward = s == EMPTY;
-    let ends = ends_of(tail[e], head[e], forward);
-    let u = ends.from;
-    let w = ends.to;
-    let l = leaving_arc(tail, room, flow, pred, parent, below, u, w, room[e]);
-    send_round(tail, flow, pred, parent, u, w, l.meet, e, forward, l.amount);
-    if l.leave == ROOT {
-        state[e] = opposite(s);
-        return;
+    let l = leaving_arc(head, room, up, below, e);
+    send_round(head, room, up, e, l.meet, l.amount);
+    if l.leave != ROOT {
+        exchange(head, cost, up, price, below, l.into, l.leave, l.meet);
     }
-    exchange(
-        tail,
-        state,
-        flow,
-        cost,
-        parent,
-        pred,
-        price,
-        below,
-        e,
-        l.leave,
-        l.q,
-        l.p,
-        l.meet,
-    );
 }
 
-// Whether the cost falls if a enters.
+// The code of arc a that costs less at the prices.
+fn cheaper(head: &[u8; 2048], cost: &[u32; 2048], price: &[u32; 256], a: usize) -> usize
+    requires { ⌜ a < 1024 ⌝ }
+    ensures { λ r. ⌜ r < 2048 ⌝ }
+{
+    if is_negative(reduced(head, cost, price, 2 * a)) {
+        return 2 * a;
+    }
+    2 * a + 1
+}
+
+// Whether the cost falls if arc a enters.
 fn gains(
-    tail: &[u8; 1024],
-    head: &[u8; 1024],
-    state: &[u8; 1024],
-    cost: &[u32; 1024],
+    head: &[u8; 2048],
+    room: &[u32; 2048],
+    cost: &[u32; 2048],
     price: &[u32; 256],
     a: usize,
 ) -> bool
     requires { ⌜ a < 1024 ⌝ }
 {
-    let t = price_of(price, tail[a]);
-    let h = price_of(price, head[a]);
-    let out = std::num::wrapping_add_u32(cost[a], t);
-    let s = state[a];
-    if s == EMPTY {
-        return is_negative(std::num::wrapping_sub_u32(out, h));
-    }
-    s == FULL && is_negative(std::num::wrapping_sub_u32(h, out))
+    room[cheaper(head, cost, price, a)] != 0 && reduced(head, cost, price, 2 * a) != 0
 }
 
 // The first arc from `from` on that gains; `end` if there is none.
 fn first_gain(
-    tail: &[u8; 1024],
-    head: &[u8; 1024],
-    state: &[u8; 1024],
-    cost: &[u32; 1024],
+    head: &[u8; 2048],
+    room: &[u32; 2048],
+    cost: &[u32; 2048],
     price: &[u32; 256],
     from: usize,
     end: usize,
@@ -489,7 +363,7 @@ fn first_gain(
 {
     let mut a = from;
     while a < end {
-        if gains(tail, head, state, cost, price, a) {
+        if gains(head, room, cost, price, a) {
             return a;
         }
         a += 1;
@@ -499,10 +373,9 @@ fn first_gain(
 
 // The entering arc: the first that gains, from `from` on and then from 0; m if there is none.
 fn entering(
-    tail: &[u8; 1024],
-    head: &[u8; 1024],
-    state: &[u8; 1024],
-    cost: &[u32; 1024],
+    head: &[u8; 2048],
+    room: &[u32; 2048],
+    cost: &[u32; 2048],
     price: &[u32; 256],
     from: usize,
     m: usize,
@@ -510,11 +383,11 @@ fn entering(
     requires { ⌜ (from ≤ m) × (m ≤ 1024) ⌝ }
     ensures { λ r. ⌜ r ≤ m ⌝ }
 {
-    let a = first_gain(tail, head, state, cost, price, from, m);
+    let a = first_gain(head, room, cost, price, from, m);
     if a < m {
         return a;
     }
-    let b = first_gain(tail, head, state, cost, price, 0, from);
+    let b = first_gain(head, room, cost, price, 0, from);
     if b < from {
         return b;
     }
@@ -523,14 +396,10 @@ fn entering(
 
 // Pivots until no arc gains, 20,000 at most: some 1,300 are enough for a random network of 512 arcs.
 fn improve(
-    tail: &[u8; 1024],
-    head: &[u8; 1024],
-    state: &mut [u8; 1024],
-    room: &[u32; 1024],
-    flow: &mut [u32; 1024],
-    cost: &[u32; 1024],
-    parent: &mut [u8; 256],
-    pred: &mut [usize; 256],
+    head: &[u8; 2048],
+    room: &mut [u32; 2048],
+    cost: &[u32; 2048],
+    up: &mut [usize; 256],
     price: &mut [u32; 256],
     below: &mut [u64; 256],
     m: usize,
@@ -539,24 +408,20 @@ fn improve(
 {
     let mut from = 0;
     for _ in 0..20000usize {
-        let e = entering(tail, head, state, cost, price, from, m);
-        if e >= m {
+        let a = entering(head, room, cost, price, from, m);
+        if a >= m {
             return;
         }
         pivot(
-            tail,
             head,
-            state,
             room,
-            flow,
             cost,
-            parent,
-            pred,
+            up,
             price,
             below,
-            e,
+            cheaper(head, cost, price, a),
         );
-        from = e + 1;
+        from = a + 1;
     }
 }
 
@@ -567,7 +432,7 @@ fn copy_balances(balances: &[i32], excess: &mut [u32; 256]) -> u32
     let mut sum: u32 = 0;
     let mut v = 0;
     while v < balances.len() {
-        let x = bits(balances[v]);
+        let x = bytes32::to_unsigned(balances[v]);
         excess[v] = x;
         sum = std::num::wrapping_add_u32(sum, x);
         v += 1;
@@ -583,6 +448,26 @@ fn carry(excess: &mut [u32; 256], t: u8, h: u8, x: u32) {
     excess[h as usize] = std::num::wrapping_add_u32(into, x);
 }
 
+// The two codes of arc a from t to h.
+fn plant_arc(
+    head: &mut [u8; 2048],
+    room: &mut [u32; 2048],
+    cost: &mut [u32; 2048],
+    a: usize,
+    t: u8,
+    h: u8,
+    r: u32,
+    c: u32,
+)
+    requires { ⌜ a < 1024 ⌝ }
+{
+    head[2 * a] = h;
+    head[2 * a + 1] = t;
+    room[2 * a] = r;
+    cost[2 * a] = c;
+    cost[2 * a + 1] = negated(c);
+}
+
 // The arcs of the network, with the room above the lower bounds; the lower bounds themselves are carried.
 fn plant_arcs(
     tails: &[u8],
@@ -590,10 +475,9 @@ fn plant_arcs(
     lows: &[u32],
     ups: &[u32],
     costs: &[i32],
-    tail: &mut [u8; 1024],
-    head: &mut [u8; 1024],
-    room: &mut [u32; 1024],
-    cost: &mut [u32; 1024],
+    head: &mut [u8; 2048],
+    room: &mut [u32; 2048],
+    cost: &mut [u32; 2048],
     excess: &mut [u32; 256],
 )
     requires { ⌜ SameLengths (length (now tails)) (now tails) (now heads) (now lows) (now ups) (now costs) ⌝ }
@@ -603,48 +487,41 @@ fn plant_arcs(
         let t = tails[a];
         let h = heads[a];
         let low = lows[a];
-        tail[a] = t;
-        head[a] = h;
-        room[a] = std::num::wrapping_sub_u32(ups[a], low);
-        cost[a] = bits(costs[a]);
+        let r = std::num::wrapping_sub_u32(ups[a], low);
+        plant_arc(head, room, cost, a, t, h, r, bytes32::to_unsigned(costs[a]));
         carry(excess, t, h, low);
         a += 1;
     }
 }
 
-// Node v hangs on the root by the arc a, which carries its excess x.
+// Node v hangs on the root by the code given, with the excess x on the arc: from v to the root, or from the root to v.
 fn plant_node(
-    tail: &mut [u8; 1024],
-    head: &mut [u8; 1024],
-    state: &mut [u8; 1024],
-    flow: &mut [u32; 1024],
-    pred: &mut [usize; 256],
+    head: &mut [u8; 2048],
+    room: &mut [u32; 2048],
+    up: &mut [usize; 256],
     price: &mut [u32; 256],
     below: &mut [u64; 256],
     x: u32,
     v: u8,
-    a: usize,
+    code: usize,
 )
-    requires { ⌜ (v < 64) × (a < 1024) ⌝ }
+    requires { ⌜ (v < 64) × (code < 2048) ⌝ }
 {
     let into = is_negative(x);
-    let ends = ends_of(v, ROOT, !into);
-    tail[a] = ends.from;
-    head[a] = ends.to;
-    state[a] = IN_TREE;
-    flow[a] = changed(0, x, !into);
-    pred[v as usize] = a;
-    price[v as usize] = changed(0, BIG, into);
+    let other = back(code);
+    head[other] = v;
+    room[code] = if into { negated(x) } else { !x };
+    room[other] = x;
+    up[v as usize] = code;
+    price[v as usize] = if into { BIG } else { negated(BIG) };
     below[v as usize] = 1 << v;
 }
 
 // Every node hangs on the root.
 fn plant_nodes(
-    tail: &mut [u8; 1024],
-    head: &mut [u8; 1024],
-    state: &mut [u8; 1024],
-    flow: &mut [u32; 1024],
-    pred: &mut [usize; 256],
+    head: &mut [u8; 2048],
+    room: &mut [u32; 2048],
+    up: &mut [usize; 256],
     price: &mut [u32; 256],
     below: &mut [u64; 256],
     excess: &[u32; 256],
@@ -656,28 +533,44 @@ fn plant_nodes(
     let mut v = 0;
     while v < n {
         plant_node(
-            tail,
             head,
-            state,
-            flow,
-            pred,
+            room,
+            up,
             price,
             below,
             excess[v],
             v as u8,
-            m + v,
+            2 * (m + v),
         );
         v += 1;
     }
 }
 
-// What the tree's arcs carry, above the lower bounds.
-fn write_flow(lows: &[u32], above: &[u32; 1024], flow: &mut [u32])
+// From every node hung on the root to the last pivot.
+fn solve(
+    head: &mut [u8; 2048],
+    room: &mut [u32; 2048],
+    cost: &[u32; 2048],
+    excess: &[u32; 256],
+    m: usize,
+    n: usize,
+)
+    requires { ⌜ (m ≤ 512) × (n ≤ 64) ⌝ }
+{
+    let mut up = [0usize; 256];
+    let mut price = [0u32; 256];
+    let mut below = [u64::MAX; 256];
+    plant_nodes(head, room, &mut up, &mut price, &mut below, excess, m, n);
+    improve(head, room, cost, &mut up, &mut price, &mut below, m);
+}
+
+// What the arcs carry: the room of their codes back, above the lower bounds.
+fn write_flow(lows: &[u32], room: &[u32; 2048], flow: &mut [u32])
     requires { ⌜ (length (now lows) ≤ 512) × (length (now flow) ≡ length (now lows)) ⌝ }
 {
     let mut a = 0;
     while a < lows.len() {
-        flow[a] = std::num::wrapping_add_u32(lows[a], above[a]);
+        flow[a] = std::num::wrapping_add_u32(lows[a], room[2 * a + 1]);
         a += 1;
     }
 }
@@ -698,56 +591,29 @@ fn guess(
     if copy_balances(balances, &mut excess) != 0 {
         return;
     }
-    let m = tails.len();
-    let n = balances.len();
-    let mut tail = [ROOT; 1024];
-    let mut head = [ROOT; 1024];
-    let mut state = [EMPTY; 1024];
-    let mut room = [u32::MAX; 1024];
-    let mut above = [0u32; 1024];
-    let mut cost = [BIG; 1024];
-    let mut parent = [ROOT; 256];
-    let mut pred = [0usize; 256];
-    let mut price = [0u32; 256];
-    let mut below = [u64::MAX; 256];
+    let mut head = [ROOT; 2048];
+    let mut room = [0u32; 2048];
+    let mut cost = [0u32; 2048];
     plant_arcs(
         tails,
         heads,
         lows,
         ups,
         costs,
-        &mut tail,
         &mut head,
         &mut room,
         &mut cost,
         &mut excess,
     );
-    plant_nodes(
-        &mut tail,
+    solve(
         &mut head,
-        &mut state,
-        &mut above,
-        &mut pred,
-        &mut price,
-        &mut below,
-        &excess,
-        m,
-        n,
-    );
-    improve(
-        &tail,
-        &head,
-        &mut state,
-        &room,
-        &mut above,
+        &mut room,
         &cost,
-        &mut parent,
-        &mut pred,
-        &mut price,
-        &mut below,
-        m,
+        &excess,
+        tails.len(),
+        balances.len(),
     );
-    write_flow(lows, &above, flow);
+    write_flow(lows, &room, flow);
 }
 
 // A flow, and a least-cost one where the guess is right; false if there is none.

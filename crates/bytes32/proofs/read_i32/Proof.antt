@@ -11,12 +11,6 @@ use Rattle.bytes32.proofs.read_i32.Tie as tie
 returns : tie.Need-returns
 returns c = sym (ints-past (c .before .before .args .b .now) (c .before .before .args .i) (omega arith))
 
-read-word-requires : tie.Need-read-word-requires
-read-word-requires c κs = search needs
-
-to-signed-requires : tie.Need-to-signed-requires
-to-signed-requires c κs = search needs
-
 returns-2 : tie.Need-returns-2
 returns-2 c =
     let a = c .before .before .before .before in
@@ -24,4 +18,4 @@ returns-2 c =
     (c .to-signed .ensures ∙ ap signed (c .before .read-word .ensures) ∙ sym (ints-at (a .args .b .now) (a .args .i) (omega arith)))
 
 pub read-i32-spec : {M : Type 1} → statement M
-read-i32-spec = tie.close (tie.spec returns read-word-requires to-signed-requires returns-2)
+read-i32-spec = tie.close (tie.spec returns (λ c κs. search needs) (λ c κs. search needs) returns-2)

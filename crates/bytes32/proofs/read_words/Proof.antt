@@ -20,9 +20,6 @@ abbrev μ-loop : tie.MeasureT-loop
 few : (c : tie.After-lesser Inv-loop μ-loop) → (c .lesser .result ≤ length (c .before .before .args .b .now) / 4) × (c .lesser .result ≤ 512)
 few c = omega (arith, c .lesser .ensures, min-le-left (length (c .before .before .args .b .now) / 4) 512, min-le-right (length (c .before .before .args .b .now) / 4) 512)
 
-lesser-requires : tie.Need-lesser-requires Inv-loop μ-loop
-lesser-requires c κs = search needs
-
 loop-holds : tie.Need-loop-holds Inv-loop μ-loop
 loop-holds c = (omega arith, refl)
 
@@ -34,12 +31,6 @@ mul-r c = omega (arith, few (c .before .before .before) .1)
 
 array-write-r : tie.Need-array-write-r Inv-loop μ-loop
 array-write-r c = omega (arith, few (c .before .before .before) .1)
-
-add-i : tie.Need-add-i Inv-loop μ-loop
-add-i c = omega arith
-
-loop-less : tie.Need-loop-less Inv-loop μ-loop
-loop-less c = omega arith
 
 loop-again : tie.Need-loop-again Inv-loop μ-loop
 loop-again c =
@@ -62,15 +53,5 @@ returns c =
 pub read-words-spec : {M : Type 1} → statement M
 read-words-spec =
     tie.close
-    (tie.spec
-    Inv-loop
-    μ-loop
-    lesser-requires
-    loop-holds
-    read-word-requires
-    mul-r
-    array-write-r
-    add-i
-    loop-less
-    loop-again
-    returns)
+    (tie.spec Inv-loop μ-loop (λ c κs. search needs) loop-holds read-word-requires mul-r array-write-r (λ c. omega arith) (λ c. omega arith)
+    loop-again returns)

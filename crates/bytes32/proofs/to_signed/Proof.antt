@@ -11,15 +11,6 @@ use Rattle.bytes32.proofs.Minus.{minus-pos}
 use Rattle.bytes32.proofs.to_signed.Statement.{statement}
 use Rattle.bytes32.proofs.to_signed.Tie as tie
 
-cast-result : tie.Need-cast-result
-cast-result c = search needs
-
-sub-k : tie.Need-sub-k
-sub-k c = search needs
-
-cast-k : tie.Need-cast-k
-cast-k c = search needs
-
 small : (k : ℕ) → k < 2147483648 → SFits w32 (negsuc k)
 small k h = record { sfits = h }
 
@@ -39,4 +30,4 @@ returns-2 c =
     rw (toZ-pos w32 h, minus-pos (4294967295 - n), toZ-ofZ (small (4294967295 - n) h)) (sym (signed-high n (omega arith)))
 
 pub to-signed-spec : {M : Type 1} → statement M
-to-signed-spec = tie.close (tie.spec cast-result sub-k cast-k sub-result returns returns-2)
+to-signed-spec = tie.close (tie.spec (λ c. search needs) (λ c. search needs) (λ c. search needs) sub-result returns returns-2)

@@ -56,5 +56,4 @@ returns-2 : tie.Need-returns-2
 returns-2 c = down (c .before .args .x) (c .before .fits .x) (c .if1 .left) .right
 
 pub to-unsigned-spec : {M : Type 1} → statement M
-to-unsigned-spec =
-    tie.close (tie.spec cast-result sub-k cast-result-2 sub-result returns returns-2)
+to-unsigned-spec = tie.close (tie.spec cast-result sub-k cast-result-2 sub-result returns returns-2)

@@ -9,15 +9,6 @@ use Rattle.bytes32.specs.Words.{unsigned, put}
 use Rattle.bytes32.proofs.write_i32.Statement.{statement}
 use Rattle.bytes32.proofs.write_i32.Tie as tie
 
-to-unsigned-requires : tie.Need-to-unsigned-requires
-to-unsigned-requires c κs = search needs
-
-put-u32-requires : tie.Need-put-u32-requires
-put-u32-requires c κs = search needs
-
-same-length : tie.Need-same-length
-same-length c = search needs
-
 returns : tie.Need-returns
 returns c =
     let a = c .before .before .before .before .before .before .before in
@@ -28,5 +19,4 @@ returns-2 c =
     rw (le-ltb (c .before .before .before .args .i) (length (c .before .before .before .args .out .now) / 4) (omega arith))
 
 pub write-i32-spec : {M : Type 1} → statement M
-write-i32-spec =
-    tie.close (tie.spec to-unsigned-requires put-u32-requires same-length returns returns-2)
+write-i32-spec = tie.close (tie.spec (λ c κs. search needs) (λ c κs. search needs) (λ c. search needs) returns returns-2)

@@ -30,31 +30,16 @@ counted c = rw (length-map (c .before .before .args .xs .now) unsigned) (c .coun
 fits : (c : tie.After-count-of Inv-loop μ-loop) → (c .count-of .result ≤ length (map unsigned (c .before .before .args .xs .now))) × (4 * c .count-of .result ≤ length (c .before .before .args .out .now))
 fits c = least-fits (map unsigned (c .before .before .args .xs .now)) (c .before .before .args .out .now) (c .before .before .args .m) (c .count-of .result) (counted c)
 
-count-of-requires : tie.Need-count-of-requires Inv-loop μ-loop
-count-of-requires c κs = search needs
-
 loop-holds : tie.Need-loop-holds Inv-loop μ-loop
 loop-holds c =
     let a = c .before .before in
     written-none (map unsigned (a .args .xs .now)) (a .args .out .now) (c .count-of .result) (fits c .0) (fits c .1)
 
-mul-x : tie.Need-mul-x Inv-loop μ-loop
-mul-x c = omega arith
-
 shared-slice-copy-out-x : tie.Need-shared-slice-copy-out-x Inv-loop μ-loop
 shared-slice-copy-out-x c = omega (arith, fits (c .before .before) .0)
 
-to-unsigned-requires : tie.Need-to-unsigned-requires Inv-loop μ-loop
-to-unsigned-requires c κs = search needs
-
 put-u32-requires : tie.Need-put-u32-requires Inv-loop μ-loop
 put-u32-requires c κs = omega (arith, c .before .before .before .before .loop .inv .long, fits (c .before .before .before .before .before) .1)
-
-add-i : tie.Need-add-i Inv-loop μ-loop
-add-i c = omega arith
-
-loop-less : tie.Need-loop-less Inv-loop μ-loop
-loop-less c = omega arith
 
 loop-again : tie.Need-loop-again Inv-loop μ-loop
 loop-again c =
@@ -77,17 +62,5 @@ returns c =
 pub write-ints-spec : {M : Type 1} → statement M
 write-ints-spec =
     tie.close
-    (tie.spec
-    Inv-loop
-    μ-loop
-    count-of-requires
-    loop-holds
-    mul-x
-    shared-slice-copy-out-x
-    to-unsigned-requires
-    put-u32-requires
-    add-i
-    loop-less
-    loop-again
-    same-length
-    returns)
+    (tie.spec Inv-loop μ-loop (λ c κs. search needs) loop-holds (λ c. omega arith) shared-slice-copy-out-x (λ c κs. search needs) put-u32-requires
+    (λ c. omega arith) (λ c. omega arith) loop-again same-length returns)

@@ -16,28 +16,16 @@ abbrev μ-loop : tie.MeasureT-loop
 fits : (c : tie.After-count-of Inv-loop μ-loop) → (c .count-of .result ≤ length (c .before .before .before .args .xs .now)) × (4 * c .count-of .result ≤ length (c .before .before .before .args .out .now))
 fits c = least-fits (c .before .before .before .args .xs .now) (c .before .before .before .args .out .now) (c .before .before .before .args .m) (c .count-of .result) (c .count-of .ensures)
 
-count-of-requires : tie.Need-count-of-requires Inv-loop μ-loop
-count-of-requires c κs = search needs
-
 loop-holds : tie.Need-loop-holds Inv-loop μ-loop
 loop-holds c =
     let a = c .before .before .before in
     written-none (a .args .xs .now) (a .args .out .now) (c .count-of .result) (fits c .0) (fits c .1)
-
-mul-put-u32 : tie.Need-mul-put-u32 Inv-loop μ-loop
-mul-put-u32 c = omega arith
 
 shared-slice-read-put-u32 : tie.Need-shared-slice-read-put-u32 Inv-loop μ-loop
 shared-slice-read-put-u32 c = omega (arith, fits (c .before .before .before .before) .0)
 
 put-u32-requires : tie.Need-put-u32-requires Inv-loop μ-loop
 put-u32-requires c κs = omega (arith, c .before .before .before .loop .inv .long, fits (c .before .before .before .before) .1)
-
-add-i : tie.Need-add-i Inv-loop μ-loop
-add-i c = omega arith
-
-loop-less : tie.Need-loop-less Inv-loop μ-loop
-loop-less c = omega arith
 
 loop-again : tie.Need-loop-again Inv-loop μ-loop
 loop-again c =
@@ -59,16 +47,5 @@ returns c =
 pub write-words-spec : {M : Type 1} → statement M
 write-words-spec =
     tie.close
-    (tie.spec
-    Inv-loop
-    μ-loop
-    count-of-requires
-    loop-holds
-    mul-put-u32
-    shared-slice-read-put-u32
-    put-u32-requires
-    add-i
-    loop-less
-    loop-again
-    same-length
-    returns)
+    (tie.spec Inv-loop μ-loop (λ c κs. search needs) loop-holds (λ c. omega arith) shared-slice-read-put-u32 put-u32-requires (λ c. omega arith)
+    (λ c. omega arith) loop-again same-length returns)

@@ -31,6 +31,4 @@ loop-again : tie.Need-loop-again Inv-loop μ-loop
 loop-again c = let s = c .before .before .before .before .before .before .before .before .before .before .before in let a = c .before .before .before in let f = c .before .before .before .before .before in let e = one-less (costGraph (s .args .tails .now) (s .args .heads .now) (s .args .lows .now) (s .args .ups .now) (s .args .costs .now)) (f .loop .flow) (a .cancel .last .1 .1 .1 .1 .1 .0) (s .args .need) (a .cancel .result) (a .cancel .ensures) (not-false _ (c .if1 .left)) in (relaxable-again (costGraph (s .args .tails .now) (s .args .heads .now) (s .args .lows .now) (s .args .ups .now) (s .args .costs .now)) (f .loop .flow) (a .cancel .last .1 .1 .1 .1 .1 .0) (f .loop .inv .0) (e .0 .bounds), further (costGraph (s .args .tails .now) (s .args .heads .now) (s .args .lows .now) (s .args .ups .now) (s .args .costs .now)) (s .args .flow .now) (f .loop .flow) (a .cancel .last .1 .1 .1 .1 .1 .0) (f .loop .inv .1) (e .0))
 
 pub cancel-all-spec : {M : Type 1} → statement M
-cancel-all-spec =
-    tie.close
-    (tie.spec Inv-loop μ-loop loop-holds cancel-requires same-length returns loop-less loop-again)
+cancel-all-spec = tie.close (tie.spec Inv-loop μ-loop loop-holds cancel-requires same-length returns loop-less loop-again)

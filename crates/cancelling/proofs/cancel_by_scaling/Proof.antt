@@ -33,14 +33,4 @@ loop-again : tie.Need-loop-again Inv-loop μ-loop
 loop-again c = let s = c .before .before .before .before .before .before .before .before .before .before .before in let a = c .before .before .before in let f = c .before .before .before .before .before in (relaxable-again (costGraph (s .args .tails .now) (s .args .heads .now) (s .args .lows .now) (s .args .ups .now) (s .args .costs .now)) (f .loop .flow) (a .cancel-all .last .1 .1 .1 .1 .1 .0) (f .loop .inv .0) (a .cancel-all .ensures .0 .bounds), further (costGraph (s .args .tails .now) (s .args .heads .now) (s .args .lows .now) (s .args .ups .now) (s .args .costs .now)) (s .args .flow .now) (f .loop .flow) (a .cancel-all .last .1 .1 .1 .1 .1 .0) (f .loop .inv .1) (a .cancel-all .ensures .0), omega (arith, f .loop .inv .2, c .if1 .left), omega (arith, f .loop .inv .3))
 
 pub cancel-by-scaling-spec : {M : Type 1} → statement M
-cancel-by-scaling-spec =
-    tie.close
-    (tie.spec
-    Inv-loop
-    μ-loop
-    loop-holds
-    cancel-all-requires
-    same-length
-    returns
-    loop-less
-    loop-again)
+cancel-by-scaling-spec = tie.close (tie.spec Inv-loop μ-loop loop-holds cancel-all-requires same-length returns loop-less loop-again)

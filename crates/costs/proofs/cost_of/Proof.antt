@@ -27,17 +27,8 @@ Here = tie.After-product Inv-loop μ-loop
 loop-holds : tie.Need-loop-holds Inv-loop μ-loop
 loop-holds c = (omega arith, refl)
 
-mul-x : tie.Need-mul-x Inv-loop μ-loop
-mul-x c = search needs
-
 shared-slice-read-x : tie.Need-shared-slice-read-x Inv-loop μ-loop
 shared-slice-read-x c = omega (arith, c .before .loop-test .taken, c .before .before .before .before .pre .flow-len)
-
-mul-product : tie.Need-mul-product Inv-loop μ-loop
-mul-product c = search needs
-
-shared-slice-copy-out-product : tie.Need-shared-slice-copy-out-product Inv-loop μ-loop
-shared-slice-copy-out-product c = search needs
 
 cost-is : (c : tie.After-product-arg Inv-loop μ-loop) → toZ w32 (ofZ w32 (getD (c .before .before .before .before .before .args .costs .now) (c .before .before .before .loop .a) (pos 0))) ≡ getD (c .before .before .before .before .before .args .costs .now) (c .before .before .before .loop .a) (pos 0)
 cost-is c = toZ-ofZ (search needs)
@@ -50,9 +41,6 @@ term-is c = toZ-ofZ (record { sfits = c .product .ok }) ∙ c .product .ensures 
 
 add-sum : tie.Need-add-sum Inv-loop μ-loop
 add-sum c = more-fits (c .before .before .before .before .before .before .args .costs .now) (c .before .before .before .before .before .before .args .flow .now) (c .before .before .before .before .loop .a) _ _ (c .before .before .before .before .before .before .pre) (c .before .before .before .loop-test .taken) (c .before .before .before .before .loop .inv .1) (term-is c)
-
-add-a : tie.Need-add-a Inv-loop μ-loop
-add-a c = search needs
 
 loop-less : tie.Need-loop-less Inv-loop μ-loop
 loop-less c = omega (arith, c .before .before .before .loop-test .taken)
@@ -69,17 +57,5 @@ returns c =
 pub cost-of-spec : {M : Type 1} → statement M
 cost-of-spec =
     tie.close
-    (tie.spec
-    Inv-loop
-    μ-loop
-    loop-holds
-    mul-x
-    shared-slice-read-x
-    mul-product
-    shared-slice-copy-out-product
-    product-requires
-    add-sum
-    add-a
-    loop-less
-    loop-again
-    returns)
+    (tie.spec Inv-loop μ-loop loop-holds (λ c. search needs) shared-slice-read-x (λ c. search needs) (λ c. search needs) product-requires add-sum
+    (λ c. search needs) loop-less loop-again returns)

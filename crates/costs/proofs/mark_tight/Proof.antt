@@ -24,9 +24,6 @@ abbrev μ-loop : tie.MeasureT-loop
 loop-holds : tie.Need-loop-holds Inv-loop μ-loop
 loop-holds c = (omega arith, c .before .before .before .pre .marks-len, record { marked = λ a h. absurd (omega arith); unmarked = λ a h. absurd (omega arith) })
 
-shared-slice-read-t : tie.Need-shared-slice-read-t Inv-loop μ-loop
-shared-slice-read-t c = search needs
-
 cast-t : tie.Need-cast-t Inv-loop μ-loop
 cast-t c = omega (arith, c .shared-slice-known3 .given (c .before .before .loop .a))
 
@@ -35,9 +32,6 @@ shared-slice-read-h c = omega (arith, c .before .before .loop-test .taken, c .be
 
 cast-h : tie.Need-cast-h Inv-loop μ-loop
 cast-h c = omega (arith, c .shared-slice-known4 .given (c .before .before .before .loop .a))
-
-mul-reduced : tie.Need-mul-reduced Inv-loop μ-loop
-mul-reduced c = search needs
 
 shared-slice-copy-out-reduced : tie.Need-shared-slice-copy-out-reduced Inv-loop μ-loop
 shared-slice-copy-out-reduced c = omega (arith, c .before .before .loop-test .taken, c .before .before .before .before .before .before .before .pre .costs-len)
@@ -77,9 +71,6 @@ is c = c .reduced .ensures ∙ rw (cost-is (c .before), tail-price (c .before), 
 slice-write-marks : tie.Need-slice-write-marks Inv-loop μ-loop
 slice-write-marks c = omega (arith, c .before .before .before .before .before .before .loop-test .taken, c .before .before .before .before .before .before .before .loop .inv .1)
 
-add-a : tie.Need-add-a Inv-loop μ-loop
-add-a c = search needs
-
 loop-less : tie.Need-loop-less Inv-loop μ-loop
 loop-less c = omega (arith, c .before .before .before .before .before .before .loop-test .taken)
 
@@ -100,24 +91,6 @@ returns c = let e : c .before .loop .a ≡ length (c .before .before .before .be
 pub mark-tight-spec : {M : Type 1} → statement M
 mark-tight-spec =
     tie.close
-    (tie.spec
-    Inv-loop
-    μ-loop
-    loop-holds
-    shared-slice-read-t
-    cast-t
-    shared-slice-read-h
-    cast-h
-    mul-reduced
-    shared-slice-copy-out-reduced
-    mul-reduced-2
-    shared-slice-copy-out-reduced-2
-    mul-reduced-3
-    shared-slice-copy-out-reduced-3
-    reduced-requires
-    slice-write-marks
-    add-a
-    loop-less
-    loop-again
-    same-length
-    returns)
+    (tie.spec Inv-loop μ-loop loop-holds (λ c. search needs) cast-t shared-slice-read-h cast-h (λ c. search needs) shared-slice-copy-out-reduced
+    mul-reduced-2 shared-slice-copy-out-reduced-2 mul-reduced-3 shared-slice-copy-out-reduced-3 reduced-requires slice-write-marks (λ c. search needs)
+    loop-less loop-again same-length returns)

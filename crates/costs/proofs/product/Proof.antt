@@ -19,9 +19,6 @@ signed c = toZ-pos w64 (omega (arith, c .pre .1))
 cast-result : tie.Need-cast-result
 cast-result c = widens (c .fits .c)
 
-cast-result-2 : tie.Need-cast-result-2
-cast-result-2 c = search needs
-
 mul-result : tie.Need-mul-result
 mul-result c = product-fits (c .args .c) (c .args .x) _ _ (wide c) (signed c) (c .pre .0) (c .pre .1)
 
@@ -29,4 +26,4 @@ returns : tie.Need-returns
 returns c = toZ-ofZ (mul-result c) ∙ ap₂ _*ℤ_ (wide c) (signed c)
 
 pub product-spec : {M : Type 1} → statement M
-product-spec = tie.close (tie.spec cast-result cast-result-2 mul-result returns)
+product-spec = tie.close (tie.spec cast-result (λ c. search needs) mul-result returns)

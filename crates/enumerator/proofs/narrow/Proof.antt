@@ -28,28 +28,10 @@ long s = search needs
 loop-holds : tie.Need-loop-holds Inv-loop μ-loop
 loop-holds c = (omega arith, refl)
 
-mul-x : tie.Need-mul-x Inv-loop μ-loop
-mul-x c = omega arith
-
-array-copy-out-x : tie.Need-array-copy-out-x Inv-loop μ-loop
-array-copy-out-x c = search needs
-
 cast-r : tie.Need-cast-r Inv-loop μ-loop
 cast-r c =
     let x = getD (c .before .before .before .args .t1) (c .before .before .loop .v) (pos 0) in
     rw (toZ-ofZ {w = w64} {z = x} (record { sfits = c .x .given })) (bounded-fits w32 64000000 x (c .before .before .before .pre (c .before .before .loop .v) (omega arith)) (omega arith))
-
-mul-r : tie.Need-mul-r Inv-loop μ-loop
-mul-r c = omega arith
-
-array-set-from-r : tie.Need-array-set-from-r Inv-loop μ-loop
-array-set-from-r c = search needs
-
-add-v : tie.Need-add-v Inv-loop μ-loop
-add-v c = search needs
-
-loop-less : tie.Need-loop-less Inv-loop μ-loop
-loop-less c = omega arith
 
 loop-again : tie.Need-loop-again Inv-loop μ-loop
 loop-again c =
@@ -68,16 +50,5 @@ returns c =
 pub narrow-spec : {M : Type 1} → statement M
 narrow-spec =
     tie.close
-    (tie.spec
-    Inv-loop
-    μ-loop
-    loop-holds
-    mul-x
-    array-copy-out-x
-    cast-r
-    mul-r
-    array-set-from-r
-    add-v
-    loop-less
-    loop-again
-    returns)
+    (tie.spec Inv-loop μ-loop loop-holds (λ c. omega arith) (λ c. search needs) cast-r (λ c. omega arith) (λ c. search needs) (λ c. search needs)
+    (λ c. omega arith) loop-again returns)

@@ -21,14 +21,8 @@ abbrev μ-loop : tie.MeasureT-loop
 loop-holds : tie.Need-loop-holds Inv-loop μ-loop
 loop-holds c = (refl, omega arith, λ v h. absurd (omega arith))
 
-mul-wide : tie.Need-mul-wide Inv-loop μ-loop
-mul-wide c = search needs
-
-shared-slice-copy-out-wide : tie.Need-shared-slice-copy-out-wide Inv-loop μ-loop
-shared-slice-copy-out-wide c = search needs
-
-wide-requires : tie.Need-wide-requires Inv-loop μ-loop
-wide-requires c κs = tt
+to-i64-requires : tie.Need-to-i64-requires Inv-loop μ-loop
+to-i64-requires c κs = tt
 
 mul-x : tie.Need-mul-x Inv-loop μ-loop
 mul-x c = let s = c .before .before .before .before in let h : c .before .before .before .loop .i < length (s .args .balances .now) = c .before .before .loop-test .taken in search needs
@@ -36,18 +30,15 @@ mul-x c = let s = c .before .before .before .before in let h : c .before .before
 slice-set-from-x : tie.Need-slice-set-from-x Inv-loop μ-loop
 slice-set-from-x c = let s = c .before .before .before .before in omega (arith, c .before .before .loop-test .taken, c .before .before .before .loop .inv .0, s .pre)
 
-add-i : tie.Need-add-i Inv-loop μ-loop
-add-i c = search needs
-
 loop-less : tie.Need-loop-less Inv-loop μ-loop
 loop-less c = omega (arith, c .before .before .loop-test .taken)
 
 loop-again : tie.Need-loop-again Inv-loop μ-loop
 loop-again c = let s = c .before .before .before .before in let a = c .before .before .before .loop in let p = s .args .balances .now in
-    let e : toZ w64 (ofZ w64 (c .wide .result)) ≡ getD p (a .i) (pos 0) = toZ-ofZ (record { sfits = c .wide .ok }) ∙ c .wide .ensures ∙ toZ-ofZ {w = w32} (search needs) in (
+    let e : toZ w64 (ofZ w64 (c .to-i64 .result)) ≡ getD p (a .i) (pos 0) = toZ-ofZ (record { sfits = c .to-i64 .ok }) ∙ c .to-i64 .ensures ∙ toZ-ofZ {w = w32} (search needs) in (
       simp length-set (a .inv .0),
       omega (arith, c .before .before .loop-test .taken),
-      set-more (λ v x. x ≡ getD p v (pos 0)) (a .excess) (a .i) (toZ w64 (ofZ w64 (c .wide .result))) (pos 0) (omega (arith, c .before .before .loop-test .taken, a .inv .0, s .pre)) (a .inv .2) e,
+      set-more (λ v x. x ≡ getD p v (pos 0)) (a .excess) (a .i) (toZ w64 (ofZ w64 (c .to-i64 .result))) (pos 0) (omega (arith, c .before .before .loop-test .taken, a .inv .0, s .pre)) (a .inv .2) e,
     )
 
 same-length : tie.Need-same-length Inv-loop μ-loop
@@ -59,17 +50,5 @@ returns c = let a = c .before in ext-getD (pos 0) _ _ (a .loop .inv .0 ∙ a .be
 pub copy-balances-spec : {M : Type 1} → statement M
 copy-balances-spec =
     tie.close
-    (tie.spec
-    Inv-loop
-    μ-loop
-    loop-holds
-    mul-wide
-    shared-slice-copy-out-wide
-    wide-requires
-    mul-x
-    slice-set-from-x
-    add-i
-    loop-less
-    loop-again
-    same-length
-    returns)
+    (tie.spec Inv-loop μ-loop loop-holds (λ c. search needs) (λ c. search needs) to-i64-requires mul-x slice-set-from-x (λ c. search needs) loop-less
+    loop-again same-length returns)

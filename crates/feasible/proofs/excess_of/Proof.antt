@@ -72,23 +72,5 @@ returns c = let s = c .before .before .before .before .before .before .before .b
 pub excess-of-spec : {M : Type 1} → statement M
 excess-of-spec =
     tie.close
-    (tie.spec
-    Inv-loop
-    μ-loop
-    copy-balances-requires
-    loop-holds
-    shared-slice-read-t
-    cast-t
-    shared-slice-read-h
-    cast-h
-    mul-f
-    shared-slice-read-f
-    negative-requires
-    add-at-requires
-    signed-requires
-    add-at-requires-2
-    add-a
-    loop-less
-    loop-again
-    same-length
-    returns)
+    (tie.spec Inv-loop μ-loop copy-balances-requires loop-holds shared-slice-read-t cast-t shared-slice-read-h cast-h mul-f shared-slice-read-f
+    negative-requires add-at-requires signed-requires add-at-requires-2 add-a loop-less loop-again same-length returns)

@@ -22,14 +22,8 @@ returns c =
     no-balance (s .args .balances .now) (s .args .tails .now) (s .args .heads .now) (s .args .lows .now) (s .args .ups .now) (s .args .flow .now) (s .pre) (s .args .flow .now)
     (λ e. c .if1 .taken (zero-bits (t .result) (t .ensures ∙ e)))
 
-array-share-prefix-free : tie.Need-array-share-prefix-free
-array-share-prefix-free c = search needs
-
 slice-aggregate-from-bounds : tie.Need-slice-aggregate-from-bounds
 slice-aggregate-from-bounds c = let s = c .before .before .before .before .before .before .before .before in sym (all-free (s .args .tails .now) (s .pre .small .few) .free-len)
-
-array-borrow-prefix-excess : tie.Need-array-borrow-prefix-excess
-array-borrow-prefix-excess c = search needs
 
 slice-aggregate-from-bounds-2 : tie.Need-slice-aggregate-from-bounds-2
 slice-aggregate-from-bounds-2 c = sym (length-take-le (length (start c .args .balances .now)) (replicate 64 (pos 0)) (start c .pre .nodes))
@@ -44,22 +38,11 @@ from-bounds-requires c κs =
       sym (t .ensures) ∙ zero-of (record { sfits = t .ok }) (c .before .before .before .if1 .left),
     )
 
-same-length : tie.Need-same-length
-same-length c = search needs
-
 returns-2 : tie.Need-returns-2
 returns-2 c = c .before .before .before .from-bounds .ensures
 
 pub feasible-spec : {M : Type 1} → statement M
 feasible-spec =
     tie.close
-    (tie.spec
-    total-requires
-    returns
-    array-share-prefix-free
-    slice-aggregate-from-bounds
-    array-borrow-prefix-excess
-    slice-aggregate-from-bounds-2
-    from-bounds-requires
-    same-length
-    returns-2)
+    (tie.spec total-requires returns (λ c. search needs) slice-aggregate-from-bounds (λ c. search needs) slice-aggregate-from-bounds-2
+    from-bounds-requires (λ c. search needs) returns-2)

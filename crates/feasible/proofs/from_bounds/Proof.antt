@@ -60,19 +60,5 @@ loop-again c = (c .before .before .before .send .ensures .bounds, c .before .bef
 pub from-bounds-spec : {M : Type 1} → statement M
 from-bounds-spec =
     tie.close
-    (tie.spec
-    Inv-loop
-    μ-loop
-    bring-in-bounds-requires
-    loop-holds
-    excess-of-requires
-    first-excess-requires
-    same-length
-    same-length-2
-    returns
-    send-requires
-    same-length-3
-    same-length-4
-    returns-2
-    loop-less
-    loop-again)
+    (tie.spec Inv-loop μ-loop bring-in-bounds-requires loop-holds excess-of-requires first-excess-requires same-length same-length-2 returns
+    send-requires same-length-3 same-length-4 returns-2 loop-less loop-again)

@@ -8,9 +8,6 @@ use Rattle.feasible.proofs.IsFlow.{balanced}
 use Rattle.feasible.proofs.is_balanced.Statement.{statement}
 use Rattle.feasible.proofs.is_balanced.Tie as tie
 
-array-borrow-prefix-excess : tie.Need-array-borrow-prefix-excess
-array-borrow-prefix-excess c = search needs
-
 slice-aggregate-excess-of : tie.Need-slice-aggregate-excess-of
 slice-aggregate-excess-of c = let s = c .before .before .before .before in sym (length-take-le (length (s .args .balances .now)) (replicate 64 (pos 0)) (s .pre .1))
 
@@ -23,9 +20,6 @@ array-share-prefix-excess c = let s = c .before .before .before .before .before 
 slice-aggregate-all-zero : tie.Need-slice-aggregate-all-zero
 slice-aggregate-all-zero c = let s = c .before .before .before .before .before .before .before in let x = c .before .before .excess-of in sym (ap length (part-written (x .last .1 .1 .1 .1 .0) (drop (length (s .args .balances .now)) (replicate 64 (pos 0))) (length (s .args .balances .now)) (x .ensures .len) .1) ∙ x .ensures .len)
 
-all-zero-requires : tie.Need-all-zero-requires
-all-zero-requires c κs = search needs
-
 returns : tie.Need-returns
 returns c = let s = c .before .before .before .before .before .before .before .before in let x = c .before .before .before .excess-of in
     balanced (s .args .balances .now) (s .args .tails .now) (s .args .heads .now) (s .args .flow .now) (x .last .1 .1 .1 .1 .0) (x .ensures) _ (part-written (x .last .1 .1 .1 .1 .0) (drop (length (s .args .balances .now)) (replicate 64 (pos 0))) (length (s .args .balances .now)) (x .ensures .len) .1) (c .all-zero .result) (c .all-zero .ensures)
@@ -33,11 +27,5 @@ returns c = let s = c .before .before .before .before .before .before .before .b
 pub is-balanced-spec : {M : Type 1} → statement M
 is-balanced-spec =
     tie.close
-    (tie.spec
-    array-borrow-prefix-excess
-    slice-aggregate-excess-of
-    excess-of-requires
-    array-share-prefix-excess
-    slice-aggregate-all-zero
-    all-zero-requires
-    returns)
+    (tie.spec (λ c. search needs) slice-aggregate-excess-of excess-of-requires array-share-prefix-excess slice-aggregate-all-zero
+    (λ c κs. search needs) returns)

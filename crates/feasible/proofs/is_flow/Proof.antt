@@ -8,9 +8,6 @@ use Rattle.feasible.proofs.IsFlow.{decided, small-numbers, out-of-bound
 use Rattle.feasible.proofs.is_flow.Statement.{statement}
 use Rattle.feasible.proofs.is_flow.Tie as tie
 
-within-bounds-requires : tie.Need-within-bounds-requires
-within-bounds-requires c κs = search needs
-
 returns : tie.Need-returns
 returns c = let s = c .before .before .before .before .before .before .before in let w = c .before .within-bounds in
     out-of-bounds (s .args .balances .now) (s .args .tails .now) (s .args .heads .now) (s .args .lows .now) (s .args .ups .now) (s .args .flow .now) (s .pre) false refl
@@ -27,4 +24,4 @@ returns-2 : tie.Need-returns-2
 returns-2 c = let s = c .before .before .before .before .before .before .before .before in in-bounds (s .args .balances .now) (s .args .tails .now) (s .args .heads .now) (s .args .lows .now) (s .args .ups .now) (s .args .flow .now) (s .pre) (bounds-of (c .before)) (c .is-balanced .result) (c .is-balanced .ensures)
 
 pub is-flow-spec : {M : Type 1} → statement M
-is-flow-spec = tie.close (tie.spec within-bounds-requires returns is-balanced-requires returns-2)
+is-flow-spec = tie.close (tie.spec (λ c κs. search needs) returns is-balanced-requires returns-2)

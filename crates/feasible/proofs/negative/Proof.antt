@@ -9,9 +9,6 @@ use Rattle.feasible.proofs.Widths.{neg-fits, zero-sub}
 use Rattle.feasible.proofs.negative.Statement.{statement}
 use Rattle.feasible.proofs.negative.Tie as tie
 
-signed-requires : tie.Need-signed-requires
-signed-requires c κs = search needs
-
 sub-result : tie.Need-sub-result
 sub-result c = neg-fits (toZ w64 (ofZ w64 (c .signed .result))) (c .before .args .x) (toZ-ofZ (record { sfits = c .signed .ok }) ∙ c .signed .ensures) (omega (arith, c .before .fits .x))
 
@@ -19,4 +16,4 @@ returns : tie.Need-returns
 returns c = toZ-ofZ (sub-result c) ∙ zero-sub (toZ w64 (ofZ w64 (c .signed .result))) ∙ ap negℤ (toZ-ofZ (record { sfits = c .signed .ok }) ∙ c .signed .ensures)
 
 pub negative-spec : {M : Type 1} → statement M
-negative-spec = tie.close (tie.spec signed-requires sub-result returns)
+negative-spec = tie.close (tie.spec (λ c κs. search needs) sub-result returns)

@@ -81,20 +81,5 @@ returns-2 c = let s = c .before .before .before .before .before .before .before 
 pub send-spec : {M : Type 1} → statement M
 send-spec =
     tie.close
-    (tie.spec
-    Inv-loop
-    μ-loop
-    mul-capped
-    shared-slice-copy-out-capped
-    capped-requires
-    loop-holds
-    mul-send-to
-    shared-slice-copy-out-send-to
-    send-to-requires
-    same-length
-    returns
-    add-t
-    loop-less
-    loop-again
-    same-length-2
-    returns-2)
+    (tie.spec Inv-loop μ-loop mul-capped shared-slice-copy-out-capped capped-requires loop-holds mul-send-to shared-slice-copy-out-send-to
+    send-to-requires same-length returns add-t loop-less loop-again same-length-2 returns-2)

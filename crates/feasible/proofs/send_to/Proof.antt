@@ -37,23 +37,8 @@ net s = graph (s .args .tails .now) (s .args .heads .now) (s .args .lows .now) (
 told : (k : tie.After-known-told) → (len-of k ≤ length (lent k)) × Path (net (start k)) (start k .args .flow .now) (start k .args .free .now) (start k .args .s) (start k .args .t) 0 (codes-of k)
 told k = rw (k .before .route .given .1) at (k .before .before .before .before .detour .ensures)
 
-enum-known-route : tie.Need-enum-known-route
-enum-known-route c = search needs
-
-enum-told : tie.Need-enum-told
-enum-told c = search needs
-
 returns : tie.Need-returns
 returns c = let s = c .before .before .before .before .before .before .before in sends-to-none (net s) (s .args .flow .now) (s .args .free .now) (s .args .s) (s .args .t) (s .args .most) (s .args .x) (s .pre .0 .bounds) (toZ w64 (ofZ w64 (s .args .x))) (toZ-ofZ (s .fits .x)) (c .if1 .taken)
-
-slice-aggregate-detour : tie.Need-slice-aggregate-detour
-slice-aggregate-detour c = search needs
-
-detour-requires : tie.Need-detour-requires
-detour-requires c κs = search needs
-
-same-length-2 : tie.Need-same-length-2
-same-length-2 c = search needs
 
 returns-3 : tie.Need-returns-3
 returns-3 c = let s = c .before .before .before .before .before .before .before .before .before .before .before .before .before in sends-to-blocked (net s) (s .args .flow .now) (s .args .free .now) (s .args .s) (s .args .t) (s .args .most) (s .args .x) (s .pre .0 .bounds) (rw (c .enum-told .given .1) at (c .before .before .before .detour .ensures))
@@ -64,24 +49,12 @@ sub-capped c = let s = c .before .before .before .before .before .before .before
 capped-requires : tie.Need-capped-requires
 capped-requires c κs = let s = c .before .before .before .before .before .before .before .before .before .before .before .before .before .before in rw (toZ-ofZ (sub-capped c)) (below (toZ w64 (ofZ w64 (s .args .x))) (s .args .x) (toZ-ofZ (s .fits .x)) (c .before .before .before .before .before .before .before .if1 .left))
 
-lesser-requires : tie.Need-lesser-requires
-lesser-requires c κs = search needs
-
-slice-aggregate-room : tie.Need-slice-aggregate-room
-slice-aggregate-room c = search needs
-
 room-requires : tie.Need-room-requires
 room-requires c κs = let s = c .before .before .before .before .before .before .before .before .before .before .before .before .before .before .before .before .before .before in let k = c .before .before .before .before in let p = told k in
     (p .0, small-without-heads (s .args .tails .now) (s .args .heads .now) (s .args .lows .now) (s .args .ups .now) (s .args .flow .now) (s .pre .0 .small), bounds-without-heads (s .args .tails .now) (s .args .heads .now) (s .args .lows .now) (s .args .ups .now) (s .args .flow .now) (s .pre .0 .bounds), way-codes (length (s .args .tails .now) + length (s .args .tails .now)) (src (net s)) (dst (net s)) (s .args .s) (s .args .t) (codes-of k) (p .1 .trail))
 
-slice-aggregate-push : tie.Need-slice-aggregate-push
-slice-aggregate-push c = search needs
-
 push-requires : tie.Need-push-requires
 push-requires c κs = let s = c .before .before .before .before .before .before .before .before .before .before .before .before .before .before .before .before .before .before .before .before .before in let k = c .before .before .before .before .before .before .before in (told k .0, small-without-heads (s .args .tails .now) (s .args .heads .now) (s .args .lows .now) (s .args .ups .now) (s .args .flow .now) (s .pre .0 .small), able-here (s .args .tails .now) (s .args .heads .now) (s .args .lows .now) (s .args .ups .now) (s .args .flow .now) (s .args .free .now) (s .args .s) (s .args .t) (s .args .most) (s .pre .0 .bounds) (codes-of k) (told k .1) (c .before .before .before .before .before .lesser .result) (c .before .before .room .result) (c .before .before .room .ensures))
-
-same-length : tie.Need-same-length
-same-length c = search needs
 
 returns-2 : tie.Need-returns-2
 returns-2 c = let s = c .before .before .before .before .before .before .before .before .before .before .before .before .before .before .before .before .before .before .before .before .before .before .before .before in let e = c .before .before .before .before .before .before .before .before .before .before in let k = c .before .before .before .before .before .before .before .before .before .capped in
@@ -91,20 +64,6 @@ returns-2 c = let s = c .before .before .before .before .before .before .before 
 pub send-to-spec : {M : Type 1} → statement M
 send-to-spec =
     tie.close
-    (tie.spec
-    returns
-    slice-aggregate-detour
-    detour-requires
-    enum-known-route
-    sub-capped
-    capped-requires
-    lesser-requires
-    slice-aggregate-room
-    room-requires
-    slice-aggregate-push
-    push-requires
-    enum-told
-    same-length
-    returns-2
-    same-length-2
+    (tie.spec returns (λ c. search needs) (λ c κs. search needs) (λ c. search needs) sub-capped capped-requires (λ c κs. search needs)
+    (λ c. search needs) room-requires (λ c. search needs) push-requires (λ c. search needs) (λ c. search needs) returns-2 (λ c. search needs)
     returns-3)

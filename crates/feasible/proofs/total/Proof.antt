@@ -29,33 +29,24 @@ more-is b i x y p q = rw (p, q)
 
 -- where a balance is added
 abbrev Here : Type 0
-Here = tie.After-wide Inv-loop μ-loop
+Here = tie.After-to-i64 Inv-loop μ-loop
 
 abbrev start : Here → tie.Start Inv-loop μ-loop
 start c = c .before .before .before .before
 
-term-is : (c : Here) → toZ w64 (ofZ w64 (c .wide .result)) ≡ getD (start c .args .balances .now) (c .before .before .before .loop .i) (pos 0)
-term-is c = toZ-ofZ (record { sfits = c .wide .ok }) ∙ c .wide .ensures ∙ toZ-ofZ {w = w32} (search needs)
+term-is : (c : Here) → toZ w64 (ofZ w64 (c .to-i64 .result)) ≡ getD (start c .args .balances .now) (c .before .before .before .loop .i) (pos 0)
+term-is c = toZ-ofZ (record { sfits = c .to-i64 .ok }) ∙ c .to-i64 .ensures ∙ toZ-ofZ {w = w32} (search needs)
 
 loop-holds : tie.Need-loop-holds Inv-loop μ-loop
 loop-holds c = (omega arith, refl)
 
-mul-wide : tie.Need-mul-wide Inv-loop μ-loop
-mul-wide c = search needs
-
-shared-slice-copy-out-wide : tie.Need-shared-slice-copy-out-wide Inv-loop μ-loop
-shared-slice-copy-out-wide c = search needs
-
-wide-requires : tie.Need-wide-requires Inv-loop μ-loop
-wide-requires c κs = tt
+to-i64-requires : tie.Need-to-i64-requires Inv-loop μ-loop
+to-i64-requires c κs = tt
 
 add-sum : tie.Need-add-sum Inv-loop μ-loop
 add-sum c =
     let a = c .before .before .before .loop in
     more-fits (start c .args .balances .now) (a .i) (toZ w64 (a .sum)) _ (start c .pre .1) (omega (arith, c .before .before .loop-test .taken, start c .pre .0)) (a .inv .1) (term-is c)
-
-add-i : tie.Need-add-i Inv-loop μ-loop
-add-i c = search needs
 
 loop-less : tie.Need-loop-less Inv-loop μ-loop
 loop-less c = omega (arith, c .before .before .loop-test .taken)
@@ -73,15 +64,5 @@ returns c =
 pub total-spec : {M : Type 1} → statement M
 total-spec =
     tie.close
-    (tie.spec
-    Inv-loop
-    μ-loop
-    loop-holds
-    mul-wide
-    shared-slice-copy-out-wide
-    wide-requires
-    add-sum
-    add-i
-    loop-less
-    loop-again
+    (tie.spec Inv-loop μ-loop loop-holds (λ c. search needs) (λ c. search needs) to-i64-requires add-sum (λ c. search needs) loop-less loop-again
     returns)

@@ -67,17 +67,4 @@ returns-2 : tie.Need-returns-2 Inv-loop μ-loop
 returns-2 c = let s = c .before .before .before .before .before .before .before .before in let a = c .before .loop in (omega (arith, a .inv .1), λ b d π ti e. line-beyond (whole s b d) (a .n) (a .flow) (a .inv .4 b d π ti e) (s .args .cap) (omega (arith, a .inv .1, c .loop-test .left)))
 
 pub count-spec : {M : Type 1} → statement M
-count-spec =
-    tie.close
-    (tie.spec
-    Inv-loop
-    μ-loop
-    loop-holds
-    next-requires
-    same-length
-    returns
-    add-n
-    loop-less
-    loop-again
-    same-length-2
-    returns-2)
+count-spec = tie.close (tie.spec Inv-loop μ-loop loop-holds next-requires same-length returns add-n loop-less loop-again same-length-2 returns-2)

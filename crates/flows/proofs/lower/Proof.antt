@@ -90,9 +90,6 @@ returns-2 c = let s = c .before .before .before .before .before .before .before 
 add-detour : tie.Need-add-detour Inv-loop μ-loop
 add-detour c = let s = c .before .before .before .before .before .before .before .before .before .before .before .before .before .before .before in omega (arith, s .pre .1, s .pre .0 .searchable .few)
 
-slice-aggregate-detour : tie.Need-slice-aggregate-detour Inv-loop μ-loop
-slice-aggregate-detour c = search needs
-
 detour-requires : tie.Need-detour-requires Inv-loop μ-loop
 detour-requires c κs = let s = c .before .before .before .before .before .before .before .before .before .before .before .before .before .before .before .before in let a = c .before .before .before .before .loop in (searchable-again 64 (part s) (s .args .flow .now) (a .flow) (s .args .tight .now) (a .inv .0) (s .pre .0 .searchable), omega (arith, s .pre .1, s .pre .0 .searchable .few), s .pre .0 .searchable .tail-in (s .args .a) (s .pre .1), s .pre .0 .searchable .head-in (s .args .a) (s .pre .1), refl)
 
@@ -105,9 +102,6 @@ returns-3 c = let s = c .before .before .before .before .before .before .before 
   λ b d π ti. low-done (whole s b d) π (s .args .tight .now) (s .args .flow .now) (s .args .a) (s .pre .1) (a .flow) (a .inv .2 b d π ti)
       (blocked-less (whole s b d) (a .flow) (s .args .tight .now) (s .args .a) π (a .inv .2 b d π ti .tight-still) (s .pre .1) (blocked-net (s .args .tails .now) (s .args .heads .now) (s .args .lows .now) (s .args .ups .now) (a .flow) b d (s .args .tight .now) (getD (s .args .tails .now) (s .args .a) 0) (getD (s .args .heads .now) (s .args .a) 0) (suc (s .args .a)) (rw add-one at (rw (c .enum-told .given .1) at (c .before .before .before .detour .ensures))))),
 )
-
-slice-aggregate-take-off : tie.Need-slice-aggregate-take-off Inv-loop μ-loop
-slice-aggregate-take-off c = search needs
 
 take-off-requires : tie.Need-take-off-requires Inv-loop μ-loop
 take-off-requires c κs = let s = c .before .before .before .before .before .before .before .before .before .before .before .before .before .before .before .before .before .before .before .before .before .before .before in let a = c .before .before .before .before .before .before .before .before .before .before .before .loop in (
@@ -130,39 +124,9 @@ loop-again c = let d = c .before .before .before in let s = start d in let a = d
       (path-net (s .args .tails .now) (s .args .heads .now) (s .args .lows .now) (s .args .ups .now) (a .flow) b x (s .args .tight .now) (getD (s .args .tails .now) (s .args .a) 0) (getD (s .args .heads .now) (s .args .a) 0) (suc (s .args .a)) (codes-of d) (path-of d)) (exact-net (s .args .tails .now) (s .args .heads .now) (s .args .lows .now) (s .args .ups .now) (a .flow) b x _ (s .args .a) (codes-of d) (o .ensures .exact)),
 )
 
-enum-known-route : tie.Need-enum-known-route Inv-loop μ-loop
-enum-known-route c = search needs
-
-enum-told : tie.Need-enum-told Inv-loop μ-loop
-enum-told c = search needs
-
 pub lower-spec : {M : Type 1} → statement M
 lower-spec =
     tie.close
-    (tie.spec
-    Inv-loop
-    μ-loop
-    shared-slice-read-if1
-    returns
-    shared-slice-read-s
-    cast-s
-    shared-slice-read-t
-    cast-t
-    mul-l
-    shared-slice-read-l
-    loop-holds
-    mul-f
-    slice-read-f
-    same-length
-    returns-2
-    add-detour
-    slice-aggregate-detour
-    detour-requires
-    enum-known-route
-    slice-aggregate-take-off
-    take-off-requires
-    loop-less
-    loop-again
-    enum-told
-    same-length-2
-    returns-3)
+    (tie.spec Inv-loop μ-loop shared-slice-read-if1 returns shared-slice-read-s cast-s shared-slice-read-t cast-t mul-l shared-slice-read-l loop-holds
+    mul-f slice-read-f same-length returns-2 add-detour (λ c. search needs) detour-requires (λ c. search needs) (λ c. search needs) take-off-requires
+    loop-less loop-again (λ c. search needs) same-length-2 returns-3)

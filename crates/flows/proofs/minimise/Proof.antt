@@ -67,15 +67,5 @@ returns c = let s = c .before .before .before .before .before .before .before .b
 pub minimise-spec : {M : Type 1} → statement M
 minimise-spec =
     tie.close
-    (tie.spec
-    Inv-loop
-    μ-loop
-    first-lowerable-requires
-    loop-holds
-    lower-requires
-    add-first-lowerable
-    first-lowerable-requires-2
-    loop-less
-    loop-again
-    same-length
-    returns)
+    (tie.spec Inv-loop μ-loop first-lowerable-requires loop-holds lower-requires add-first-lowerable first-lowerable-requires-2 loop-less loop-again
+    same-length returns)

@@ -79,18 +79,5 @@ returns-2 c = let s = c .before .before .before .before .before .before .before 
 pub next-spec : {M : Type 1} → statement M
 next-spec =
     tie.close
-    (tie.spec
-    Inv-loop
-    μ-loop
-    after-last-raisable-requires
-    loop-holds
-    sub-k
-    raise-requires
-    add-minimise
-    minimise-requires
-    same-length
-    returns
-    loop-less
-    loop-again
-    same-length-2
-    returns-2)
+    (tie.spec Inv-loop μ-loop after-last-raisable-requires loop-holds sub-k raise-requires add-minimise minimise-requires same-length returns
+    loop-less loop-again same-length-2 returns-2)

@@ -8,20 +8,8 @@ use Rattle.flows.proofs.Detours.{put-able, put-on}
 use Rattle.flows.proofs.put_on.Statement.{statement}
 use Rattle.flows.proofs.put_on.Tie as tie
 
-mul-f : tie.Need-mul-f
-mul-f c = search needs
-
-slice-read-f : tie.Need-slice-read-f
-slice-read-f c = search needs
-
 add-flow : tie.Need-add-flow
 add-flow c = let s = c .before .before .before .before .before .before in omega (arith, s .pre .4, s .pre .1 .ups-small (s .args .a) (s .pre .3))
-
-mul-flow : tie.Need-mul-flow
-mul-flow c = search needs
-
-slice-write-flow : tie.Need-slice-write-flow
-slice-write-flow c = search needs
 
 push-requires : tie.Need-push-requires
 push-requires c κs = let s = c .before .before .before .before .before .before .before in (s .pre .0, s .pre .1, put-able (graph (s .args .tails .now) (s .args .tails .now) (s .args .lows .now) (s .args .ups .now)) (s .args .flow .now) (s .args .a) (take (s .args .len) (s .args .codes .now)) (s .pre .5) (s .pre .2) (s .pre .3) (s .pre .4))
@@ -35,12 +23,4 @@ returns c = let s = c .before .before .before .before .before .before .before .b
 pub put-on-spec : {M : Type 1} → statement M
 put-on-spec =
     tie.close
-    (tie.spec
-    mul-f
-    slice-read-f
-    add-flow
-    mul-flow
-    slice-write-flow
-    push-requires
-    same-length
-    returns)
+    (tie.spec (λ c. search needs) (λ c. search needs) add-flow (λ c. search needs) (λ c. search needs) push-requires same-length returns)

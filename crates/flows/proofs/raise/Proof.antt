@@ -41,50 +41,20 @@ told d = rw (d .before .before .before .route .given .1) at (d .before .before .
 path-of : (d : tie.After-codes3) → Path (part (start d)) (start d .args .flow .now) (start d .args .tight .now) (getD (start d .args .heads .now) (start d .args .a) 0) (getD (start d .args .tails .now) (start d .args .a) 0) (suc (start d .args .a)) (codes-of d)
 path-of d = rw add-one at (told d .1)
 
-shared-slice-read-if1 : tie.Need-shared-slice-read-if1
-shared-slice-read-if1 c = search needs
-
 returns : tie.Need-returns
 returns c = let s = c .before .before .before .before .before .before .before .before in (s .pre .0 .bounds, λ _. refl, λ b d π ti. raise-no (whole s b d) π (s .args .tight .now) (s .args .flow .now) (s .args .a) (s .pre .1) ti (s .args .flow .now) (unmarked-more (whole s b d) (s .args .flow .now) (s .args .tight .now) (s .args .a) π ti (s .pre .1) (not-true _ (c .if1 .taken))))
-
-mul-f : tie.Need-mul-f
-mul-f c = search needs
-
-slice-read-f : tie.Need-slice-read-f
-slice-read-f c = search needs
-
-mul-u : tie.Need-mul-u
-mul-u c = search needs
-
-shared-slice-read-u : tie.Need-shared-slice-read-u
-shared-slice-read-u c = search needs
 
 returns-2 : tie.Need-returns-2
 returns-2 c = let s = c .before .before .before .before .before .before .before .before .before .before .before in (s .pre .0 .bounds, λ _. refl, λ b d π ti. raise-no (whole s b d) π (s .args .tight .now) (s .args .flow .now) (s .args .a) (s .pre .1) ti (s .args .flow .now) (top-more (whole s b d) (s .args .flow .now) (s .args .tight .now) (s .args .a) π ti (s .pre .1) (c .if2 .taken)))
 
-shared-slice-read-s : tie.Need-shared-slice-read-s
-shared-slice-read-s c = search needs
-
 cast-s : tie.Need-cast-s
 cast-s c = let s = c .before .before .before .before .before .before .before .before .before .before .before .before in omega (arith, s .pre .0 .searchable .tail-in (s .args .a) (s .pre .1))
-
-shared-slice-read-t : tie.Need-shared-slice-read-t
-shared-slice-read-t c = search needs
 
 cast-t : tie.Need-cast-t
 cast-t c = let s = c .before .before .before .before .before .before .before .before .before .before .before .before .before in omega (arith, s .pre .0 .searchable .head-in (s .args .a) (s .pre .1))
 
-add-detour : tie.Need-add-detour
-add-detour c = search needs
-
-slice-aggregate-detour : tie.Need-slice-aggregate-detour
-slice-aggregate-detour c = search needs
-
 detour-requires : tie.Need-detour-requires
 detour-requires c κs = let s = c .before .before .before .before .before .before .before .before .before .before .before .before .before .before .before in (s .pre .0 .searchable, omega (arith, s .pre .1, s .pre .0 .searchable .few), s .pre .0 .searchable .head-in (s .args .a) (s .pre .1), s .pre .0 .searchable .tail-in (s .args .a) (s .pre .1), refl)
-
-same-length-2 : tie.Need-same-length-2
-same-length-2 c = search needs
 
 returns-4 : tie.Need-returns-4
 returns-4 c = let s = c .before .before .before .before .before .before .before .before .before .before .before .before .before .before .before .before .before .before .before in (
@@ -93,9 +63,6 @@ returns-4 c = let s = c .before .before .before .before .before .before .before 
   λ b d π ti. raise-no (whole s b d) π (s .args .tight .now) (s .args .flow .now) (s .args .a) (s .pre .1) ti (s .args .flow .now)
       (blocked-more (whole s b d) (s .args .flow .now) (s .args .tight .now) (s .args .a) π ti (s .pre .1) (blocked-net (s .args .tails .now) (s .args .heads .now) (s .args .lows .now) (s .args .ups .now) (s .args .flow .now) b d (s .args .tight .now) (getD (s .args .heads .now) (s .args .a) 0) (getD (s .args .tails .now) (s .args .a) 0) (suc (s .args .a)) (rw add-one at (rw (c .enum-told .given .1) at (c .before .before .before .detour .ensures))))),
 )
-
-slice-aggregate-put-on : tie.Need-slice-aggregate-put-on
-slice-aggregate-put-on c = search needs
 
 put-on-requires : tie.Need-put-on-requires
 put-on-requires c κs = let s = c .before .before .before .before .before .before .before .before .before .before .before .before .before .before .before .before .before .before .before .before .before .before in (
@@ -107,9 +74,6 @@ put-on-requires c κs = let s = c .before .before .before .before .before .befor
   room-without-heads (s .args .tails .now) (s .args .heads .now) (s .args .lows .now) (s .args .ups .now) (s .args .flow .now) (s .args .a) (codes-of c) (path-room (part s) (s .args .flow .now) (s .args .tight .now) (getD (s .args .heads .now) (s .args .a) 0) (getD (s .args .tails .now) (s .args .a) 0) (s .args .a) (codes-of c) (path-of c)),
 )
 
-same-length : tie.Need-same-length
-same-length c = search needs
-
 returns-3 : tie.Need-returns-3
 returns-3 c = let d = c .before .before .before in let s = start d in let o = c .before .before .put-on in (
   bounds-with-heads (s .args .tails .now) (s .args .heads .now) (s .args .lows .now) (s .args .ups .now) _ (o .ensures .bounds),
@@ -118,35 +82,9 @@ returns-3 c = let d = c .before .before .before in let s = start d in let o = c 
       (path-net (s .args .tails .now) (s .args .heads .now) (s .args .lows .now) (s .args .ups .now) (s .args .flow .now) b x (s .args .tight .now) (getD (s .args .heads .now) (s .args .a) 0) (getD (s .args .tails .now) (s .args .a) 0) (suc (s .args .a)) (codes-of d) (path-of d)) (o .ensures .exact),
 )
 
-enum-known-route : tie.Need-enum-known-route
-enum-known-route c = search needs
-
-enum-told : tie.Need-enum-told
-enum-told c = search needs
-
 pub raise-spec : {M : Type 1} → statement M
 raise-spec =
     tie.close
-    (tie.spec
-    shared-slice-read-if1
-    returns
-    mul-f
-    slice-read-f
-    mul-u
-    shared-slice-read-u
-    returns-2
-    shared-slice-read-s
-    cast-s
-    shared-slice-read-t
-    cast-t
-    add-detour
-    slice-aggregate-detour
-    detour-requires
-    enum-known-route
-    slice-aggregate-put-on
-    put-on-requires
-    enum-told
-    same-length
-    returns-3
-    same-length-2
-    returns-4)
+    (tie.spec (λ c. search needs) returns (λ c. search needs) (λ c. search needs) (λ c. search needs) (λ c. search needs) returns-2
+    (λ c. search needs) cast-s (λ c. search needs) cast-t (λ c. search needs) (λ c. search needs) detour-requires (λ c. search needs)
+    (λ c. search needs) put-on-requires (λ c. search needs) (λ c. search needs) returns-3 (λ c. search needs) returns-4)

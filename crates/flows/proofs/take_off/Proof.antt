@@ -10,32 +10,8 @@ use Rattle.flows.proofs.Detours.{take-able, takes-le, taken-off}
 use Rattle.flows.proofs.take_off.Statement.{statement}
 use Rattle.flows.proofs.take_off.Tie as tie
 
-mul-f : tie.Need-mul-f
-mul-f c = search needs
-
-slice-read-f : tie.Need-slice-read-f
-slice-read-f c = search needs
-
-mul-l : tie.Need-mul-l
-mul-l c = search needs
-
-shared-slice-read-l : tie.Need-shared-slice-read-l
-shared-slice-read-l c = search needs
-
-sub-room : tie.Need-sub-room
-sub-room c = search needs
-
-room-requires : tie.Need-room-requires
-room-requires c κs = search needs
-
 sub-flow : tie.Need-sub-flow
 sub-flow c = let s = c .before .before .before .before .before .before .before .before .before in omega (arith, c .room .ensures, takes-le (graph (s .args .tails .now) (s .args .tails .now) (s .args .lows .now) (s .args .ups .now)) (s .args .flow .now) (s .args .a) (take (s .args .len) (s .args .codes .now)) (s .pre .5))
-
-mul-flow : tie.Need-mul-flow
-mul-flow c = search needs
-
-slice-write-flow : tie.Need-slice-write-flow
-slice-write-flow c = search needs
 
 push-requires : tie.Need-push-requires
 push-requires c κs = let s = c .before .before .before .before .before .before .before .before .before .before in (
@@ -54,16 +30,5 @@ returns c = let s = c .before .before .before .before .before .before .before .b
 pub take-off-spec : {M : Type 1} → statement M
 take-off-spec =
     tie.close
-    (tie.spec
-    mul-f
-    slice-read-f
-    mul-l
-    shared-slice-read-l
-    sub-room
-    room-requires
-    sub-flow
-    mul-flow
-    slice-write-flow
-    push-requires
-    same-length
-    returns)
+    (tie.spec (λ c. search needs) (λ c. search needs) (λ c. search needs) (λ c. search needs) (λ c. search needs) (λ c κs. search needs) sub-flow
+    (λ c. search needs) (λ c. search needs) push-requires same-length returns)

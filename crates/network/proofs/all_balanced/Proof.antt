@@ -27,23 +27,11 @@ asked c = c .is-inside .ensures ∙ ap fairBalance (toZ-ofZ {w = w32} (record { 
 loop-holds : tie.Need-loop-holds Inv-loop μ-loop
 loop-holds c = (omega arith, refl)
 
-read-i32-requires : tie.Need-read-i32-requires Inv-loop μ-loop
-read-i32-requires c κs = search needs
-
-is-inside-requires : tie.Need-is-inside-requires Inv-loop μ-loop
-is-inside-requires c κs = search needs
-
 returns : tie.Need-returns Inv-loop μ-loop
 returns c =
     let l = c .before .before .before .before in
     let bs = l .before .before .args .balances .now in
     sym (all-fails fairBalance (ints bs) (pos 0) (l .loop .v) (omega (arith, length-ints bs)) (l .loop .inv .1) (sym (asked (c .before)) ∙ not-true (c .before .is-inside .result) (c .if1 .taken)))
-
-add-v : tie.Need-add-v Inv-loop μ-loop
-add-v c = omega arith
-
-loop-less : tie.Need-loop-less Inv-loop μ-loop
-loop-less c = omega arith
 
 loop-again : tie.Need-loop-again Inv-loop μ-loop
 loop-again c =
@@ -59,14 +47,5 @@ returns-2 c =
 pub all-balanced-spec : {M : Type 1} → statement M
 all-balanced-spec =
     tie.close
-    (tie.spec
-    Inv-loop
-    μ-loop
-    loop-holds
-    read-i32-requires
-    is-inside-requires
-    returns
-    add-v
-    loop-less
-    loop-again
+    (tie.spec Inv-loop μ-loop loop-holds (λ c κs. search needs) (λ c κs. search needs) returns (λ c. omega arith) (λ c. omega arith) loop-again
     returns-2)

@@ -11,36 +11,6 @@ use borrow.Author.Needs.{needs}
 use Rattle.network.proofs.arc_at.Statement.{statement}
 use Rattle.network.proofs.arc_at.Tie as tie
 
-mul-k : tie.Need-mul-k
-mul-k c = search needs
-
-read-i32-requires : tie.Need-read-i32-requires
-read-i32-requires c κs = search needs
-
-add-read-i32 : tie.Need-add-read-i32
-add-read-i32 c = search needs
-
-read-i32-requires-2 : tie.Need-read-i32-requires-2
-read-i32-requires-2 c κs = search needs
-
-add-read-i32-2 : tie.Need-add-read-i32-2
-add-read-i32-2 c = search needs
-
-read-i32-requires-3 : tie.Need-read-i32-requires-3
-read-i32-requires-3 c κs = search needs
-
-add-read-i32-3 : tie.Need-add-read-i32-3
-add-read-i32-3 c = search needs
-
-read-i32-requires-4 : tie.Need-read-i32-requires-4
-read-i32-requires-4 c κs = search needs
-
-add-read-i32-4 : tie.Need-add-read-i32-4
-add-read-i32-4 c = search needs
-
-read-i32-requires-5 : tie.Need-read-i32-requires-5
-read-i32-requires-5 c κs = search needs
-
 same : {t h l u c t′ h′ l′ u′ c′ : ℤ} → t ≡ t′ → h ≡ h′ → l ≡ l′ → u ≡ u′ → c ≡ c′
     → _≡_ {A = Arc} (record { tail = t; head = h; low = l; up = u; cost = c }) (record { tail = t′; head = h′; low = l′; up = u′; cost = c′ })
 same p q r s v = cc
@@ -60,15 +30,5 @@ returns c =
 pub arc-at-spec : {M : Type 1} → statement M
 arc-at-spec =
     tie.close
-    (tie.spec
-    mul-k
-    read-i32-requires
-    add-read-i32
-    read-i32-requires-2
-    add-read-i32-2
-    read-i32-requires-3
-    add-read-i32-3
-    read-i32-requires-4
-    add-read-i32-4
-    read-i32-requires-5
-    returns)
+    (tie.spec (λ c. search needs) (λ c κs. search needs) (λ c. search needs) (λ c κs. search needs) (λ c. search needs) (λ c κs. search needs)
+    (λ c. search needs) (λ c κs. search needs) (λ c. search needs) (λ c κs. search needs) returns)

@@ -28,17 +28,8 @@ refuses BadBounds k e = omega arith
 refuses BadCost k e = omega arith
 refuses BadBalance k e = omega arith
 
-judge-requires : tie.Need-judge-requires
-judge-requires c κs = search needs
-
-enum-told : tie.Need-enum-told
-enum-told c = search needs
-
 fill-requires : tie.Need-fill-requires
 fill-requires c κs = none c
-
-empty-requires : tie.Need-empty-requires
-empty-requires c κs = search needs
 
 returns : tie.Need-returns
 returns c =
@@ -58,5 +49,4 @@ returns-2 c =
     }
 
 pub check-spec : {M : Type 1} → statement M
-check-spec =
-    tie.close (tie.spec judge-requires enum-told fill-requires empty-requires returns returns-2)
+check-spec = tie.close (tie.spec (λ c κs. search needs) (λ c. search needs) fill-requires (λ c κs. search needs) returns returns-2)

@@ -50,11 +50,4 @@ returns c =
 pub fill-spec : {M : Type 1} → statement M
 fill-spec =
     tie.close
-    (tie.spec
-    balances-of-requires
-    ends-of-requires
-    ends-of-requires-2
-    bounds-of-requires
-    bounds-of-requires-2
-    costs-of-requires
-    returns)
+    (tie.spec balances-of-requires ends-of-requires ends-of-requires-2 bounds-of-requires bounds-of-requires-2 costs-of-requires returns)

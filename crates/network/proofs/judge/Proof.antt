@@ -18,14 +18,8 @@ said-yes {b} p q = sym p ∙ not-false b q
 few : (k : ℕ) → fairNodes k ≡ true → (1 ≤ k / 4) × (k / 4 ≤ 64)
 few k e = let f = fair-nodes k e in (f .some, f .few)
 
-fair-nodes-requires : tie.Need-fair-nodes-requires
-fair-nodes-requires c κs = search needs
-
 returns : tie.Need-returns
 returns c = rw (said-no (c .before .fair-nodes .ensures) (c .if1 .taken))
-
-fair-arcs-requires : tie.Need-fair-arcs-requires
-fair-arcs-requires c κs = search needs
 
 returns-2 : tie.Need-returns-2
 returns-2 c = rw (said-yes (c .before .before .before .fair-nodes .ensures) (c .before .before .if1 .left), said-no (c .before .fair-arcs .ensures) (c .if2 .taken))
@@ -48,9 +42,6 @@ all-pass-requires-3 c κs = few (length (c .before .before .before .before .befo
 returns-5 : tie.Need-returns-5
 returns-5 c = rw (said-yes (c .before .before .before .before .before .before .before .before .before .fair-nodes .ensures) (c .before .before .before .before .before .before .before .before .if1 .left), said-yes (c .before .before .before .before .before .before .before .fair-arcs .ensures) (c .before .before .before .before .before .before .if2 .left), said-yes (c .before .before .before .before .before .all-pass .ensures) (c .before .before .before .before .if3 .left), said-yes (c .before .before .before .all-pass2 .ensures) (c .before .before .if4 .left), said-no (c .before .all-pass3 .ensures) (c .if5 .taken))
 
-all-balanced-requires : tie.Need-all-balanced-requires
-all-balanced-requires c κs = search needs
-
 returns-6 : tie.Need-returns-6
 returns-6 c = rw (said-yes (c .before .before .before .before .before .before .before .before .before .before .before .fair-nodes .ensures) (c .before .before .before .before .before .before .before .before .before .before .if1 .left), said-yes (c .before .before .before .before .before .before .before .before .before .fair-arcs .ensures) (c .before .before .before .before .before .before .before .before .if2 .left), said-yes (c .before .before .before .before .before .before .before .all-pass .ensures) (c .before .before .before .before .before .before .if3 .left), said-yes (c .before .before .before .before .before .all-pass2 .ensures) (c .before .before .before .before .if4 .left), said-yes (c .before .before .before .all-pass3 .ensures) (c .before .before .if5 .left), said-no (c .before .all-balanced .ensures) (c .if6 .taken))
 
@@ -60,17 +51,5 @@ returns-7 c = rw (said-yes (c .before .before .before .before .before .before .b
 pub judge-spec : {M : Type 1} → statement M
 judge-spec =
     tie.close
-    (tie.spec
-    fair-nodes-requires
-    returns
-    fair-arcs-requires
-    returns-2
-    all-pass-requires
-    returns-3
-    all-pass-requires-2
-    returns-4
-    all-pass-requires-3
-    returns-5
-    all-balanced-requires
-    returns-6
-    returns-7)
+    (tie.spec (λ c κs. search needs) returns (λ c κs. search needs) returns-2 all-pass-requires returns-3 all-pass-requires-2 returns-4
+    all-pass-requires-3 returns-5 (λ c κs. search needs) returns-6 returns-7)

@@ -9,27 +9,6 @@ use borrow.Author.Needs.{needs}
 use Rattle.network.proofs.passes.Statement.{statement}
 use Rattle.network.proofs.passes.Tie as tie
 
-enum-told : tie.Need-enum-told
-enum-told c = search needs
-
-is-inside-requires : tie.Need-is-inside-requires
-is-inside-requires c κs = search needs
-
-is-inside-requires-2 : tie.Need-is-inside-requires-2
-is-inside-requires-2 c κs = search needs
-
-enum-told-2 : tie.Need-enum-told-2
-enum-told-2 c = search needs
-
-is-inside-requires-3 : tie.Need-is-inside-requires-3
-is-inside-requires-3 c κs = search needs
-
-enum-told-3 : tie.Need-enum-told-3
-enum-told-3 c = search needs
-
-is-inside-requires-4 : tie.Need-is-inside-requires-4
-is-inside-requires-4 c κs = search needs
-
 returns : tie.Need-returns
 returns c =
     let a = c .before .before .before .before .before .before .before in
@@ -79,16 +58,5 @@ returns-5 c =
 pub passes-spec : {M : Type 1} → statement M
 passes-spec =
     tie.close
-    (tie.spec
-    enum-told
-    is-inside-requires
-    is-inside-requires-2
-    enum-told-2
-    is-inside-requires-3
-    enum-told-3
-    is-inside-requires-4
-    returns
-    returns-2
-    returns-3
-    returns-4
-    returns-5)
+    (tie.spec (λ c. search needs) (λ c κs. search needs) (λ c κs. search needs) (λ c. search needs) (λ c κs. search needs) (λ c. search needs)
+    (λ c κs. search needs) returns returns-2 returns-3 returns-4 returns-5)

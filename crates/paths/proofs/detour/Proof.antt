@@ -21,29 +21,8 @@ rank-of d = d .reach .last .1 .1 .1 .1 .1 .1 .1 .1 .1 .0
 abbrev via-of : tie.After-reach → List ℕ
 via-of d = d .reach .last .1 .1 .1 .1 .1 .1 .1 .1 .1 .1 .0
 
-slice-aggregate-reach : tie.Need-slice-aggregate-reach
-slice-aggregate-reach c = search needs
-
-slice-aggregate-reach-2 : tie.Need-slice-aggregate-reach-2
-slice-aggregate-reach-2 c = search needs
-
-reach-requires : tie.Need-reach-requires
-reach-requires c κs = search needs
-
-mul-if1 : tie.Need-mul-if1
-mul-if1 c = search needs
-
-array-read-if1 : tie.Need-array-read-if1
-array-read-if1 c = search needs
-
 returns : tie.Need-returns
 returns c = let s = c .before .before .before .before .before .before .before .before .before .before .before .before .before in let k = c .before .before .before .reach in reach-blocked (net s) (s .args .flow .now) (s .args .free .now) (s .args .s) (s .args .t) (s .args .from) _ _ (k .result) (k .ensures) (c .if1 .taken)
-
-slice-aggregate-trace : tie.Need-slice-aggregate-trace
-slice-aggregate-trace c = search needs
-
-slice-aggregate-trace-2 : tie.Need-slice-aggregate-trace-2
-slice-aggregate-trace-2 c = search needs
 
 trace-requires : tie.Need-trace-requires
 trace-requires c κs = let s = c .before .before .before .before .before .before .before .before .before .before .before .before .before .before .before .before in let d = c .before .before .before .before .before .before in let e : length (rank-of d) ≡ 64 = d .reach .ensures .tree .rank-len in (
@@ -53,9 +32,6 @@ trace-requires c κs = let s = c .before .before .before .before .before .before
   omega (arith, s .pre .4),
   subst (λ (n : ℕ). Falls n (length (s .args .tails .now) + length (s .args .tails .now)) (src (net s)) (rank-of d) (via-of d)) (sym e) ((reach-falls (net s) (s .args .flow .now) (s .args .free .now) (s .args .s) (s .args .t) (s .args .from) (rank-of d) (via-of d) (d .reach .result) (d .reach .ensures) (s .pre .0))),
 )
-
-same-length : tie.Need-same-length
-same-length c = search needs
 
 returns-2 : tie.Need-returns-2
 returns-2 c = let s = c .before .before .before .before .before .before .before .before .before .before .before .before .before .before .before .before .before .before .before in let d = c .before .before .before .before .before .before .before .before .before in let k = c .before .before .trace in
@@ -68,15 +44,5 @@ returns-2 c = let s = c .before .before .before .before .before .before .before 
 pub detour-spec : {M : Type 1} → statement M
 detour-spec =
     tie.close
-    (tie.spec
-    slice-aggregate-reach
-    slice-aggregate-reach-2
-    reach-requires
-    mul-if1
-    array-read-if1
-    returns
-    slice-aggregate-trace
-    slice-aggregate-trace-2
-    trace-requires
-    same-length
-    returns-2)
+    (tie.spec (λ c. search needs) (λ c. search needs) (λ c κs. search needs) (λ c. search needs) (λ c. search needs) returns (λ c. search needs)
+    (λ c. search needs) trace-requires (λ c. search needs) returns-2)

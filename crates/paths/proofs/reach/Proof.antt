@@ -103,21 +103,5 @@ loop-again c = let d = c .before .before .before .before .before .before .before
 pub reach-spec : {M : Type 1} → statement M
 reach-spec =
     tie.close
-    (tie.spec
-    Inv-loop
-    μ-loop
-    clear-requires
-    mul-rank
-    slice-write-rank
-    loop-holds
-    round-requires
-    same-length
-    same-length-2
-    returns
-    mul-reached
-    slice-read-reached
-    same-length-3
-    same-length-4
-    returns-2
-    loop-less
-    loop-again)
+    (tie.spec Inv-loop μ-loop clear-requires mul-rank slice-write-rank loop-holds round-requires same-length same-length-2 returns mul-reached
+    slice-read-reached same-length-3 same-length-4 returns-2 loop-less loop-again)

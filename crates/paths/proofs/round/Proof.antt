@@ -88,19 +88,5 @@ returns-2 c = let s = c .before .before .before .before .before .before .before 
 pub round-spec : {M : Type 1} → statement M
 round-spec =
     tie.close
-    (tie.spec
-    Inv-loop
-    μ-loop
-    loop-holds
-    spread-arc-requires
-    mul-p
-    slice-read-p
-    same-length
-    same-length-2
-    returns
-    add-a
-    loop-less
-    loop-again
-    same-length-3
-    same-length-4
-    returns-2)
+    (tie.spec Inv-loop μ-loop loop-holds spread-arc-requires mul-p slice-read-p same-length same-length-2 returns add-a loop-less loop-again
+    same-length-3 same-length-4 returns-2)

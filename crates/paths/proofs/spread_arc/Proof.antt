@@ -10,62 +10,20 @@ use Rattle.paths.proofs.spread_arc.Tie as tie
 abbrev net : tie.Start → Net
 net s = graph (s .args .tails .now) (s .args .heads .now) (s .args .lows .now) (s .args .ups .now)
 
-shared-slice-read-if1 : tie.Need-shared-slice-read-if1
-shared-slice-read-if1 c = search needs
-
 returns : tie.Need-returns
 returns c = let s = c .before .before .before .before .before .before .before .before .before .before in arc-shut (net s) (s .args .flow .now) (s .args .free .now) (s .args .a) (s .args .rank .now) (s .args .via .now) (s .args .count) (not-true _ (c .if1 .taken))
-
-shared-slice-read-u : tie.Need-shared-slice-read-u
-shared-slice-read-u c = search needs
 
 cast-u : tie.Need-cast-u
 cast-u c = let s = c .before .before .before .before .before .before .before .before .before .before .before in omega (arith, s .pre .0 .tail-in (s .args .a) (s .pre .3), s .pre .0 .nodes-few)
 
-shared-slice-read-v : tie.Need-shared-slice-read-v
-shared-slice-read-v c = search needs
-
 cast-v : tie.Need-cast-v
 cast-v c = let s = c .before .before .before .before .before .before .before .before .before .before .before .before in omega (arith, s .pre .0 .head-in (s .args .a) (s .pre .3), s .pre .0 .nodes-few)
-
-mul-f : tie.Need-mul-f
-mul-f c = search needs
-
-shared-slice-read-f : tie.Need-shared-slice-read-f
-shared-slice-read-f c = search needs
-
-mul-up : tie.Need-mul-up
-mul-up c = search needs
-
-shared-slice-read-up : tie.Need-shared-slice-read-up
-shared-slice-read-up c = search needs
-
-mul-low : tie.Need-mul-low
-mul-low c = search needs
-
-shared-slice-read-low : tie.Need-shared-slice-read-low
-shared-slice-read-low c = search needs
-
-add-spread : tie.Need-add-spread
-add-spread c = search needs
 
 spread-requires : tie.Need-spread-requires
 spread-requires c κs = let s = c .before .before .before .before .before .before .before .before .before .before .before .before .before .before .before .before .before in let t = s .pre .0 .tail-in (s .args .a) (s .pre .3) in let h = s .pre .0 .head-in (s .args .a) (s .pre .3) in (t, h, omega (arith, s .pre .1), omega (arith, s .pre .2))
 
-add-spread-2 : tie.Need-add-spread-2
-add-spread-2 c = search needs
-
-add-spread-3 : tie.Need-add-spread-3
-add-spread-3 c = search needs
-
 spread-requires-2 : tie.Need-spread-requires-2
 spread-requires-2 c κs = let s = c .before .before .before .before .before .before .before .before .before .before .before .before .before .before .before .before .before .before .before .before .before .before .before .before in let o = c .before .before .before .before .before .before .spread in let t = s .pre .0 .tail-in (s .args .a) (s .pre .3) in let h = s .pre .0 .head-in (s .args .a) (s .pre .3) in (omega (arith, o .kept .0), omega (arith, o .kept .0), omega (arith, o .kept .1 .0, s .pre .1), omega (arith, s .pre .2, spread-few _ _ _ _ _ _ _ _ _ _ (o .ensures)))
-
-same-length : tie.Need-same-length
-same-length c = search needs
-
-same-length-2 : tie.Need-same-length-2
-same-length-2 c = search needs
 
 returns-2 : tie.Need-returns-2
 returns-2 c = let s = c .before .before .before .before .before .before .before .before .before .before .before .before .before .before .before .before .before .before .before .before .before .before .before .before .before .before .before .before .before in let o = c .before .before .before .before .before .before .before .before .before .before .before .spread in arc-tried (net s) (s .args .flow .now) (s .args .free .now) (s .args .a) (s .args .rank .now) (s .args .via .now) (s .args .count) (o .last .0) (o .last .1 .0) (o .result) _ _ _ (not-false _ (c .before .before .before .before .before .before .before .before .before .before .before .before .before .before .before .before .before .before .before .if1 .left)) (o .ensures) (c .before .before .before .before .spread2 .ensures)
@@ -73,24 +31,6 @@ returns-2 c = let s = c .before .before .before .before .before .before .before 
 pub spread-arc-spec : {M : Type 1} → statement M
 spread-arc-spec =
     tie.close
-    (tie.spec
-    shared-slice-read-if1
-    returns
-    shared-slice-read-u
-    cast-u
-    shared-slice-read-v
-    cast-v
-    mul-f
-    shared-slice-read-f
-    mul-up
-    shared-slice-read-up
-    mul-low
-    shared-slice-read-low
-    add-spread
-    spread-requires
-    add-spread-2
-    add-spread-3
-    spread-requires-2
-    same-length
-    same-length-2
-    returns-2)
+    (tie.spec (λ c. search needs) returns (λ c. search needs) cast-u (λ c. search needs) cast-v (λ c. search needs) (λ c. search needs)
+    (λ c. search needs) (λ c. search needs) (λ c. search needs) (λ c. search needs) (λ c. search needs) spread-requires (λ c. search needs)
+    (λ c. search needs) spread-requires-2 (λ c. search needs) (λ c. search needs) returns-2)

@@ -49,12 +49,6 @@ next-reached c = start c .pre .4 .next-reached (c .before .before .loop .v) (c .
 next-less : (c : Here) → getD (start c .args .rank .now) (src (net (start c)) (code c)) 0 < getD (start c .args .rank .now) (c .before .before .loop .v) 0
 next-less c = start c .pre .4 .next-less (c .before .before .loop .v) (c .before .before .loop .inv .0) (more c)
 
-mul-p : tie.Need-mul-p Inv-loop μ-loop
-mul-p c = search needs
-
-shared-slice-read-p : tie.Need-shared-slice-read-p Inv-loop μ-loop
-shared-slice-read-p c = search needs
-
 loop-holds : tie.Need-loop-holds Inv-loop μ-loop
 loop-holds c = let s = c .before .before .before .before .before .before in (s .pre .1, s .pre .2, refl, refl, omega arith, any-start (length (s .args .rank .now)) (length (s .args .tails .now) + length (s .args .tails .now)) (src (net s)) (dst (net s)) (s .args .rank .now) (s .args .via .now) (s .args .t))
 
@@ -73,27 +67,27 @@ slice-write-codes c = room-left c
 add-len : tie.Need-add-len Inv-loop μ-loop
 add-len c = omega (arith, room-left c)
 
-end-of-requires : tie.Need-end-of-requires Inv-loop μ-loop
-end-of-requires c κs = let s = c .before .before .before .before .before .before .before .before .before in let h = code-in c in omega (arith, s .pre .0)
+source-requires : tie.Need-source-requires Inv-loop μ-loop
+source-requires c κs = let s = c .before .before .before .before .before .before .before .before .before in let h = code-in c in omega (arith, s .pre .0)
 
 mul-p-2 : tie.Need-mul-p-2 Inv-loop μ-loop
-mul-p-2 c = let s = c .before .before .before .before .before .before .before .before .before .before in let h : c .end-of .result < length (s .args .rank .now) = omega (arith, next-in (c .before), c .end-of .ensures) in search needs
+mul-p-2 c = let s = c .before .before .before .before .before .before .before .before .before .before in let h : c .source .result < length (s .args .rank .now) = omega (arith, next-in (c .before), c .source .ensures) in search needs
 
 shared-slice-read-p-2 : tie.Need-shared-slice-read-p-2 Inv-loop μ-loop
-shared-slice-read-p-2 c = omega (arith, next-in (c .before .before), c .before .end-of .ensures)
+shared-slice-read-p-2 c = omega (arith, next-in (c .before .before), c .before .source .ensures)
 
 loop-less : tie.Need-loop-less Inv-loop μ-loop
-loop-less c = omega (arith, next-less (c .before .before), c .before .before .before .before .loop .inv .2, ap (λ v. getD (c .before .before .before .before .before .before .before .before .before .before .before .args .rank .now) v 0) (c .before .end-of .ensures))
+loop-less c = omega (arith, next-less (c .before .before), c .before .before .before .before .loop .inv .2, ap (λ v. getD (c .before .before .before .before .before .before .before .before .before .before .before .args .rank .now) v 0) (c .before .source .ensures))
 
 loop-again : tie.Need-loop-again Inv-loop μ-loop
 loop-again c = let b = c .before .before in let a = b .before .before in let s = b .before .before .before .before .before .before .before .before .before in
-    let q : getD (s .args .rank .now) (c .before .end-of .result) 0 ≡ getD (s .args .rank .now) (src (net s) (getD (s .args .via .now) (a .loop .v) 0)) 0 = ap (λ v. getD (s .args .rank .now) v 0) (c .before .end-of .ensures) in (
-      omega (arith, next-in b, c .before .end-of .ensures),
+    let q : getD (s .args .rank .now) (c .before .source .result) 0 ≡ getD (s .args .rank .now) (src (net s) (getD (s .args .via .now) (a .loop .v) 0)) 0 = ap (λ v. getD (s .args .rank .now) v 0) (c .before .source .ensures) in (
+      omega (arith, next-in b, c .before .source .ensures),
       omega (arith, next-reached b),
       refl,
       simp length-set (a .loop .inv .3),
       omega (arith, next-less b, a .loop .inv .2, a .loop .inv .4),
-      trace-more (length (s .args .rank .now)) (length (s .args .tails .now) + length (s .args .tails .now)) (src (net s)) (dst (net s)) (s .args .rank .now) (s .args .via .now) (a .loop .codes) (s .args .t) (a .loop .v) (a .loop .len) _ (room-left b) (a .loop .inv .0) (more b) (c .before .end-of .ensures) (a .loop .inv .5),
+      trace-more (length (s .args .rank .now)) (length (s .args .tails .now) + length (s .args .tails .now)) (src (net s)) (dst (net s)) (s .args .rank .now) (s .args .via .now) (a .loop .codes) (s .args .t) (a .loop .v) (a .loop .len) _ (room-left b) (a .loop .inv .0) (more b) (c .before .source .ensures) (a .loop .inv .5),
     )
 
 same-length : tie.Need-same-length Inv-loop μ-loop
@@ -108,21 +102,5 @@ returns c = let a = c .before in let s = c .before .before .before .before .befo
 pub trace-spec : {M : Type 1} → statement M
 trace-spec =
     tie.close
-    (tie.spec
-    Inv-loop
-    μ-loop
-    mul-p
-    shared-slice-read-p
-    loop-holds
-    mul-c
-    shared-slice-read-c
-    mul-codes
-    slice-write-codes
-    add-len
-    end-of-requires
-    mul-p-2
-    shared-slice-read-p-2
-    loop-less
-    loop-again
-    same-length
-    returns)
+    (tie.spec Inv-loop μ-loop (λ c. search needs) (λ c. search needs) loop-holds mul-c shared-slice-read-c mul-codes slice-write-codes add-len
+    source-requires mul-p-2 shared-slice-read-p-2 loop-less loop-again same-length returns)

@@ -80,18 +80,5 @@ loop-again c =
 pub collect-spec : {M : Type 1} → statement M
 collect-spec =
     tie.close
-    (tie.spec
-    Inv-loop
-    μ-loop
-    loop-holds
-    mul-c
-    shared-slice-read-c
-    cast-c
-    mul-out
-    slice-write-out
-    add-len
-    source-requires
-    same-length
-    returns
-    loop-less
-    loop-again)
+    (tie.spec Inv-loop μ-loop loop-holds mul-c shared-slice-read-c cast-c mul-out slice-write-out add-len source-requires same-length returns
+    loop-less loop-again)

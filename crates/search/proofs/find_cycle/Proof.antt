@@ -128,20 +128,5 @@ returns-2 c =
 pub find-cycle-spec : {M : Type 1} → statement M
 find-cycle-spec =
     tie.close
-    (tie.spec
-    Inv-rounds
-    μ-rounds
-    rounds-holds
-    slice-aggregate-round
-    slice-aggregate-round-2
-    round-requires
-    slice-aggregate-go-back
-    go-back-requires
-    add-k
-    rounds-less
-    rounds-again
-    returns
-    slice-aggregate-collect
-    collect-requires
-    same-length
-    returns-2)
+    (tie.spec Inv-rounds μ-rounds rounds-holds slice-aggregate-round slice-aggregate-round-2 round-requires slice-aggregate-go-back go-back-requires
+    add-k rounds-less rounds-again returns slice-aggregate-collect collect-requires same-length returns-2)

@@ -42,12 +42,6 @@ returns c =
 source-requires : tie.Need-source-requires Inv-loop μ-loop
 source-requires c κs = let s = c .before .before .before .before .before .before .before in arc-of (net s) (s .pre .0) (s .args .preds .now) _ (omega arith)
 
-add--i : tie.Need-add--i Inv-loop μ-loop
-add--i c = omega arith
-
-loop-less : tie.Need-loop-less Inv-loop μ-loop
-loop-less c = omega arith
-
 loop-again : tie.Need-loop-again Inv-loop μ-loop
 loop-again c =
     let l = c .before .before .before .before .loop in
@@ -63,17 +57,5 @@ returns-2 c =
 pub go-back-spec : {M : Type 1} → statement M
 go-back-spec =
     tie.close
-    (tie.spec
-    Inv-loop
-    μ-loop
-    add-m
-    loop-holds
-    mul-c
-    shared-slice-read-c
-    cast-c
-    returns
-    source-requires
-    add--i
-    loop-less
-    loop-again
-    returns-2)
+    (tie.spec Inv-loop μ-loop add-m loop-holds mul-c shared-slice-read-c cast-c returns source-requires (λ c. omega arith) (λ c. omega arith)
+    loop-again returns-2)

@@ -42,12 +42,6 @@ round-requires c κs = let l = c .before .before .before in (entry l .pre .0, si
 returns : tie.Need-returns Inv-loop μ-loop
 returns c = let r = c .before .before .before in prices-quiet (net (start r)) (start r .args .flow .now) (start r .pre .0) (before r .loop .least) (before r .loop .preds) (before r .loop .-k) (before r .loop .inv) _ _ (r .round .result) (r .round .ensures) (c .if1 .taken)
 
-add--k : tie.Need-add--k Inv-loop μ-loop
-add--k c = omega arith
-
-loop-less : tie.Need-loop-less Inv-loop μ-loop
-loop-less c = omega arith
-
 loop-again : tie.Need-loop-again Inv-loop μ-loop
 loop-again c = let r = c .before .before .before in pricing-more (net (start r)) (start r .args .flow .now) (start r .pre .0) (before r .loop .least) (before r .loop .preds) (before r .loop .-k) (before r .loop .inv) _ _ (r .round .result) (r .round .ensures) (omega arith)
 
@@ -61,15 +55,5 @@ returns-2 c =
 pub prices-spec : {M : Type 1} → statement M
 prices-spec =
     tie.close
-    (tie.spec
-    Inv-loop
-    μ-loop
-    loop-holds
-    slice-aggregate-round
-    slice-aggregate-round-2
-    round-requires
-    returns
-    add--k
-    loop-less
-    loop-again
-    returns-2)
+    (tie.spec Inv-loop μ-loop loop-holds slice-aggregate-round slice-aggregate-round-2 round-requires returns (λ c. omega arith) (λ c. omega arith)
+    loop-again returns-2)

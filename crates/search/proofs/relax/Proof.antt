@@ -32,38 +32,8 @@ module _ (c : tie.After-b) where
 returns : tie.Need-returns
 returns c = rw (not-true (c .before .args .on) (c .if1 .taken))
 
-mul-a : tie.Need-mul-a
-mul-a c = search needs
-
-slice-copy-out-a : tie.Need-slice-copy-out-a
-slice-copy-out-a c = search needs
-
-mul-b : tie.Need-mul-b
-mul-b c = search needs
-
-slice-copy-out-b : tie.Need-slice-copy-out-b
-slice-copy-out-b c = search needs
-
 add-x : tie.Need-add-x
 add-x c = let s = c .before .before .before in sum-fits (getD (s .args .labels .now) (s .args .u) (pos 0)) (s .args .c) (record { sfits = c .before .a .given }) (s .fits .c) (s .pre .3)
-
-mul-x : tie.Need-mul-x
-mul-x c = search needs
-
-slice-set-from-x : tie.Need-slice-set-from-x
-slice-set-from-x c = search needs
-
-mul-preds : tie.Need-mul-preds
-mul-preds c = search needs
-
-slice-write-preds : tie.Need-slice-write-preds
-slice-write-preds c = search needs
-
-same-length : tie.Need-same-length
-same-length c = search needs
-
-same-length-2 : tie.Need-same-length-2
-same-length-2 c = search needs
 
 returns-2 : tie.Need-returns-2
 returns-2 c = rw (sum-of (c .before), on-of (c .before), sym (test-of (c .before)) ∙ c .if2 .taken)
@@ -74,18 +44,5 @@ returns-3 c = rw (on-of (c .before), sym (test-of (c .before)) ∙ c .if2 .left)
 pub relax-spec : {M : Type 1} → statement M
 relax-spec =
     tie.close
-    (tie.spec
-    returns
-    mul-a
-    slice-copy-out-a
-    mul-b
-    slice-copy-out-b
-    add-x
-    mul-x
-    slice-set-from-x
-    mul-preds
-    slice-write-preds
-    same-length
-    same-length-2
-    returns-2
-    returns-3)
+    (tie.spec returns (λ c. search needs) (λ c. search needs) (λ c. search needs) (λ c. search needs) add-x (λ c. search needs) (λ c. search needs)
+    (λ c. search needs) (λ c. search needs) (λ c. search needs) (λ c. search needs) returns-2 returns-3)

@@ -52,13 +52,13 @@ minus-small : {x : ℤ} → Bounded 1000000 x → Bounded 1000000 (pos 0 -ℤ x)
 minus-small {x} h = bounded-add {A = 0} {B = 1000000} {x = pos 0} {y = negℤ x} (omega arith) (bounded-neg h)
 
 -- the cost, widened
-cost-read : (c : tie.After-wide) → toZ w64 (ofZ w64 (c .wide .result)) ≡ getD (c .before .before .before .before .before .before .before .before .before .before .args .costs .now) (c .before .before .before .before .before .before .before .before .before .before .args .a) (pos 0)
-cost-read c = toZ-ofZ {w = w64} (record { sfits = c .wide .ok }) ∙ c .wide .ensures ∙ toZ-ofZ {w = w32} (record { sfits = c .before .wide-arg .given })
+cost-read : (c : tie.After-to-i64) → toZ w64 (ofZ w64 (c .to-i64 .result)) ≡ getD (c .before .before .before .before .before .before .before .before .before .before .args .costs .now) (c .before .before .before .before .before .before .before .before .before .before .args .a) (pos 0)
+cost-read c = toZ-ofZ {w = w64} (record { sfits = c .to-i64 .ok }) ∙ c .to-i64 .ensures ∙ toZ-ofZ {w = w32} (record { sfits = c .before .to-i64-arg .given })
 
-abbrev minus-read : tie.After-wide → ℤ
-minus-read c = toZ w64 (ofZ w64 (pos 0 -ℤ toZ w64 (ofZ w64 (c .wide .result))))
+abbrev minus-read : tie.After-to-i64 → ℤ
+minus-read c = toZ w64 (ofZ w64 (pos 0 -ℤ toZ w64 (ofZ w64 (c .to-i64 .result))))
 
-minus-is : (c : tie.After-wide) → minus-read c ≡ pos 0 -ℤ getD (c .before .before .before .before .before .before .before .before .before .before .args .costs .now) (c .before .before .before .before .before .before .before .before .before .before .args .a) (pos 0)
+minus-is : (c : tie.After-to-i64) → minus-read c ≡ pos 0 -ℤ getD (c .before .before .before .before .before .before .before .before .before .before .args .costs .now) (c .before .before .before .before .before .before .before .before .before .before .args .a) (pos 0)
 minus-is c =
     toZ-ofZ {w = w64} (subst (λ z. SFits w64 (pos 0 -ℤ z)) (sym (cost-read c)) (bounded-fits w64 1000000 _ (minus-small (cost-small (c .before .before .before .before .before .before .before .before .before .before))) (omega arith)))
     ∙ ap (λ z. pos 0 -ℤ z) (cost-read c)
@@ -85,47 +85,14 @@ module _ (r : tie.After-relax) where
   in-preds : {v : ℕ} → v < 64 → v < length (r .relax .last .1 .0)
   in-preds h = omega (arith, sized .preds-len)
 
-shared-slice-read-t : tie.Need-shared-slice-read-t
-shared-slice-read-t c = search needs
-
 cast-t : tie.Need-cast-t
 cast-t c = omega (arith, tail-in (c .before .before .before .before .before .before .before))
-
-shared-slice-read-h : tie.Need-shared-slice-read-h
-shared-slice-read-h c = search needs
 
 cast-h : tie.Need-cast-h
 cast-h c = omega (arith, head-in (c .before .before .before .before .before .before .before .before))
 
-mul-wide : tie.Need-mul-wide
-mul-wide c = search needs
-
-shared-slice-copy-out-wide : tie.Need-shared-slice-copy-out-wide
-shared-slice-copy-out-wide c = search needs
-
-wide-requires : tie.Need-wide-requires
-wide-requires c κs = search needs
-
-mul-f : tie.Need-mul-f
-mul-f c = search needs
-
-shared-slice-read-f : tie.Need-shared-slice-read-f
-shared-slice-read-f c = search needs
-
 add-forward : tie.Need-add-forward
 add-forward c = omega (arith, ok (c .before .before .before .before .before .before .before .before .before .before .before) .flow-up (c .before .before .before .before .before .before .before .before .before .before .before .args .a) (inside (c .before .before .before .before .before .before .before .before .before .before .before)), ok (c .before .before .before .before .before .before .before .before .before .before .before) .up-small (c .before .before .before .before .before .before .before .before .before .before .before .args .a) (inside (c .before .before .before .before .before .before .before .before .before .before .before)), c .before .before .before .before .before .before .before .before .before .before .before .pre .3)
-
-mul-forward : tie.Need-mul-forward
-mul-forward c = search needs
-
-shared-slice-read-forward : tie.Need-shared-slice-read-forward
-shared-slice-read-forward c = search needs
-
-add-relax : tie.Need-add-relax
-add-relax c = search needs
-
-cast-relax : tie.Need-cast-relax
-cast-relax c = search needs
 
 relax-requires : tie.Need-relax-requires
 relax-requires c κs =
@@ -133,38 +100,17 @@ relax-requires c κs =
     let w = c .before .before .before .before in
     (at-label s (tail-in s), at-label s (head-in s), at-pred s (head-in s), rw (cost-read w) (fits (omega arith) (s .pre .1 .small _ (tail-in s)) (cost-small s)))
 
-mul-backward : tie.Need-mul-backward
-mul-backward c = search needs
-
-shared-slice-read-backward : tie.Need-shared-slice-read-backward
-shared-slice-read-backward c = search needs
-
 add-backward : tie.Need-add-backward
 add-backward c = omega (arith, ok (c .before .before .before .before .before .before .before .before .before .before .before .before .before .before .before .before .before .before .before) .low-flow (c .before .before .before .before .before .before .before .before .before .before .before .before .before .before .before .before .before .before .before .args .a) (inside (c .before .before .before .before .before .before .before .before .before .before .before .before .before .before .before .before .before .before .before)), ok (c .before .before .before .before .before .before .before .before .before .before .before .before .before .before .before .before .before .before .before) .flow-up (c .before .before .before .before .before .before .before .before .before .before .before .before .before .before .before .before .before .before .before .args .a) (inside (c .before .before .before .before .before .before .before .before .before .before .before .before .before .before .before .before .before .before .before)), ok (c .before .before .before .before .before .before .before .before .before .before .before .before .before .before .before .before .before .before .before) .up-small (c .before .before .before .before .before .before .before .before .before .before .before .before .before .before .before .before .before .before .before .args .a) (inside (c .before .before .before .before .before .before .before .before .before .before .before .before .before .before .before .before .before .before .before)), c .before .before .before .before .before .before .before .before .before .before .before .before .before .before .before .before .before .before .before .pre .3)
 
 sub-relax : tie.Need-sub-relax
 sub-relax c = rw (cost-read (c .before .before .before .before .before .before .before .before .before .before .before)) (bounded-fits w64 1000000 _ (minus-small (cost-small (c .before .before .before .before .before .before .before .before .before .before .before .before .before .before .before .before .before .before .before .before .before))) (omega arith))
 
-add-relax-2 : tie.Need-add-relax-2
-add-relax-2 c = search needs
-
-add-relax-3 : tie.Need-add-relax-3
-add-relax-3 c = search needs
-
-cast-relax-2 : tie.Need-cast-relax-2
-cast-relax-2 c = search needs
-
 relax-requires-2 : tie.Need-relax-requires-2
 relax-requires-2 c κs =
     let r = c .before .before .before .before .before .before in
     let s = entry r in
     (in-labels r (head-in s), in-labels r (tail-in s), in-preds r (tail-in s), rw (minus-is (r .before .before .before .before .before)) (fits (omega arith) (sized r .small _ (head-in s)) (minus-small (cost-small s))))
-
-same-length : tie.Need-same-length
-same-length c = search needs
-
-same-length-2 : tie.Need-same-length-2
-same-length-2 c = search needs
 
 returns : tie.Need-returns
 returns c =
@@ -182,30 +128,7 @@ returns c =
 pub relax-arc-spec : {M : Type 1} → statement M
 relax-arc-spec =
     tie.close
-    (tie.spec
-    shared-slice-read-t
-    cast-t
-    shared-slice-read-h
-    cast-h
-    mul-wide
-    shared-slice-copy-out-wide
-    wide-requires
-    mul-f
-    shared-slice-read-f
-    add-forward
-    mul-forward
-    shared-slice-read-forward
-    add-relax
-    cast-relax
-    relax-requires
-    mul-backward
-    shared-slice-read-backward
-    add-backward
-    sub-relax
-    add-relax-2
-    add-relax-3
-    cast-relax-2
-    relax-requires-2
-    same-length
-    same-length-2
-    returns)
+    (tie.spec (λ c. search needs) cast-t (λ c. search needs) cast-h (λ c. search needs) (λ c. search needs) (λ c κs. search needs) (λ c. search needs)
+    (λ c. search needs) add-forward (λ c. search needs) (λ c. search needs) (λ c. search needs) (λ c. search needs) relax-requires (λ c. search needs)
+    (λ c. search needs) add-backward sub-relax (λ c. search needs) (λ c. search needs) (λ c. search needs) relax-requires-2 (λ c. search needs)
+    (λ c. search needs) returns)

@@ -34,12 +34,6 @@ loop-holds c = (omega arith, refl)
 relax-arc-requires : tie.Need-relax-arc-requires Inv-loop μ-loop
 relax-arc-requires c κs = let l = c .before .before .before in (entry l .pre .0, sized l, omega arith, entry l .pre .2)
 
-add-a : tie.Need-add-a Inv-loop μ-loop
-add-a c = omega arith
-
-loop-less : tie.Need-loop-less Inv-loop μ-loop
-loop-less c = omega arith
-
 loop-again : tie.Need-loop-again Inv-loop μ-loop
 unfolding relaxedAll
 loop-again c =
@@ -67,14 +61,4 @@ returns c =
 pub round-spec : {M : Type 1} → statement M
 round-spec =
     tie.close
-    (tie.spec
-    Inv-loop
-    μ-loop
-    loop-holds
-    relax-arc-requires
-    add-a
-    loop-less
-    loop-again
-    same-length
-    same-length-2
-    returns)
+    (tie.spec Inv-loop μ-loop loop-holds relax-arc-requires (λ c. omega arith) (λ c. omega arith) loop-again same-length same-length-2 returns)

@@ -4,46 +4,13 @@ use Rattle.simplex.proofs.push_up.Statement.{statement}
 use Rattle.simplex.proofs.push_up.Tie as tie
 
 abbrev Inv-loop : tie.InvT-loop
-Inv-loop tail flow₀ pred parent from meet rootwards d x₀ counter₀ flow x counter = counter ≤ 65
+Inv-loop head room₀ up from meet d x₀ counter₀ room x counter = counter ≤ 65
 
 abbrev μ-loop : tie.MeasureT-loop
-μ-loop tail flow₀ pred parent from meet rootwards d x₀ counter₀ flow x counter = 65 - counter
-
-loop-holds : tie.Need-loop-holds Inv-loop μ-loop
-loop-holds c = search needs
-
-returns : tie.Need-returns Inv-loop μ-loop
-returns c = search needs
-
-tree-push-requires : tie.Need-tree-push-requires Inv-loop μ-loop
-tree-push-requires c κs = search needs
-
-parent-of-requires : tie.Need-parent-of-requires Inv-loop μ-loop
-parent-of-requires c κs = search needs
-
-add-counter : tie.Need-add-counter Inv-loop μ-loop
-add-counter c = search needs
-
-loop-less : tie.Need-loop-less Inv-loop μ-loop
-loop-less c = search needs
-
-loop-again : tie.Need-loop-again Inv-loop μ-loop
-loop-again c = search needs
-
-returns-2 : tie.Need-returns-2 Inv-loop μ-loop
-returns-2 c = search needs
+μ-loop head room₀ up from meet d x₀ counter₀ room x counter = 65 - counter
 
 pub push-up-spec : {M : Type 1} → statement M
 push-up-spec =
     tie.close
-    (tie.spec
-    Inv-loop
-    μ-loop
-    loop-holds
-    returns
-    tree-push-requires
-    parent-of-requires
-    add-counter
-    loop-less
-    loop-again
-    returns-2)
+    (tie.spec Inv-loop μ-loop (λ c. search needs) (λ c. search needs) (λ c κs. search needs) (λ c κs. search needs) (λ c κs. search needs)
+    (λ c. search needs) (λ c. search needs) (λ c. search needs) (λ c. search needs))

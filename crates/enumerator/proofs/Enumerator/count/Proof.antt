@@ -19,44 +19,8 @@ in-flow s = let e : length (s .first .result .flow) ≡ 512 = search needs in om
 in-tight : (s : tie.After-first) → s .first .result .net .arcs ≤ length (s .first .result .tight)
 in-tight s = let e : length (s .first .result .tight) ≡ 512 = search needs in omega (arith, few (s .first .result .net) (s .first .ensures .stands .sound))
 
-first-requires : tie.Need-first-requires
-first-requires c κs = search needs
-
-enum-told : tie.Need-enum-told
-enum-told c = search needs
-
-array-share-prefix-tails : tie.Need-array-share-prefix-tails
-array-share-prefix-tails c = let s = c .before .before .before .before .before .before .before .before .before .first in in-tails (s .result .net) (s .ensures .stands .sound)
-
-slice-aggregate-count : tie.Need-slice-aggregate-count
-slice-aggregate-count c = search needs
-
-array-share-prefix-heads : tie.Need-array-share-prefix-heads
-array-share-prefix-heads c = let s = c .before .before .before .before .before .before .before .before .before .before .first in in-heads (s .result .net) (s .ensures .stands .sound)
-
-slice-aggregate-count-2 : tie.Need-slice-aggregate-count-2
-slice-aggregate-count-2 c = search needs
-
-array-share-prefix-lows : tie.Need-array-share-prefix-lows
-array-share-prefix-lows c = let s = c .before .before .before .before .before .before .before .before .before .before .before .first in in-lows (s .result .net) (s .ensures .stands .sound)
-
-slice-aggregate-count-3 : tie.Need-slice-aggregate-count-3
-slice-aggregate-count-3 c = search needs
-
-array-share-prefix-ups : tie.Need-array-share-prefix-ups
-array-share-prefix-ups c = let s = c .before .before .before .before .before .before .before .before .before .before .before .before .first in in-ups (s .result .net) (s .ensures .stands .sound)
-
-slice-aggregate-count-4 : tie.Need-slice-aggregate-count-4
-slice-aggregate-count-4 c = search needs
-
-array-share-prefix-tight : tie.Need-array-share-prefix-tight
-array-share-prefix-tight c = in-tight (c .before .before .before .before .before .before .before .before .before .before .before .before .before)
-
 slice-aggregate-count-5 : tie.Need-slice-aggregate-count-5
 slice-aggregate-count-5 c = let s = c .before .before .before .before .before .before .before .before .before .before .before .before .before .before in sym (length-take-le (s .first .result .net .arcs) (s .first .result .tight) (in-tight s))
-
-array-borrow-prefix-flow : tie.Need-array-borrow-prefix-flow
-array-borrow-prefix-flow c = in-flow (c .before .before .before .before .before .before .before .before .before .before .before .before .before .before)
 
 slice-aggregate-count-6 : tie.Need-slice-aggregate-count-6
 slice-aggregate-count-6 c = let s = c .before .before .before .before .before .before .before .before .before .before .before .before .before .before .before in sym (length-take-le (s .first .result .net .arcs) (s .first .result .flow) (in-flow s))
@@ -80,21 +44,14 @@ returns-2 c = let s = c .before .first in counts-none (c .before .before .args .
 pub count-spec : {M : Type 1} → statement M
 count-spec =
     tie.close
-    (tie.spec
-    first-requires
-    enum-told
-    array-share-prefix-tails
-    slice-aggregate-count
-    array-share-prefix-heads
-    slice-aggregate-count-2
-    array-share-prefix-lows
-    slice-aggregate-count-3
-    array-share-prefix-ups
-    slice-aggregate-count-4
-    array-share-prefix-tight
+    (tie.spec (λ c κs. search needs) (λ c. search needs)
+    (λ c. in-tails _ (c .before .before .before .before .before .before .before .before .before .first .ensures .stands .sound)) (λ c. search needs)
+    (λ c. in-heads _ (c .before .before .before .before .before .before .before .before .before .before .first .ensures .stands .sound))
+    (λ c. search needs)
+    (λ c. in-lows _ (c .before .before .before .before .before .before .before .before .before .before .before .first .ensures .stands .sound))
+    (λ c. search needs)
+    (λ c. in-ups _ (c .before .before .before .before .before .before .before .before .before .before .before .before .first .ensures .stands .sound))
+    (λ c. search needs) (λ c. in-tight (c .before .before .before .before .before .before .before .before .before .before .before .before .before))
     slice-aggregate-count-5
-    array-borrow-prefix-flow
-    slice-aggregate-count-6
-    count-requires
-    returns
-    returns-2)
+    (λ c. in-flow (c .before .before .before .before .before .before .before .before .before .before .before .before .before .before))
+    slice-aggregate-count-6 count-requires returns returns-2)

@@ -26,50 +26,8 @@ in-flow s = let e : length (s .args .self .flow) ≡ 512 = search needs in omega
 in-tight : (s : tie.Start) → s .args .self .net .arcs ≤ length (s .args .self .tight)
 in-tight s = let e : length (s .args .self .tight) ≡ 512 = search needs in omega (arith, few (s .args .self .net) (s .pre .sound))
 
-array-share-prefix-tails : tie.Need-array-share-prefix-tails
-array-share-prefix-tails c = let s = c .before .before .before .before .before .before .before .before .before in in-tails (s .args .self .net) (s .pre .sound)
-
-slice-aggregate-first-flow : tie.Need-slice-aggregate-first-flow
-slice-aggregate-first-flow c = search needs
-
-array-share-prefix-heads : tie.Need-array-share-prefix-heads
-array-share-prefix-heads c = let s = c .before .before .before .before .before .before .before .before .before .before in in-heads (s .args .self .net) (s .pre .sound)
-
-slice-aggregate-first-flow-2 : tie.Need-slice-aggregate-first-flow-2
-slice-aggregate-first-flow-2 c = search needs
-
-array-share-prefix-lows : tie.Need-array-share-prefix-lows
-array-share-prefix-lows c = let s = c .before .before .before .before .before .before .before .before .before .before .before in in-lows (s .args .self .net) (s .pre .sound)
-
-slice-aggregate-first-flow-3 : tie.Need-slice-aggregate-first-flow-3
-slice-aggregate-first-flow-3 c = search needs
-
-array-share-prefix-ups : tie.Need-array-share-prefix-ups
-array-share-prefix-ups c = let s = c .before .before .before .before .before .before .before .before .before .before .before .before in in-ups (s .args .self .net) (s .pre .sound)
-
-slice-aggregate-first-flow-4 : tie.Need-slice-aggregate-first-flow-4
-slice-aggregate-first-flow-4 c = search needs
-
-array-share-prefix-costs : tie.Need-array-share-prefix-costs
-array-share-prefix-costs c = let s = c .before .before .before .before .before .before .before .before .before .before .before .before .before in in-costs (s .args .self .net) (s .pre .sound)
-
-slice-aggregate-first-flow-5 : tie.Need-slice-aggregate-first-flow-5
-slice-aggregate-first-flow-5 c = search needs
-
-array-share-prefix-balances : tie.Need-array-share-prefix-balances
-array-share-prefix-balances c = let s = c .before .before .before .before .before .before .before .before .before .before .before .before .before .before in in-balances (s .args .self .net) (s .pre .sound)
-
-slice-aggregate-first-flow-6 : tie.Need-slice-aggregate-first-flow-6
-slice-aggregate-first-flow-6 c = search needs
-
-array-borrow-prefix-flow : tie.Need-array-borrow-prefix-flow
-array-borrow-prefix-flow c = in-flow (c .before .before .before .before .before .before .before .before .before .before .before .before .before .before .before)
-
 slice-aggregate-first-flow-7 : tie.Need-slice-aggregate-first-flow-7
 slice-aggregate-first-flow-7 c = let s = c .before .before .before .before .before .before .before .before .before .before .before .before .before .before .before .before in sym (length-take-le (s .args .self .net .arcs) (s .args .self .flow) (in-flow s))
-
-array-borrow-prefix-tight : tie.Need-array-borrow-prefix-tight
-array-borrow-prefix-tight c = in-tight (c .before .before .before .before .before .before .before .before .before .before .before .before .before .before .before .before)
 
 slice-aggregate-first-flow-8 : tie.Need-slice-aggregate-first-flow-8
 slice-aggregate-first-flow-8 c = let s = c .before .before .before .before .before .before .before .before .before .before .before .before .before .before .before .before .before in sym (length-take-le (s .args .self .net .arcs) (s .args .self .tight) (in-tight s))
@@ -93,12 +51,6 @@ flow-kept c = let s = c .before .before .before .before .before .before .before 
 
 tight-kept : (c : tie.Else1) → length (c .before .before .before .first-flow .last .1 .1 .1 .1 .1 .1 .1 .0) ≡ c .before .before .before .before .before .before .before .before .before .before .before .before .before .before .before .before .before .before .before .before .before .args .self .net .arcs
 tight-kept c = let s = c .before .before .before .before .before .before .before .before .before .before .before .before .before .before .before .before .before .before .before .before .before in told c .1 .marks-len ∙ sym (s .pre .sound .arcs-held)
-
-array-share-prefix-costs-2 : tie.Need-array-share-prefix-costs-2
-array-share-prefix-costs-2 c = let s = c .before .before .before .before .before .before .before .before .before .before .before .before .before .before .before .before .before .before .before .before .before in in-costs (s .args .self .net) (s .pre .sound)
-
-slice-aggregate-cost-of : tie.Need-slice-aggregate-cost-of
-slice-aggregate-cost-of c = search needs
 
 array-share-prefix-flow : tie.Need-array-share-prefix-flow
 array-share-prefix-flow c = let s = c .before .before .before .before .before .before .before .before .before .before .before .before .before .before .before .before .before .before .before .before .before .before in let f = c .before .before .before .before .first-flow in
@@ -130,28 +82,18 @@ returns-2 c =
 pub first-spec : {M : Type 1} → statement M
 first-spec =
     tie.close
-    (tie.spec
-    array-share-prefix-tails
-    slice-aggregate-first-flow
-    array-share-prefix-heads
-    slice-aggregate-first-flow-2
-    array-share-prefix-lows
-    slice-aggregate-first-flow-3
-    array-share-prefix-ups
-    slice-aggregate-first-flow-4
-    array-share-prefix-costs
-    slice-aggregate-first-flow-5
-    array-share-prefix-balances
-    slice-aggregate-first-flow-6
-    array-borrow-prefix-flow
+    (tie.spec (λ c. in-tails _ (c .before .before .before .before .before .before .before .before .before .pre .sound)) (λ c. search needs)
+    (λ c. in-heads _ (c .before .before .before .before .before .before .before .before .before .before .pre .sound)) (λ c. search needs)
+    (λ c. in-lows _ (c .before .before .before .before .before .before .before .before .before .before .before .pre .sound)) (λ c. search needs)
+    (λ c. in-ups _ (c .before .before .before .before .before .before .before .before .before .before .before .before .pre .sound))
+    (λ c. search needs)
+    (λ c. in-costs _ (c .before .before .before .before .before .before .before .before .before .before .before .before .before .pre .sound))
+    (λ c. search needs)
+    (λ c. in-balances _ (c .before .before .before .before .before .before .before .before .before .before .before .before .before .before .pre .sound))
+    (λ c. search needs)
+    (λ c. in-flow (c .before .before .before .before .before .before .before .before .before .before .before .before .before .before .before))
     slice-aggregate-first-flow-7
-    array-borrow-prefix-tight
-    slice-aggregate-first-flow-8
-    first-flow-requires
-    returns
-    array-share-prefix-costs-2
-    slice-aggregate-cost-of
-    array-share-prefix-flow
-    slice-aggregate-cost-of-2
-    cost-of-requires
-    returns-2)
+    (λ c. in-tight (c .before .before .before .before .before .before .before .before .before .before .before .before .before .before .before .before))
+    slice-aggregate-first-flow-8 first-flow-requires returns
+    (λ c. in-costs _ (c .before .before .before .before .before .before .before .before .before .before .before .before .before .before .before .before .before .before .before .before .before .pre .sound))
+    (λ c. search needs) array-share-prefix-flow slice-aggregate-cost-of-2 cost-of-requires returns-2)

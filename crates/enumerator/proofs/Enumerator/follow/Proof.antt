@@ -31,38 +31,8 @@ line-of s = s .pre .0 .marked (s .pre .1)
 next-of : (c : tie.After-next) → let s = c .before .before .before .before .before .before .before .before .before .before .before .before .before .before .args .self in Next (netOf s) (flowIn s) (c .next .last .1 .1 .1 .1 .1 .0) (c .next .result)
 next-of c = let s = c .before .before .before .before .before .before .before .before .before .before .before .before .before .before in c .next .ensures .2 (netOf (s .args .self) .balances) (netOf (s .args .self) .costs) (line-of s .potential) (line-of s .marks)
 
-array-share-prefix-tails : tie.Need-array-share-prefix-tails
-array-share-prefix-tails c = let s = c .before .before .before .before .before .before .before in in-tails (s .args .self .net) (s .pre .0 .sound)
-
-slice-aggregate-next : tie.Need-slice-aggregate-next
-slice-aggregate-next c = search needs
-
-array-share-prefix-heads : tie.Need-array-share-prefix-heads
-array-share-prefix-heads c = let s = c .before .before .before .before .before .before .before .before in in-heads (s .args .self .net) (s .pre .0 .sound)
-
-slice-aggregate-next-2 : tie.Need-slice-aggregate-next-2
-slice-aggregate-next-2 c = search needs
-
-array-share-prefix-lows : tie.Need-array-share-prefix-lows
-array-share-prefix-lows c = let s = c .before .before .before .before .before .before .before .before .before in in-lows (s .args .self .net) (s .pre .0 .sound)
-
-slice-aggregate-next-3 : tie.Need-slice-aggregate-next-3
-slice-aggregate-next-3 c = search needs
-
-array-share-prefix-ups : tie.Need-array-share-prefix-ups
-array-share-prefix-ups c = let s = c .before .before .before .before .before .before .before .before .before .before in in-ups (s .args .self .net) (s .pre .0 .sound)
-
-slice-aggregate-next-4 : tie.Need-slice-aggregate-next-4
-slice-aggregate-next-4 c = search needs
-
-array-share-prefix-tight : tie.Need-array-share-prefix-tight
-array-share-prefix-tight c = in-tight (c .before .before .before .before .before .before .before .before .before .before .before)
-
 slice-aggregate-next-5 : tie.Need-slice-aggregate-next-5
 slice-aggregate-next-5 c = let s = c .before .before .before .before .before .before .before .before .before .before .before .before in sym (length-take-le (s .args .self .net .arcs) (s .args .self .tight) (in-tight s))
-
-array-borrow-prefix-flow : tie.Need-array-borrow-prefix-flow
-array-borrow-prefix-flow c = in-flow (c .before .before .before .before .before .before .before .before .before .before .before .before)
 
 slice-aggregate-next-6 : tie.Need-slice-aggregate-next-6
 slice-aggregate-next-6 c = let s = c .before .before .before .before .before .before .before .before .before .before .before .before .before in sym (length-take-le (s .args .self .net .arcs) (s .args .self .flow) (in-flow s))
@@ -90,19 +60,10 @@ returns-2 c =
 pub follow-spec : {M : Type 1} → statement M
 follow-spec =
     tie.close
-    (tie.spec
-    array-share-prefix-tails
-    slice-aggregate-next
-    array-share-prefix-heads
-    slice-aggregate-next-2
-    array-share-prefix-lows
-    slice-aggregate-next-3
-    array-share-prefix-ups
-    slice-aggregate-next-4
-    array-share-prefix-tight
-    slice-aggregate-next-5
-    array-borrow-prefix-flow
-    slice-aggregate-next-6
-    next-requires
-    returns
-    returns-2)
+    (tie.spec (λ c. in-tails _ (c .before .before .before .before .before .before .before .pre .0 .sound)) (λ c. search needs)
+    (λ c. in-heads _ (c .before .before .before .before .before .before .before .before .pre .0 .sound)) (λ c. search needs)
+    (λ c. in-lows _ (c .before .before .before .before .before .before .before .before .before .pre .0 .sound)) (λ c. search needs)
+    (λ c. in-ups _ (c .before .before .before .before .before .before .before .before .before .before .pre .0 .sound)) (λ c. search needs)
+    (λ c. in-tight (c .before .before .before .before .before .before .before .before .before .before .before)) slice-aggregate-next-5
+    (λ c. in-flow (c .before .before .before .before .before .before .before .before .before .before .before .before)) slice-aggregate-next-6
+    next-requires returns returns-2)

@@ -4,12 +4,6 @@ use Rattle.enumerator.proofs.Places.{no-line-at, word-at}
 use Rattle.enumerator.proofs.Enumerator.next.Statement.{statement}
 use Rattle.enumerator.proofs.Enumerator.next.Tie as tie
 
-enum-told : tie.Need-enum-told
-enum-told c = search needs
-
-follow-requires : tie.Need-follow-requires
-follow-requires c κs = search needs
-
 returns : tie.Need-returns
 returns c = let s = c .before .before .before in goes-on (s .args .self) (c .follow .result) (c .before .enum-told .given .1) (c .follow .ensures)
 
@@ -17,4 +11,4 @@ returns-2 : tie.Need-returns-2
 returns-2 c = let s = c .before in stays (s .args .self) (s .pre) (no-line-at (s .args .self .place) (c .match .keys2)) (word-at (s .args .self .place) (c .match .keys2))
 
 pub next-spec : {M : Type 1} → statement M
-next-spec = tie.close (tie.spec enum-told follow-requires returns returns-2)
+next-spec = tie.close (tie.spec (λ c. search needs) (λ c κs. search needs) returns returns-2)

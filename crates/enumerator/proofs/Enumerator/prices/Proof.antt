@@ -18,39 +18,6 @@ use Rattle.enumerator.proofs.Enumerator.prices.Tie as tie
 in-flow : (s : tie.Start) → s .args .self .net .arcs ≤ length (s .args .self .flow)
 in-flow s = let e : length (s .args .self .flow) ≡ 512 = search needs in omega (arith, few (s .args .self .net) (s .pre .0 .sound))
 
-array-share-prefix-tails : tie.Need-array-share-prefix-tails
-array-share-prefix-tails c = let s = c .before .before .before .before .before .before .before in in-tails (s .args .self .net) (s .pre .0 .sound)
-
-slice-aggregate-prices : tie.Need-slice-aggregate-prices
-slice-aggregate-prices c = search needs
-
-array-share-prefix-heads : tie.Need-array-share-prefix-heads
-array-share-prefix-heads c = let s = c .before .before .before .before .before .before .before .before in in-heads (s .args .self .net) (s .pre .0 .sound)
-
-slice-aggregate-prices-2 : tie.Need-slice-aggregate-prices-2
-slice-aggregate-prices-2 c = search needs
-
-array-share-prefix-lows : tie.Need-array-share-prefix-lows
-array-share-prefix-lows c = let s = c .before .before .before .before .before .before .before .before .before in in-lows (s .args .self .net) (s .pre .0 .sound)
-
-slice-aggregate-prices-3 : tie.Need-slice-aggregate-prices-3
-slice-aggregate-prices-3 c = search needs
-
-array-share-prefix-ups : tie.Need-array-share-prefix-ups
-array-share-prefix-ups c = let s = c .before .before .before .before .before .before .before .before .before .before in in-ups (s .args .self .net) (s .pre .0 .sound)
-
-slice-aggregate-prices-4 : tie.Need-slice-aggregate-prices-4
-slice-aggregate-prices-4 c = search needs
-
-array-share-prefix-costs : tie.Need-array-share-prefix-costs
-array-share-prefix-costs c = let s = c .before .before .before .before .before .before .before .before .before .before .before in in-costs (s .args .self .net) (s .pre .0 .sound)
-
-slice-aggregate-prices-5 : tie.Need-slice-aggregate-prices-5
-slice-aggregate-prices-5 c = search needs
-
-array-share-prefix-flow : tie.Need-array-share-prefix-flow
-array-share-prefix-flow c = in-flow (c .before .before .before .before .before .before .before .before .before .before .before .before)
-
 slice-aggregate-prices-6 : tie.Need-slice-aggregate-prices-6
 slice-aggregate-prices-6 c = let s = c .before .before .before .before .before .before .before .before .before .before .before .before .before in sym (length-take-le (s .args .self .net .arcs) (s .args .self .flow) (in-flow s))
 
@@ -68,19 +35,10 @@ returns c = let s = c .before .before .before .before .before .before .before .b
 pub prices-spec : {M : Type 1} → statement M
 prices-spec =
     tie.close
-    (tie.spec
-    array-share-prefix-tails
-    slice-aggregate-prices
-    array-share-prefix-heads
-    slice-aggregate-prices-2
-    array-share-prefix-lows
-    slice-aggregate-prices-3
-    array-share-prefix-ups
-    slice-aggregate-prices-4
-    array-share-prefix-costs
-    slice-aggregate-prices-5
-    array-share-prefix-flow
-    slice-aggregate-prices-6
-    prices-requires
-    narrow-requires
-    returns)
+    (tie.spec (λ c. in-tails _ (c .before .before .before .before .before .before .before .pre .0 .sound)) (λ c. search needs)
+    (λ c. in-heads _ (c .before .before .before .before .before .before .before .before .pre .0 .sound)) (λ c. search needs)
+    (λ c. in-lows _ (c .before .before .before .before .before .before .before .before .before .pre .0 .sound)) (λ c. search needs)
+    (λ c. in-ups _ (c .before .before .before .before .before .before .before .before .before .before .pre .0 .sound)) (λ c. search needs)
+    (λ c. in-costs _ (c .before .before .before .before .before .before .before .before .before .before .before .pre .0 .sound)) (λ c. search needs)
+    (λ c. in-flow (c .before .before .before .before .before .before .before .before .before .before .before .before)) slice-aggregate-prices-6
+    prices-requires narrow-requires returns)
