@@ -1,18 +1,58 @@
 -- The walks over the arcs from the last down: none of those passed is a candidate.
 use mathlib.Core.Path.{_≡_, subst}
+use mathlib.Core.Logic.{_⊎_, inl, inr}
 use mathlib.Core.List.{List}
-use mathlib.Core.Bool.{Bool}
+use mathlib.Core.Bool.{Bool, false}
 use Prim.Native.Nat.{ℕ, suc, _-_, _≤_, _<_}
 use native.Mathlib.Omega.{arith}
 use native.Mathlib.Decide.{ℕ-discrete}
-use Rattle.network.specs.Network.{Net, arcs}
-use Rattle.closure.specs.Closure.{Closure}
-use Rattle.closure.specs.Candidates.{NotRaisable, NotLowerable, NoneRaisable, NoneLowerable}
+use Rattle.network.specs.Network.{Net, arcs, tail, head}
+use Rattle.paths.specs.Reaching.{Searchable, Blocked}
+use Rattle.closure.specs.Closure.{leads, Closure}
+use Rattle.closure.specs.Candidates.{NotRaisable, NotLowerable, HasStep, ClosesNone, NoneRaisable, NoneLowerable}
+use Rattle.closure.proofs.Closure.{closure-blocked}
 
 module _ (N : Net) (f : List ℕ) (free : List Bool) where
   -- the closure before arc a - 1 is added
   pub before-arc : (a : ℕ) (rows : List ℕ) → 0 < a → Closure N f free a rows → Closure N f free (suc (a - 1)) rows
   before-arc a rows h cl = let e : a ≡ suc (a - 1) = omega arith in subst (λ (i : ℕ). Closure N f free i rows) e cl
+
+  module _ (ok : Searchable 64 N f free) (a : ℕ) (rows : List ℕ) (h : a < arcs N) (cl : Closure N f free (suc a) rows) where
+    pub raises : HasStep (N .tails) (N .heads) f (N .ups) free rows a
+    raises = record {
+      near-has = h;
+      far-has = omega (arith, ok .heads-len);
+      lowers-has = omega (arith, ok .flow-len);
+      uppers-has = omega (arith, ok .ups-len);
+      free-has = omega (arith, ok .free-len);
+      near-in = ok .tail-in a h;
+      far-in = ok .head-in a h;
+      rows-len = cl .preorder .rows-len;
+    }
+
+    pub lowers : HasStep (N .heads) (N .tails) (N .lows) f free rows a
+    lowers = record {
+      near-has = omega (arith, ok .heads-len);
+      far-has = h;
+      lowers-has = omega (arith, ok .lows-len);
+      uppers-has = omega (arith, ok .flow-len);
+      free-has = omega (arith, ok .free-len);
+      near-in = ok .head-in a h;
+      far-in = ok .tail-in a h;
+      rows-len = cl .preorder .rows-len;
+    }
+
+    -- an end that does not lead to the other is out of its reach
+    apart : (s t : ℕ) → s < 64 → {P Q : Type 0} → P ⊎ (Q ⊎ (leads rows s t ≡ false)) → P ⊎ (Q ⊎ Blocked N f free s t (suc a))
+    apart s t k (inl p) = inl p
+    apart s t k (inr (inl q)) = inr (inl q)
+    apart s t k (inr (inr e)) = inr (inr (closure-blocked N f free (suc a) rows s t cl k e))
+
+    pub not-raisable : ClosesNone (N .tails) (N .heads) f (N .ups) free rows a → NotRaisable N f free a
+    not-raisable = apart (head N a) (tail N a) (ok .head-in a h)
+
+    pub not-lowerable : ClosesNone (N .heads) (N .tails) (N .lows) f free rows a → NotLowerable N f free a
+    not-lowerable = apart (tail N a) (head N a) (ok .tail-in a h)
 
   pub raisable-start : NoneRaisable N f free (arcs N)
   raisable-start = record { in-range = omega arith; none = λ a h l. absurd (omega arith) }

@@ -5,36 +5,6 @@ use mathlib.Core.Path.{refl}
 use native.Mathlib.Omega.{arith}
 use Rattle.book_network.proofs.Network.{has-book, few-entries, few-players, makes-net}
 
-slice-aggregate-put-arcs : tie.Need-slice-aggregate-put-arcs
-slice-aggregate-put-arcs c = search needs
-
-slice-aggregate-put-arcs-2 : tie.Need-slice-aggregate-put-arcs-2
-slice-aggregate-put-arcs-2 c = search needs
-
-slice-aggregate-put-arcs-3 : tie.Need-slice-aggregate-put-arcs-3
-slice-aggregate-put-arcs-3 c = search needs
-
-slice-aggregate-put-arcs-4 : tie.Need-slice-aggregate-put-arcs-4
-slice-aggregate-put-arcs-4 c = search needs
-
-slice-aggregate-put-arcs-5 : tie.Need-slice-aggregate-put-arcs-5
-slice-aggregate-put-arcs-5 c = search needs
-
-slice-aggregate-put-arcs-6 : tie.Need-slice-aggregate-put-arcs-6
-slice-aggregate-put-arcs-6 c = search needs
-
-slice-aggregate-put-arcs-7 : tie.Need-slice-aggregate-put-arcs-7
-slice-aggregate-put-arcs-7 c = search needs
-
-slice-aggregate-put-arcs-8 : tie.Need-slice-aggregate-put-arcs-8
-slice-aggregate-put-arcs-8 c = search needs
-
-slice-aggregate-put-arcs-9 : tie.Need-slice-aggregate-put-arcs-9
-slice-aggregate-put-arcs-9 c = search needs
-
-slice-aggregate-put-arcs-10 : tie.Need-slice-aggregate-put-arcs-10
-slice-aggregate-put-arcs-10 c = search needs
-
 put-arcs-requires : tie.Need-put-arcs-requires
 put-arcs-requires c κs = (has-book (c .before .before .before .before .before .before .before .before .before .before .before .before .before .before .before .args .book) (c .before .before .before .before .before .before .before .before .before .before .before .before .before .before .before .pre), refl)
 
@@ -54,17 +24,8 @@ pub network-of-spec : {M : Type 1} → statement M
 network-of-spec =
     tie.close
     (tie.spec
-    slice-aggregate-put-arcs
-    slice-aggregate-put-arcs-2
-    slice-aggregate-put-arcs-3
-    slice-aggregate-put-arcs-4
-    slice-aggregate-put-arcs-5
-    slice-aggregate-put-arcs-6
-    slice-aggregate-put-arcs-7
-    slice-aggregate-put-arcs-8
-    slice-aggregate-put-arcs-9
-    slice-aggregate-put-arcs-10
-    put-arcs-requires
+    (λ c. search needs) (λ c. search needs) (λ c. search needs) (λ c. search needs) (λ c. search needs) (λ c. search needs) (λ c. search needs)
+    (λ c. search needs) (λ c. search needs) (λ c. search needs) put-arcs-requires
     balances-of-requires
     mul-t36
     add-t37

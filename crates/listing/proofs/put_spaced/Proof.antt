@@ -6,9 +6,6 @@ use Rattle.listing.proofs.Pieces.{appended-then, room-first, room-next}
 use Rattle.listing.proofs.put_spaced.Statement.{statement}
 use Rattle.listing.proofs.put_spaced.Tie as tie
 
-slice-aggregate-put-text : tie.Need-slice-aggregate-put-text
-slice-aggregate-put-text c = search needs
-
 put-text-requires : tie.Need-put-text-requires
 unfolding bytes
 put-text-requires c κs = room-first (bytes " ") (decimal (c .before .before .before .args .n)) _ _ (c .before .before .before .pre)
@@ -19,9 +16,6 @@ put-number-requires c κs =
     let start = c .before .before .before .before .before .before .before in
     room-next (bytes " ") (decimal (start .args .n)) (start .pre) (c .before .before .before .put-text .ensures)
 
-same-length : tie.Need-same-length
-same-length c = search needs
-
 returns : tie.Need-returns
 unfolding bytes
 returns c = appended-then (c .before .before .before .before .before .before .put-text .ensures) (c .before .before .put-number .ensures)
@@ -29,4 +23,7 @@ returns c = appended-then (c .before .before .before .before .before .before .pu
 pub put-spaced-spec : {M : Type 1} → statement M
 put-spaced-spec =
     tie.close
-    (tie.spec slice-aggregate-put-text put-text-requires put-number-requires same-length returns)
+    (tie.spec
+    (λ c. search needs) put-text-requires
+    put-number-requires
+    (λ c. search needs) returns)
