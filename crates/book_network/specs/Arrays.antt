@@ -1,17 +1,17 @@
 -- The arrays of a network, filled arc after arc.
 use mathlib.Core.Path.{_≡_}
 use mathlib.Core.Bool.{cond}
-use mathlib.Core.List.{List, [], _++_, map}
+use mathlib.Core.List.{List, [], _∷_, _++_, map}
 use Prim.Native.Nat.{ℕ, _+_, _*_, _-_, _≤_}
 use lib.ListN.{length, set, drop, replicate}
 use lib.IntN.{ℤ, pos}
 use Rattle.laws.specs.Padded.{filled}
+use Rattle.laws.specs.Within.{from}
 use Rattle.network.specs.Checked.{structOf}
 use Rattle.network.specs.declared.Network.{Network}
 use Rattle.book.specs.Book.{Book}
 use Rattle.book.specs.declared.CheckedBook.{CheckedBook}
 use Rattle.allocation.specs.BookNet.{Arc, sources, joinArc, entryArc, bookArcs, bookNet}
-use Rattle.allocation.proofs.Rows.{rows}
 use Rattle.book_network.specs.declared.Join.{Join}
 use Rattle.book_network.specs.declared.NetworkArc.{NetworkArc}
 use Rattle.book_network.specs.Held.{Holds, Tables}
@@ -79,7 +79,7 @@ abbrev pub lastTo : ℕ → ℕ → Arc
 lastTo e players = record { tail = 0; head = 2 * e + 1; low = 0; up = players; cost = 0 }
 
 abbrev pub rowsBy : ℕ → ℕ → List Arc
-rowsBy e players = rows entryArc (endTo e) (lastTo e players) e
+rowsBy e players = map entryArc (from e 1) ++ (map (endTo e) (from e 1) ++ (lastTo e players ∷ []))
 
 abbrev pub blank : Arrays
 blank = arrays (replicate 512 0) (replicate 512 0) (replicate 512 0) (replicate 512 0) (replicate 512 (pos 0))

@@ -1,4 +1,4 @@
--- The walks over the arcs from the last down: none of those passed is a candidate.
+-- An arc whose step closes no cycle is no candidate; and the walks over the arcs from the last down: none of those passed is one.
 use mathlib.Core.Path.{_≡_, subst}
 use mathlib.Core.Logic.{_⊎_, inl, inr}
 use mathlib.Core.List.{List}
@@ -11,6 +11,14 @@ use Rattle.paths.specs.Reaching.{Searchable, Blocked}
 use Rattle.closure.specs.Closure.{leads, Closure}
 use Rattle.closure.specs.Candidates.{NotRaisable, NotLowerable, HasStep, ClosesNone, NoneRaisable, NoneLowerable}
 use Rattle.closure.proofs.Closure.{closure-blocked}
+
+-- what holds from a on holds from a - 1 on, once it holds of a - 1
+one-down : (P : ℕ → Type 0) (a n : ℕ) → P (a - 1) → ((i : ℕ) → a ≤ i → i < n → P i) → (i : ℕ) → a - 1 ≤ i → i < n → P i
+one-down P a n here later i h l = go (ℕ-discrete i (a - 1))
+  where
+    go : Dec (i ≡ a - 1) → P i
+    go (yes e) = rw e here
+    go (no d) = later i (omega arith) l
 
 module _ (N : Net) (f : List ℕ) (free : List Bool) where
   -- the closure before arc a - 1 is added
@@ -58,22 +66,14 @@ module _ (N : Net) (f : List ℕ) (free : List Bool) where
   raisable-start = record { in-range = omega arith; none = λ a h l. absurd (omega arith) }
 
   pub raisable-step : (a : ℕ) → 0 < a → NoneRaisable N f free a → NotRaisable N f free (a - 1) → NoneRaisable N f free (a - 1)
-  raisable-step a h w s = record { in-range = omega (arith, w .in-range); none = λ i p l. go i p l (ℕ-discrete i (a - 1)) }
-    where
-      go : (i : ℕ) → a - 1 ≤ i → i < arcs N → Dec (i ≡ a - 1) → NotRaisable N f free i
-      go i p l (yes e) = rw e s
-      go i p l (no n) = w .none i (omega arith) l
+  raisable-step a h w s = record { in-range = omega (arith, w .in-range); none = one-down (NotRaisable N f free) a (arcs N) s (w .none) }
 
   pub lowerable-start : NoneLowerable N f free (arcs N) (arcs N)
   lowerable-start = record { after = omega arith; in-range = omega arith; none = λ a h l. absurd (omega arith) }
 
   -- arc a - 1 is no candidate, or the first
   pub lowerable-step : (a first : ℕ) → 0 < a → NoneLowerable N f free a first → NotLowerable N f free (a - 1) → NoneLowerable N f free (a - 1) first
-  lowerable-step a first h w s = record { after = omega (arith, w .after); in-range = w .in-range; none = λ i p l. go i p l (ℕ-discrete i (a - 1)) }
-    where
-      go : (i : ℕ) → a - 1 ≤ i → i < first → Dec (i ≡ a - 1) → NotLowerable N f free i
-      go i p l (yes e) = rw e s
-      go i p l (no n) = w .none i (omega arith) l
+  lowerable-step a first h w s = record { after = omega (arith, w .after); in-range = w .in-range; none = one-down (NotLowerable N f free) a first s (w .none) }
 
   pub lowerable-first : (a first : ℕ) → NoneLowerable N f free a first → NoneLowerable N f free (a - 1) (a - 1)
   lowerable-first a first w = record { after = omega arith; in-range = omega (arith, w .after, w .in-range); none = λ i p l. absurd (omega arith) }

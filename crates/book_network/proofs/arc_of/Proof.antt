@@ -11,5 +11,4 @@ returns : tie.Need-returns
 returns c = ap (λ z. (let r : NetworkArc = record { tail = c .args .tail; head = c .args .head; low = c .args .low; up = c .args .up; cost = z } in r)) (toZ-pos w32 (omega arith))
 
 pub arc-of-spec : {M : Type 1} → statement M
-arc-of-spec = tie.close (tie.spec
-    (λ c. search needs) (λ c. search needs) (λ c. search needs) returns)
+arc-of-spec = tie.close (tie.spec (λ c. search needs) (λ c. search needs) (λ c. search needs) returns)

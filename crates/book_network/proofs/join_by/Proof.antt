@@ -19,9 +19,4 @@ returns-5 : tie.Need-returns-5
 returns-5 c = by-slow _ _ _ _ _ _ (c .before .before .if1 .left) (c .before .if3 .left) (c .if4 .left)
 
 pub join-by-spec : {M : Type 1} → statement M
-join-by-spec = tie.close (tie.spec
-    returns
-    returns-2
-    returns-3
-    (λ c. search needs) (λ c. search needs) returns-4
-    returns-5)
+join-by-spec = tie.close (tie.spec returns returns-2 returns-3 (λ c. search needs) (λ c. search needs) returns-4 returns-5)

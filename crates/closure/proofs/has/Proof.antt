@@ -7,5 +7,4 @@ returns : tie.Need-returns
 returns c = rw (and-mask _ 1)
 
 pub has-spec : {M : Type 1} → statement M
-has-spec = tie.close (tie.spec
-    (λ c. search needs) returns)
+has-spec = tie.close (tie.spec (λ c. search needs) returns)

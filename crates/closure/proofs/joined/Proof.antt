@@ -11,6 +11,4 @@ returns-2 : tie.Need-returns-2
 returns-2 c = let s = c .before .before in λ w. joined-no (s .args .s) (s .args .t) (s .args .p) w (sym (c .before .has .ensures) ∙ c .if1 .left)
 
 pub joined-spec : {M : Type 1} → statement M
-joined-spec = tie.close (tie.spec
-    (λ c κs. search needs) returns
-    returns-2)
+joined-spec = tie.close (tie.spec (λ c κs. search needs) returns returns-2)

@@ -7,5 +7,4 @@ returns : tie.Need-returns
 returns c = λ w. only-has (c .args .v) w (search needs)
 
 pub only-spec : {M : Type 1} → statement M
-only-spec = tie.close (tie.spec
-    (λ c. search needs) returns)
+only-spec = tie.close (tie.spec (λ c. search needs) returns)

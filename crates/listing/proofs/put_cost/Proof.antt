@@ -1,4 +1,3 @@
--- `listing::put_cost` meets its contract. Assumes nothing.
 use borrow.Author.Needs.{needs}
 use Rattle.text.specs.Reader.{bytes}
 use Rattle.listing.specs.Lines.{costLine}
@@ -14,6 +13,4 @@ unfolding bytes costLine
 returns c = c .before .before .put-row .ensures
 
 pub put-cost-spec : {M : Type 1} → statement M
-put-cost-spec = tie.close (tie.spec
-    (λ c. search needs) put-row-requires
-    (λ c. search needs) returns)
+put-cost-spec = tie.close (tie.spec (λ c. search needs) put-row-requires (λ c. search needs) returns)

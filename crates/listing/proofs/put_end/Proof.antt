@@ -1,4 +1,3 @@
--- `listing::put_end` meets its contract. Assumes nothing.
 use borrow.Author.Needs.{needs}
 use Rattle.text.specs.Reader.{bytes}
 use Rattle.listing.specs.Lines.{endLine}
@@ -14,6 +13,4 @@ unfolding bytes endLine
 returns c = c .before .before .put-row .ensures
 
 pub put-end-spec : {M : Type 1} → statement M
-put-end-spec = tie.close (tie.spec
-    (λ c. search needs) put-row-requires
-    (λ c. search needs) returns)
+put-end-spec = tie.close (tie.spec (λ c. search needs) put-row-requires (λ c. search needs) returns)

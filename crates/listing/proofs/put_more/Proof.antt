@@ -1,4 +1,3 @@
--- `listing::put_more` meets its contract. Assumes nothing.
 use borrow.Author.Needs.{needs}
 use Rattle.text.specs.Reader.{bytes}
 use Rattle.listing.specs.Lines.{moreLine}
@@ -14,6 +13,4 @@ unfolding bytes moreLine
 returns c = c .before .before .put-text .ensures
 
 pub put-more-spec : {M : Type 1} → statement M
-put-more-spec = tie.close (tie.spec
-    (λ c. search needs) put-text-requires
-    (λ c. search needs) returns)
+put-more-spec = tie.close (tie.spec (λ c. search needs) put-text-requires (λ c. search needs) returns)

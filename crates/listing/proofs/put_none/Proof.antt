@@ -1,4 +1,3 @@
--- `listing::put_none` meets its contract. Assumes nothing.
 use borrow.Author.Needs.{needs}
 use Rattle.text.specs.Reader.{bytes}
 use Rattle.listing.specs.Lines.{noneLine}
@@ -14,6 +13,4 @@ unfolding bytes noneLine
 returns c = c .before .before .put-text .ensures
 
 pub put-none-spec : {M : Type 1} → statement M
-put-none-spec = tie.close (tie.spec
-    (λ c. search needs) put-text-requires
-    (λ c. search needs) returns)
+put-none-spec = tie.close (tie.spec (λ c. search needs) put-text-requires (λ c. search needs) returns)

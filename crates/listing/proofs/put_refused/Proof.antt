@@ -1,4 +1,3 @@
--- `listing::put_refused` meets its contract. Assumes nothing.
 use borrow.Author.Needs.{needs}
 use Rattle.text.specs.Reader.{bytes}
 use Rattle.listing.specs.Lines.{refusedLine}
@@ -14,6 +13,4 @@ unfolding bytes refusedLine
 returns c = c .before .before .put-row .ensures
 
 pub put-refused-spec : {M : Type 1} → statement M
-put-refused-spec = tie.close (tie.spec
-    (λ c. search needs) put-row-requires
-    (λ c. search needs) returns)
+put-refused-spec = tie.close (tie.spec (λ c. search needs) put-row-requires (λ c. search needs) returns)

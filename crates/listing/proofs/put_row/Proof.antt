@@ -1,4 +1,4 @@
--- `listing::put_row` meets its contract: a text, a number and a text, one after another. Assumes nothing.
+-- A text, a number and a text, one after another.
 use borrow.Author.Needs.{needs}
 use mathlib.Core.List.{_++_}
 use Rattle.text.specs.Reader.{bytes}

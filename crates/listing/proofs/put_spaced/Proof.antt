@@ -1,4 +1,3 @@
--- `listing::put_spaced` meets its contract. Assumes nothing.
 use borrow.Author.Needs.{needs}
 use Rattle.text.specs.Reader.{bytes}
 use Rattle.listing.specs.Lines.{decimal}
@@ -21,9 +20,4 @@ unfolding bytes
 returns c = appended-then (c .before .before .before .before .before .before .put-text .ensures) (c .before .before .put-number .ensures)
 
 pub put-spaced-spec : {M : Type 1} → statement M
-put-spaced-spec =
-    tie.close
-    (tie.spec
-    (λ c. search needs) put-text-requires
-    put-number-requires
-    (λ c. search needs) returns)
+put-spaced-spec = tie.close (tie.spec (λ c. search needs) put-text-requires put-number-requires (λ c. search needs) returns)

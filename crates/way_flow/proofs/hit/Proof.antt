@@ -10,6 +10,4 @@ returns-2 : tie.Need-returns-2
 returns-2 c = sym (hit-other (c .before .args .a) (c .before .args .b) (c .if1 .left))
 
 pub hit-spec : {M : Type 1} → statement M
-hit-spec = tie.close (tie.spec
-    returns
-    returns-2)
+hit-spec = tie.close (tie.spec returns returns-2)
