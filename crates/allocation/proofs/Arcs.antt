@@ -1,12 +1,12 @@
 -- The arcs of a book's network, one by one: what holds of each kind holds of arc k; so their ends are nodes.
 use mathlib.Core.Path.{_≡_, refl, sym, subst, _∙_}
 use mathlib.Core.Logic.{_⊎_, inl, inr}
-use mathlib.Core.List.{List, [], _∷_, _++_, map}
-use Prim.Native.Nat.{ℕ, zero, suc, _≤_, _<_}
+use mathlib.Core.List.{[], _∷_, _++_, map}
+use Prim.Native.Nat.{ℕ, _≤_, _<_}
 use native.Mathlib.Omega.{arith}
-use lib.ListN.{length, getD, length-map, List·getD-map}
+use lib.ListN.{getD, length-map, List·getD-map}
 use lib.IntN.{pos}
-use Rattle.laws.specs.Members.{_∈_, append-cases, member-map}
+use Rattle.laws.specs.Members.{_∈_, append-cases, member-map, getD-member}
 use Rattle.laws.specs.Within.{from-member}
 use Rattle.network.specs.Network.{WellFormed, nodes, arcs}
 use Rattle.book.specs.Book.{Book}
@@ -15,11 +15,6 @@ use Rattle.allocation.specs.FullWays.{numbers}
 use Rattle.allocation.specs.BookNet.{Arc, joinArc, joinArcs, entryArc, endArc, lastArc, bookArcs, bookNet}
 use Rattle.allocation.proofs.Blocks.{joins-member}
 use Rattle.allocation.proofs.Nodes.{noArc, count-arcs, nodes-count}
-
-pub getD-member : {A : Type 0} (l : List A) (k : ℕ) (d : A) → k < length l → getD l k d ∈ l
-getD-member [] k d h = absurd (omega arith)
-getD-member (a ∷ l) zero d h = inl refl
-getD-member (a ∷ l) (suc k) d h = inr (getD-member l k d (omega arith))
 
 module _ (book : Book) where
   -- what holds of every arc

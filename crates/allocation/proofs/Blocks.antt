@@ -12,12 +12,13 @@ use Rattle.laws.specs.Members.{_∈_, kept, keeps, every-member, member-every, 
 use Rattle.laws.specs.Ascending.{Ascending, ascending-keep}
 use Rattle.laws.specs.Lexicographic.{_<lex_}
 use Rattle.laws.specs.Equality.{cons-same}
+use Rattle.laws.specs.Totals.{total, weigh, weigh-append, weigh-none, weigh-ones, weigh-map}
 use Rattle.book.specs.Book.{Book}
 use Rattle.allocation.specs.Follow.{size}
 use Rattle.allocation.specs.Ways.{permits, Joined}
 use Rattle.allocation.specs.BookNet.{Arc, down, sources, joinArc, joinArcs}
 use Rattle.allocation.specs.WayFlow.{hit, marked, joinFlow}
-use Rattle.allocation.proofs.Weights.{hit-same, hit-other, total, weigh, weigh-append, weigh-none, weigh-ones, weigh-map, Above, marked-one}
+use Rattle.allocation.proofs.Hits.{hit-same, hit-other, Above, marked-one}
 
 -- a list beside two lists, cut where they meet
 pub split : {A : Type 0} (l k : List A) (f : List ℕ) → length f ≡ length (l ++ k)

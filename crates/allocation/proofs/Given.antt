@@ -16,7 +16,7 @@ use Rattle.allocation.specs.Follow.{size}
 use Rattle.allocation.specs.Ways.{oneIf, Joined, IsWay, LeastCostWay}
 use Rattle.allocation.specs.BookNet.{sources, bookNet}
 use Rattle.allocation.specs.WayFlow.{hit, marked, joinFlow, flowOf}
-use Rattle.allocation.proofs.Weights.{hit-same}
+use Rattle.allocation.proofs.Hits.{hit-same}
 use Rattle.allocation.proofs.Blocks.{source}
 use Rattle.allocation.proofs.Matched.{flow-way}
 use Rattle.allocation.proofs.FullWays.{full-way}

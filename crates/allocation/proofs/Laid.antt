@@ -8,6 +8,8 @@ use lib.ListN.{length, getD, length-append}
 use lib.IntN.{pos, negℤ, _-ℤ_}
 use Rattle.laws.specs.Linear.{lin, given}
 use Rattle.laws.specs.Members.{Every}
+use Rattle.laws.specs.Totals.{total, weigh, weigh-none}
+use Rattle.laws.specs.Rows.{row-at, row-length}
 use Rattle.network.specs.Network.{nodes, netOut, balance}
 use Rattle.book.specs.Book.{Book}
 use Rattle.allocation.specs.Follow.{size}
@@ -15,8 +17,7 @@ use Rattle.allocation.specs.Ways.{times, Joined}
 use Rattle.allocation.specs.FullWays.{numbers}
 use Rattle.allocation.specs.BookNet.{Arc, lastNode, sources, price, joinArc, joinArcs, bookArcs, bookNet}
 use Rattle.allocation.specs.WayFlow.{hit, marked, joinFlow, entryFlow}
-use Rattle.allocation.proofs.Weights.{hit-same, hit-other, hit-iff, hit-small, total, weigh, weigh-none}
-use Rattle.allocation.proofs.Rows.{row-at, row-length}
+use Rattle.allocation.proofs.Hits.{hit-same, hit-other, hit-iff, hit-small}
 use Rattle.allocation.proofs.Blocks.{along, outOf, into, weigh-joins, joinFlow-length}
 use Rattle.allocation.proofs.Nodes.{Place, origin, odd, even, last, place, whole, Fits, parts, out-zero, in-zero, out-last, in-last, out-odd, in-odd, out-even, in-even, arcs-parts, netOut-weigh, nodes-count, balance-inner, balance-last}
 use Rattle.allocation.proofs.Bounds.{Bounds, bounds-append, bounds-map}
@@ -85,7 +86,7 @@ module _ (book : Book) where
         ∙ along-once (λ p k. hit (2 * k - 1) (2 * i - 1)) i 1 w h (omega arith) (λ p. hit-same (2 * i - 1) (2 * i - 1) refl) (λ p k b n. hit-other (2 * k - 1) (2 * i - 1) (λ e. n (omega arith)))
 
     pub one-at : (i : ℕ) → 1 ≤ i → i ≤ size book → getD (entryFlow book) (i - 1) 0 ≡ 1
-    one-at i h k = row-at (λ j. 1) (size book) 1 (i - 1) (omega arith)
+    one-at i h k = row-at (λ j. 1) (size book) 1 (i - 1) 0 (omega arith)
 
     pub laid-length : length laid ≡ length (bookArcs book)
     laid-length =

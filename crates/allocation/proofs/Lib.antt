@@ -1,4 +1,4 @@
-pub mod Weights
+pub mod Hits
 pub mod Blocks
 pub mod Rows
 pub mod Nodes

@@ -8,6 +8,8 @@ use lib.ListN.{length, getD}
 use lib.IntN.{pos}
 use Rattle.laws.specs.Lexicographic.{_<lex_}
 use Rattle.laws.specs.Within.{from-member}
+use Rattle.laws.specs.Totals.{total, total-rest, weigh}
+use Rattle.laws.specs.Rows.{from-length, row-at, row-is, row-length}
 use Rattle.network.specs.Network.{IsFlow, costOf}
 use Rattle.book.specs.Book.{Book}
 use Rattle.allocation.specs.Follow.{size}
@@ -15,9 +17,8 @@ use Rattle.allocation.specs.Ways.{times, Joined, IsWay, joinsCost, wayCo
 use Rattle.allocation.specs.FullWays.{numbers}
 use Rattle.allocation.specs.BookNet.{Arc, price, joinArcs, entryArc, endArc, lastArc, bookArcs, bookNet}
 use Rattle.allocation.specs.WayFlow.{joinFlow, entryFlow, endFlow, flowOf, wayOf}
-use Rattle.allocation.proofs.Weights.{hit-other, total, weigh}
-use Rattle.allocation.proofs.Rows.{from-length, row-at, row-is, row-length}
-use Rattle.allocation.proofs.Counting.{tot-count, tot-rest}
+use Rattle.allocation.proofs.Hits.{hit-other}
+use Rattle.allocation.proofs.Counting.{total-count}
 use Rattle.allocation.proofs.Blocks.{split, along, outOf, into, unjoin, joinFlow-less}
 use Rattle.allocation.proofs.Nodes.{whole, Fits, out-zero, in-zero, out-odd, in-odd, out-even, in-even, count-arcs, netOut-weigh, cost-weigh, nodes-count, balance-inner}
 use Rattle.allocation.proofs.Arcs.{well-formed}
@@ -37,8 +38,8 @@ module _ (book : Book) where
 
     all-counted : total (endFlow book w) ≡ times 0 w
     all-counted =
-        let a = tot-rest (λ j. times j w) (numbers book) (λ j m. (let b = from-member (size book) 1 j m in way .once j (b .0) (omega arith))) in
-        let b = tot-count (size book) w (joined-small book 1 w (way .joined)) in
+        let a = total-rest (λ j. times j w) (numbers book) (λ j m. (let b = from-member (size book) 1 j m in way .once j (b .0) (omega arith))) in
+        let b = total-count (size book) w (joined-small book 1 w (way .joined)) in
         let c = from-length (size book) 1 in
         let d = way .all-entries in
         omega arith
@@ -46,7 +47,7 @@ module _ (book : Book) where
     each-once : (i : ℕ) → 1 ≤ i → i ≤ size book → times i w + getD (endFlow book w) (i - 1) 0 ≡ 1
     each-once i h k =
         let q : 1 + (i - 1) ≡ i = omega arith in
-        let r = row-at (λ j. 1 - times j w) (size book) 1 (i - 1) (omega arith) in
+        let r = row-at (λ j. 1 - times j w) (size book) 1 (i - 1) 0 (omega arith) in
         let s : getD (endFlow book w) (i - 1) 0 ≡ 1 - times i w = r ∙ ap (λ j. 1 - times j w) q in
         let u = way .once i h k in
         omega arith
@@ -133,7 +134,7 @@ module _ (book : Book) where
                 omega arith
 
             ends : y ≡ endFlow book w
-            ends = row-is (λ j. 1 - times j w) (size book) 1 y ly (λ k h. (let e = each (1 + k) (omega arith) (omega arith) in let r : 1 + k - 1 ≡ k = omega arith in let d = rw r at e in omega arith))
+            ends = row-is (λ j. 1 - times j w) (size book) 1 y 0 ly (λ k h. (let e = each (1 + k) (omega arith) (omega arith) in let r : 1 + k - 1 ≡ k = omega arith in let d = rw r at e in omega arith))
 
             spare : z ≡ book .players - times 0 w
             spare = let e = at-first in omega arith
@@ -157,7 +158,7 @@ module _ (book : Book) where
                 let o = out-odd book g x y z fits i h k in
                 let u = in-odd book g x y z fits i h k in
                 let b = rw q at (inner (2 * i - 1) (omega arith) (omega arith)) in
-                let d : getD x (i - 1) 0 ≡ 1 = ap (λ l. getD l (i - 1) 0) e ∙ row-at (λ j. 1) (size book) 1 (i - 1) (omega arith) in
+                let d : getD x (i - 1) 0 ≡ 1 = ap (λ l. getD l (i - 1) 0) e ∙ row-at (λ j. 1) (size book) 1 (i - 1) 0 (omega arith) in
                 omega arith
 
   -- the way read off a flow is a way, and the flow is its flow

@@ -10,15 +10,17 @@ use lib.Seq.{getD-at}
 use lib.IntN.{pos, negℤ, _-ℤ_, _*ℤ_, pos-*ℤ-pos}
 use Rattle.laws.specs.Divergence.{at, at-same, at-other}
 use Rattle.laws.specs.Within.{from-member}
+use Rattle.laws.specs.Totals.{total, weigh, weigh-append, weigh-none, weigh-ones, weigh-map, weigh-from, sum-weigh}
+use Rattle.laws.specs.Rows.{from-length, row-length}
 use Rattle.network.specs.Network.{nodes, arcs, netOut, balance, costOf}
 use Rattle.book.specs.Book.{Book}
 use Rattle.allocation.specs.Follow.{size}
 use Rattle.allocation.specs.FullWays.{numbers}
 use Rattle.allocation.specs.BookNet.{Arc, lastNode, joinArcs, entryArc, endArc, lastArc, bookArcs, bookNet}
 use Rattle.allocation.specs.WayFlow.{hit}
-use Rattle.allocation.proofs.Weights.{hit-same, hit-other, total, weigh, weigh-append, weigh-none, weigh-ones, weigh-map, weigh-from, sum-weigh}
+use Rattle.allocation.proofs.Hits.{hit-same, hit-other}
 use Rattle.allocation.proofs.Blocks.{outOf, into, joins-none}
-use Rattle.allocation.proofs.Rows.{from-length, row-length}
+use Rattle.allocation.proofs.Rows.{rows-length}
 
 -- every node is the first, the last, or one of an entry's two
 pub data Place (n v : ℕ) : Type 0 where
@@ -168,10 +170,7 @@ count-arcs book = length-map (bookArcs book) (λ a. a .tail)
 pub arcs-parts : (book : Book) → length (bookArcs book) ≡ length (joinArcs book (size book) 1) + (2 * size book + 1)
 arcs-parts book =
     let a = length-append (joinArcs book (size book) 1) (map entryArc (numbers book) ++ (map (endArc book) (numbers book) ++ (lastArc book ∷ []))) in
-    let b = length-append (map entryArc (numbers book)) (map (endArc book) (numbers book) ++ (lastArc book ∷ [])) in
-    let c = length-append (map (endArc book) (numbers book)) (lastArc book ∷ []) in
-    let d = row-length entryArc (size book) 1 in
-    let e = row-length (endArc book) (size book) 1 in
+    let b = rows-length entryArc (endArc book) (lastArc book) (size book) in
     omega arith
 
 module _ (book : Book) (f : List ℕ) (fits : length f ≡ length (bookArcs book)) where

@@ -1,29 +1,33 @@
--- A row of numbers, one for each entry.
-use mathlib.Core.Path.{_≡_, refl, ap, _∙_}
-use mathlib.Core.List.{List, [], _∷_, map}
-use Prim.Native.Nat.{ℕ, zero, suc, _+_, _<_}
+-- What stands behind the joins, of arcs as of numbers on them: a row of one for each of n entries, a second such row, and one element more.
+use mathlib.Core.Path.{_≡_, ap, _∙_}
+use mathlib.Core.List.{List, [], _∷_, _++_, map}
+use Prim.Native.Nat.{ℕ, _+_, _*_, _-_, _≤_, _<_}
 use native.Mathlib.Omega.{arith}
-use native.Mathlib.Nat.{suc-inj}
-use lib.ListN.{length, getD, length-map}
+use lib.ListN.{length, getD, length-append, List·getD-append}
+use lib.Seq.{getD-at, getD-append-add}
 use Rattle.laws.specs.Within.{from}
-use Rattle.laws.specs.Equality.{cons-same}
+use Rattle.laws.specs.Rows.{row-length, row-at}
 
-pub from-length : (n s : ℕ) → length (from n s) ≡ n
-from-length zero s = refl
-from-length (suc n) s = ap suc (from-length n (suc s))
+module _ {A : Type 0} (φ ψ : ℕ → A) (z : A) (n : ℕ) where
+  abbrev pub rows : List A
+  rows = map φ (from n 1) ++ (map ψ (from n 1) ++ (z ∷ []))
 
-pub row-length : {A : Type 0} (φ : ℕ → A) (n s : ℕ) → length (map φ (from n s)) ≡ n
-row-length φ n s = length-map (from n s) φ ∙ from-length n s
+  pub rows-length : length rows ≡ 2 * n + 1
+  rows-length = omega (arith, length-append (map φ (from n 1)) (map ψ (from n 1) ++ (z ∷ [])), length-append (map ψ (from n 1)) (z ∷ []), row-length φ n 1, row-length ψ n 1)
 
-pub row-at : (φ : ℕ → ℕ) (n s k : ℕ) → k < n → getD (map φ (from n s)) k 0 ≡ φ (s + k)
-row-at φ zero s k h = absurd (omega arith)
-row-at φ (suc n) s zero h = ap φ (omega arith)
-row-at φ (suc n) s (suc k) h = row-at φ n (suc s) k (omega arith) ∙ ap φ (omega arith)
+  module _ (k : ℕ) (d : A) where
+    pub in-first : k < n → getD rows k d ≡ φ (k + 1)
+    in-first h = List·getD-append (map φ (from n 1)) _ d k (rw (row-length φ n 1) h) ∙ row-at φ n 1 k d h ∙ ap φ (omega arith)
 
-pub row-is : (φ : ℕ → ℕ) (n s : ℕ) (y : List ℕ) → length y ≡ n → ((k : ℕ) → k < n → getD y k 0 ≡ φ (s + k)) → y ≡ map φ (from n s)
-row-is φ zero s [] l h = refl
-row-is φ zero s (a ∷ y) l h = absurd (omega arith)
-row-is φ (suc n) s [] l h = absurd (omega arith)
-row-is φ (suc n) s (a ∷ y) l h =
-    cons-same a (φ s) y (map φ (from n (suc s))) (h 0 (omega arith) ∙ ap φ (omega arith))
-    (row-is φ n (suc s) y (suc-inj l) (λ k b. h (suc k) (omega arith) ∙ ap φ (omega arith)))
+    past : n ≤ k → getD rows k d ≡ getD (map ψ (from n 1) ++ (z ∷ [])) (k - n) d
+    past h =
+        let e : k ≡ length (map φ (from n 1)) + (k - n) = omega (arith, row-length φ n 1) in
+        ap (λ i. getD rows i d) e ∙ getD-append-add (map φ (from n 1)) (map ψ (from n 1) ++ (z ∷ [])) (k - n) d
+
+    pub in-second : n ≤ k → k < 2 * n → getD rows k d ≡ ψ (k - n + 1)
+    in-second h l =
+        let i : k - n < n = omega arith in
+        past h ∙ List·getD-append (map ψ (from n 1)) _ d (k - n) (rw (row-length ψ n 1) i) ∙ row-at ψ n 1 (k - n) d i ∙ ap ψ (omega arith)
+
+    pub in-last : k ≡ 2 * n → getD rows k d ≡ z
+    in-last e = past (omega arith) ∙ getD-at (map ψ (from n 1)) z [] d (k - n) (row-length ψ n 1 ∙ omega arith)

@@ -1,17 +1,17 @@
 -- "With 28 entries that is 58 nodes and at most 463 arcs": of two entries at most one may follow the other, since an entry ends after it starts.
 use mathlib.Core.Path.{_≡_, refl, ap, _∙_}
-use mathlib.Core.Logic.{inl, inr}
 use mathlib.Core.Bool.{Bool, true, false, cond}
 use mathlib.Core.Option.{Option, none, some}
-use mathlib.Core.List.{List, [], _∷_, map}
+use mathlib.Core.List.{[], map}
 use Prim.Native.Nat.{ℕ, zero, suc, _+_, _-_, _≤_, _<_}
 use native.Mathlib.Omega.{arith}
-use native.Mathlib.Nat.{add-zero, add-suc}
 use lib.Dec.{eqb, leb}
 use lib.ListN.{length, length-map, length-append}
 use borrow.Author.Tests.{leb-true}
 use Rattle.laws.specs.Members.{_∈_, keep, keepIf}
 use Rattle.laws.specs.Within.{from, from-member}
+use Rattle.laws.specs.Rows.{from-length}
+use Rattle.laws.specs.Totals.{totalOf, total-last, triangle, triangle-mono, square}
 use Rattle.network.specs.Network.{nodes, arcs}
 use Rattle.lines.specs.declared.moves.Move.{Move}
 use Rattle.book.specs.Book.{Book}
@@ -20,8 +20,6 @@ use Rattle.allocation.specs.Follow.{size, entryAt, link, inTime, mayFoll
 use Rattle.allocation.specs.Ways.{given?, permits, oneIf}
 use Rattle.allocation.specs.FullWays.{numbers}
 use Rattle.allocation.specs.BookNet.{down, sources, joinArc, joinArcs, bookNet}
-use Rattle.allocation.proofs.Rows.{from-length}
-use Rattle.allocation.proofs.Counting.{tot, tot-add}
 use Rattle.allocation.proofs.Fair.{fair-entry}
 use Rattle.allocation.proofs.Nodes.{count-arcs, arcs-parts, nodes-count}
 
@@ -44,41 +42,13 @@ follow-time book i j h = go (eqb i j) h
     go true h = absurd (let z : _≡_ {A = ℕ} 0 1 = cc in omega arith)
     go false h = in-time road (entryAt book i .finish) (entryAt book j .start) h
 
--- 0 + 1 + .. + (n − 1)
-abbrev triangle : ℕ → ℕ
-triangle zero = 0
-triangle (suc n) = triangle n + n
-
-triangle-mono : (n m : ℕ) → triangle n ≤ triangle (n + m)
-triangle-mono n zero = rw add-zero (omega arith)
-triangle-mono n (suc m) = let h = triangle-mono n m in rw add-suc (omega arith)
-
-tot-ones : (φ : ℕ → ℕ) (l : List ℕ) → ((a : ℕ) → a ∈ l → φ a ≤ 1) → tot φ l ≤ length l
-tot-ones φ [] h = omega arith
-tot-ones φ (a ∷ l) h = let k = tot-ones φ l (λ b m. h b (inr m)) in let u = h a (inl refl) in omega arith
-
--- what holds at most one way between two numbers holds for at most that many pairs
-square : (r : ℕ → ℕ → ℕ) (l : List ℕ) → ((i j : ℕ) → i ∈ l → j ∈ l → r i j + r j i ≤ 1) → tot (λ j. tot (λ i. r i j) l) l ≤ triangle (length l)
-square r [] h = omega arith
-square r (x ∷ l) h =
-    let deep = square r l (λ i j m n. h i j (inr m) (inr n)) in
-    let side = tot-add (λ j. r x j) (λ j. tot (λ i. r i j) l) l in
-    let both = tot-add (λ j. r x j) (λ j. r j x) l in
-    let most = tot-ones (λ j. r x j + r j x) l (λ j m. h x j (inl refl) (inr m)) in
-    let self = h x x (inl refl) (inl refl) in
-    omega arith
-
-tot-last : (φ : ℕ → ℕ) (n s : ℕ) → tot φ (from (suc n) s) ≡ tot φ (from n s) + φ (s + n)
-tot-last φ zero s = let e : φ (s + 0) ≡ φ s = ap φ (omega arith) in omega arith
-tot-last φ (suc n) s = let h = tot-last φ n (suc s) in let e : φ (suc s + n) ≡ φ (s + suc n) = ap φ (omega arith) in omega arith
-
-keep-count : (p : ℕ → Bool) (n : ℕ) → length (keep p (down n)) ≡ oneIf (p 0) + tot (λ i. oneIf (p i)) (from n 1)
+keep-count : (p : ℕ → Bool) (n : ℕ) → length (keep p (down n)) ≡ oneIf (p 0) + totalOf (λ i. oneIf (p i)) (from n 1)
 keep-count p zero = go (p 0)
   where
     go : (t : Bool) → length {A = ℕ} (keepIf t 0 []) ≡ oneIf t + 0
     go true = refl
     go false = refl
-keep-count p (suc n) = let h = keep-count p n in let l = tot-last (λ i. oneIf (p i)) n 1 in
+keep-count p (suc n) = let h = keep-count p n in let l = total-last (λ i. oneIf (p i)) n 1 in
     let e : oneIf (p (1 + n)) ≡ oneIf (p (suc n)) = ap (λ k. oneIf (p k)) (omega arith) in go (p (suc n)) ∙ omega arith
   where
     go : (t : Bool) → length (keepIf t (suc n) (keep p (down n))) ≡ length (keep p (down n)) + oneIf t
@@ -86,7 +56,7 @@ keep-count p (suc n) = let h = keep-count p n in let l = tot-last (λ i. oneIf (
     go false = omega arith
 
 module _ (book : Book) where
-  joins-count : (n s : ℕ) → length (joinArcs book n s) ≡ n + tot (λ j. tot (λ i. oneIf (permits book i j)) (numbers book)) (from n s)
+  joins-count : (n s : ℕ) → length (joinArcs book n s) ≡ n + totalOf (λ j. totalOf (λ i. oneIf (permits book i j)) (numbers book)) (from n s)
   joins-count zero s = refl
   joins-count (suc n) s =
       let deep = joins-count n (suc s) in
@@ -121,7 +91,7 @@ module _ (book : Book) where
     arcs-few =
         let few = ok .few in
         let f = joins-count (size book) 1 in
-        let g : tot (λ j. tot (λ i. oneIf (permits book i j)) (numbers book)) (numbers book) ≤ triangle (size book) =
+        let g : totalOf (λ j. totalOf (λ i. oneIf (permits book i j)) (numbers book)) (numbers book) ≤ triangle (size book) =
         rw from-length at (square (λ i j. oneIf (permits book i j)) (numbers book) one-way) in
         let m = triangle-mono (size book) (28 - size book) in
         let n : size book + (28 - size book) ≡ 28 = omega arith in

@@ -13,7 +13,7 @@ use Rattle.book.specs.Book.{Book}
 use Rattle.allocation.specs.Ways.{Joined, IsWay}
 use Rattle.allocation.specs.BookNet.{sources}
 use Rattle.allocation.specs.WayFlow.{hit, marked, joinFlow, flowOf, pick, wayFrom, wayOf}
-use Rattle.allocation.proofs.Weights.{hit-same, hit-other, Above}
+use Rattle.allocation.proofs.Hits.{hit-same, hit-other, Above}
 use Rattle.allocation.proofs.Blocks.{sources-fall, source}
 
 pick-marked : (l : List ℕ) (p : ℕ) (x : List ℕ) → Ascending Above l → p ∈ l → pick l (marked p l ++ x) ≡ p

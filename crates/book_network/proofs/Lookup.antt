@@ -7,9 +7,9 @@ use Prim.Native.Nat.{ℕ, zero, suc, _+_, _*_, _-_, _≤_, _<_}
 use native.Mathlib.Omega.{arith}
 use native.Mathlib.Numerals.{add-one}
 use lib.Dec.{eqb}
-use lib.ListN.{length, getD, length-map, length-append, length-replicate, replicate}
+use lib.ListN.{length, getD, length-map}
 use borrow.Author.Tests.{eq-eqb, ne-eqb, le-leb, lt-leb}
-use Rattle.laws.specs.Padded.{padded}
+use Rattle.laws.specs.Padded.{padded-length}
 use Rattle.laws.specs.Tabulate.{tabulate-length}
 use Rattle.lines.specs.declared.moves.Move.{Move}
 use Rattle.lines.specs.Lines.{Entry}
@@ -59,10 +59,7 @@ valueOf-high : (f : Move → ℕ) (B : ℕ) (o : Option Move) → ((m : Move) �
 valueOf-high f B none h = omega arith
 valueOf-high f B (some m) h = h m refl
 
-padded-length : {A : Type 0} (k : ℕ) (d : A) (l : List A) → length l ≤ k → length (padded k d l) ≡ k
-padded-length k d l h = length-append l (replicate (k - length l) d) ∙ omega (arith, length-replicate (k - length l) d)
-
-module _ (b : Book) (e : ℕ) (ticks costs instruments starts finishes : List ℕ) (T : Tables b e ticks costs instruments starts finishes) where
+module _ (b : Book) (fee e : ℕ) (ticks costs instruments starts finishes : List ℕ) (T : Tables b fee e ticks costs instruments starts finishes) where
   column-long : (f : Entry → ℕ) → length (column f (b .entries)) ≡ 28
   column-long f = padded-length 28 0 (map f (b .entries)) (omega (arith, length-map (b .entries) f, T .accepted .few))
 
@@ -119,6 +116,9 @@ module _ (b : Book) (e : ℕ) (ticks costs instruments starts finishes : List �
     pub ticks-small : getD ticks ((p - 1) * 16 + (q - 1)) 0 ≤ 1000001
     ticks-small = rw ticks-at (valueOf-high (λ m. m .ticks + 1) 1000001 (moveOf (b .moves) p q) (λ m e. (let h = fair-parts m (T .accepted .fair-moves p q m e) .ticks-high in omega arith)))
 
+  pub join-opening : (i j : ℕ) → i ≡ 0 → At fee ≡ joinOf (offer b i j)
+  join-opening i j z = rw z (ap At (T .fee-is))
+
   -- the join from i to j
   module _ (i j : ℕ) (i-low : 1 ≤ i) (i-high : i ≤ size b) (j-low : 1 ≤ j) (j-high : j ≤ size b) where
     offer-apart : ¬ (i ≡ j) → offer b i j ≡ inTime (link (b .moves) (entryAt b i .instrument) (entryAt b j .instrument)) (entryAt b i .finish) (entryAt b j .start)
@@ -167,31 +167,31 @@ pub record CanRead (ticks costs instruments starts finishes : List ℕ) (i j : �
   pub finish-in : getD finishes (i - 1) 0 ≤ 1000000
   pub ticks-in : getD ticks ((getD instruments (i - 1) 0 - 1) * 16 + (getD instruments (j - 1) 0 - 1)) 0 ≤ 1000001
 
-pub can-read : {e : ℕ} {ticks costs instruments starts finishes : List ℕ} (i j : ℕ) → HasTables e ticks costs instruments starts finishes → 1 ≤ i → i ≤ e → 1 ≤ j → j ≤ e
+pub can-read : {fee e : ℕ} {ticks costs instruments starts finishes : List ℕ} (i j : ℕ) → HasTables fee e ticks costs instruments starts finishes → 1 ≤ i → i ≤ e → 1 ≤ j → j ≤ e
     → CanRead ticks costs instruments starts finishes i j
-can-read {e} {ticks} {costs} {instruments} {starts} {finishes} i j h il ih jl jh =
+can-read {fee} {e} {ticks} {costs} {instruments} {starts} {finishes} i j h il ih jl jh =
     let b = h .book in
     let T = h .tables in
     let f = T .accepted .few in
     let n = T .entries-are in
-    let u = instrument-in b e ticks costs instruments starts finishes T i il (omega arith) in
-    let v = instrument-in b e ticks costs instruments starts finishes T j jl (omega arith) in
+    let u = instrument-in b fee e ticks costs instruments starts finishes T i il (omega arith) in
+    let v = instrument-in b fee e ticks costs instruments starts finishes T j jl (omega arith) in
     record {
       i-small = omega arith;
       j-small = omega arith;
-      ticks-all = ticks-long b e ticks costs instruments starts finishes T;
-      costs-all = costs-long b e ticks costs instruments starts finishes T;
-      instruments-all = instruments-long b e ticks costs instruments starts finishes T;
-      starts-all = starts-long b e ticks costs instruments starts finishes T;
-      finishes-all = finishes-long b e ticks costs instruments starts finishes T;
+      ticks-all = ticks-long b fee e ticks costs instruments starts finishes T;
+      costs-all = costs-long b fee e ticks costs instruments starts finishes T;
+      instruments-all = instruments-long b fee e ticks costs instruments starts finishes T;
+      starts-all = starts-long b fee e ticks costs instruments starts finishes T;
+      finishes-all = finishes-long b fee e ticks costs instruments starts finishes T;
       i-played = u;
       j-played = v;
-      finish-in = finish-small b e ticks costs instruments starts finishes T i il (omega arith);
-      ticks-in = ticks-small b e ticks costs instruments starts finishes T (getD instruments (i - 1) 0) (getD instruments (j - 1) 0) (u .0) (u .1) (v .0) (v .1);
+      finish-in = finish-small b fee e ticks costs instruments starts finishes T i il (omega arith);
+      ticks-in = ticks-small b fee e ticks costs instruments starts finishes T (getD instruments (i - 1) 0) (getD instruments (j - 1) 0) (u .0) (u .1) (v .0) (v .1);
     }
 
-pub cost-small : {e : ℕ} {ticks costs instruments starts finishes : List ℕ} (i j : ℕ) (o : Join) → HasTables e ticks costs instruments starts finishes
-    → Joins e ticks costs instruments starts finishes i j o → costIn o ≤ 1000000
+pub cost-small : {fee e : ℕ} {ticks costs instruments starts finishes : List ℕ} (i j : ℕ) (o : Join) → HasTables fee e ticks costs instruments starts finishes
+    → Joins fee e ticks costs instruments starts finishes i j o → costIn o ≤ 1000000
 cost-small i j o h w = rw (w .each (h .book) (h .tables)) (go (offer (h .book) i j) (price-small (h .book) (h .tables .accepted) i j))
   where
     go : (x : Option ℕ) → orNone x ≤ 1000000 → costIn (joinOf x) ≤ 1000000

@@ -1,40 +1,35 @@
 -- All arcs of a book's network in the arrays, and the struct of it.
 use mathlib.Core.Path.{_≡_, refl, sym, ap, ap₂, subst, _∙_}
-use mathlib.Core.List.{List, [], _∷_, _++_, map, append-assoc}
-use Prim.Native.Nat.{ℕ, zero, suc, _+_, _*_, _-_, _≤_, _<_}
+use mathlib.Core.List.{List, [], _∷_, _++_, map, append-assoc, append-nil}
+use Prim.Native.Nat.{ℕ, suc, _+_, _*_, _-_, _≤_, _<_}
 use native.Mathlib.Omega.{arith}
-use lib.ListN.{length, drop, replicate, length-append}
+use lib.ListN.{length, length-drop, replicate}
 use lib.IntN.{ℤ, pos, negℤ}
 use Rattle.laws.specs.Padded.{padded, filled-all}
-use Rattle.laws.specs.Within.{from}
 use Rattle.network.specs.declared.Network.{Network}
 use Rattle.network.specs.Checked.{structOf}
 use Rattle.book.specs.Book.{Book}
 use Rattle.book.specs.declared.CheckedBook.{CheckedBook}
 use Rattle.allocation.specs.Follow.{size}
-use Rattle.allocation.specs.FullWays.{numbers}
 use Rattle.allocation.specs.BookNet.{Arc, balancesOf, sources, joinArc, joinArcs, entryArc, endArc, lastArc, bookArcs, bookNet}
-use Rattle.allocation.proofs.Rows.{row-length}
 use Rattle.allocation.proofs.Nodes.{count-arcs, nodes-count}
+use Rattle.allocation.proofs.Rows.{rows-length}
 use Rattle.allocation.proofs.Size.{arcs-few}
 use Rattle.book_network.specs.Held.{Holds, Held, Tables, HasBook}
-use Rattle.book_network.specs.Arrays.{Arrays, Long, put, endTo, Progress, Adds, AddsJoins, blank, AddsAll, MakesNet}
-use Rattle.book_network.proofs.Progress.{put-long, progress-put}
-
-length-drop : {A : Type 0} (m : ℕ) (l : List A) → m ≤ length l → m + length (drop m l) ≡ length l
-length-drop zero l h = omega arith
-length-drop (suc m) [] h = absurd (omega arith)
-length-drop (suc m) (a ∷ l) h = let d = length-drop m l (omega arith) in omega arith
+use Rattle.book_network.specs.Arrays.{Arrays, Long, rowsBy, Progress, Adds, AddsJoins, blank, AddsAll, MakesNet}
 
 pub progress-room : (l : List Arc) (A : Arrays) (m : ℕ) (ahead : List Arc) → Progress l A m ahead → m + length ahead ≡ length l
-progress-room l A m ahead p = ap (λ k. m + length k) (sym (p .is-ahead)) ∙ length-drop m l (p .upto)
+progress-room l A m ahead p = ap (λ k. m + length k) (sym (p .is-ahead)) ∙ omega (arith, length-drop m l, p .upto)
 
 -- the arcs behind the joins
 abbrev pub rowsOf : Book → List Arc
-rowsOf b = map entryArc (numbers b) ++ (map (endArc b) (numbers b) ++ (lastArc b ∷ []))
+rowsOf b = rowsBy (size b) (b .players)
+
+pub blank-long : (A : Arrays) → A ≡ blank → Long A
+blank-long A q = rw q (record { tails-long = refl; heads-long = refl; lows-long = refl; ups-long = refl; costs-long = refl })
 
 module _ (fee e : ℕ) (ticks costs instruments starts finishes : List ℕ) where
-  few-arcs : (b : Book) → Tables b e ticks costs instruments starts finishes → length (bookArcs b) ≤ 463
+  few-arcs : (b : Book) → Tables b fee e ticks costs instruments starts finishes → length (bookArcs b) ≤ 463
   few-arcs b T = omega (arith, arcs-few b (T .accepted), count-arcs b)
 
   -- the joins of the entries before j are put
@@ -42,62 +37,53 @@ module _ (fee e : ℕ) (ticks costs instruments starts finishes : List ℕ) wher
     pub low : 1 ≤ j
     pub upto : j ≤ e + 1
     pub long : Long A
-    pub each : (b : Book) → Tables b e ticks costs instruments starts finishes → fee ≡ b .fee → Progress (bookArcs b) A m (joinArcs b (e + 1 - j) j ++ rowsOf b)
+    pub each : (b : Book) → Tables b fee e ticks costs instruments starts finishes → Progress (bookArcs b) A m (joinArcs b (e + 1 - j) j ++ rowsOf b)
 
   pub outer-start : (A : Arrays) → A ≡ blank → Outer A 0 1
-  outer-start A q = rw q (record {
+  outer-start A q = record {
     low = omega arith;
     upto = omega arith;
-    long = record { tails-long = refl; heads-long = refl; lows-long = refl; ups-long = refl; costs-long = refl };
-    each = λ b T f. (let n : e + 1 - 1 ≡ size b = omega (arith, T .entries-are) in
-        rw n (record { upto = omega arith; tails-are = refl; heads-are = refl; lows-are = refl; ups-are = refl; costs-are = refl; is-ahead = refl }));
-  })
+    long = blank-long A q;
+    each = λ b T.
+        (let n : e + 1 - 1 ≡ size b = omega (arith, T .entries-are) in
+        rw (q, n) (record { upto = omega arith; tails-are = refl; heads-are = refl; lows-are = refl; ups-are = refl; costs-are = refl; is-ahead = refl }));
+  }
 
   pub outer-on : (A B : Arrays) (m r j : ℕ) → Outer A m j → j ≤ e → AddsJoins fee e ticks costs instruments starts finishes j A m B r → Outer B r (j + 1)
   outer-on A B m r j o h a = record {
     low = omega arith;
     upto = omega arith;
     long = a .long;
-    each = λ b T f.
+    each = λ b T.
         (let n : e + 1 - j ≡ suc (e + 1 - (j + 1)) = omega arith in
         let s : suc j ≡ j + 1 = omega arith in
-        let p : Progress (bookArcs b) A m (joinArcs b (suc (e + 1 - (j + 1))) j ++ rowsOf b) = subst (λ k. Progress (bookArcs b) A m (joinArcs b k j ++ rowsOf b)) n (o .each b T f) in
+        let p : Progress (bookArcs b) A m (joinArcs b (suc (e + 1 - (j + 1))) j ++ rowsOf b) = subst (λ k. Progress (bookArcs b) A m (joinArcs b k j ++ rowsOf b)) n (o .each b T) in
         subst (λ i. Progress (bookArcs b) B r (joinArcs b (e + 1 - (j + 1)) i ++ rowsOf b)) s
-        (a .each b T f (bookArcs b) _ (omega (arith, few-arcs b T)) (subst (λ k. Progress (bookArcs b) A m k) (append-assoc (map (joinArc b j) (sources b j)) (joinArcs b (e + 1 - (j + 1)) (suc j)) (rowsOf b)) p)));
+        (a .each b T (bookArcs b) _ (omega (arith, few-arcs b T)) (subst (λ k. Progress (bookArcs b) A m k) (append-assoc (map (joinArc b j) (sources b j)) (joinArcs b (e + 1 - (j + 1)) (suc j)) (rowsOf b)) p)));
   }
 
-  outer-done : (A : Arrays) (m j : ℕ) → Outer A m j → e < j → (b : Book) → Tables b e ticks costs instruments starts finishes → fee ≡ b .fee → Progress (bookArcs b) A m (rowsOf b)
-  outer-done A m j o h b T f =
+  outer-done : (A : Arrays) (m j : ℕ) → Outer A m j → e < j → (b : Book) → Tables b fee e ticks costs instruments starts finishes → Progress (bookArcs b) A m (rowsOf b)
+  outer-done A m j o h b T =
       let n : e + 1 - j ≡ 0 = omega arith in
-      subst (λ k. Progress (bookArcs b) A m (joinArcs b k j ++ rowsOf b)) n (o .each b T f)
+      subst (λ k. Progress (bookArcs b) A m (joinArcs b k j ++ rowsOf b)) n (o .each b T)
 
   module _ (players : ℕ) (has : HasBook players fee e ticks costs instruments starts finishes) where
     pub outer-room : (A : Arrays) (m j : ℕ) → Outer A m j → m ≤ 463
-    outer-room A m j o = omega (arith, o .each (has .book) (has .tables) (has .fee-is) .upto, few-arcs (has .book) (has .tables))
+    outer-room A m j o = omega (arith, o .each (has .book) (has .tables) .upto, few-arcs (has .book) (has .tables))
 
     pub rows-room : (A : Arrays) (m j : ℕ) → Outer A m j → e < j → m + e + e + 1 ≤ 463
     rows-room A m j o h =
         let b = has .book in
-        let r = progress-room (bookArcs b) A m (rowsOf b) (outer-done A m j o h b (has .tables) (has .fee-is)) in
-        let x = length-append (map entryArc (numbers b)) (map (endArc b) (numbers b) ++ (lastArc b ∷ [])) in
-        let y = length-append (map (endArc b) (numbers b)) (lastArc b ∷ []) in
-        let z = row-length entryArc (size b) 1 in
-        let w = row-length (endArc b) (size b) 1 in
+        let r = progress-room (bookArcs b) A m (rowsOf b) (outer-done A m j o h b (has .tables)) in
+        let x = rows-length entryArc (endArc b) (lastArc b) (size b) in
         omega (arith, few-arcs b (has .tables), has .tables .entries-are)
 
-  pub all-done : (players : ℕ) (A B C D : Arrays) (m j : ℕ) → Outer A m j → e < j → Adds A m B (m + e) (map entryArc (from e 1)) → Adds B (m + e) C (m + e + e) (map (endTo e) (from e 1))
-      → D ≡ put C (m + e + e) (record { tail = 0; head = 2 * e + 1; low = 0; up = players; cost = 0 }) → AddsAll players fee e ticks costs instruments starts finishes D (m + e + e + 1)
-  all-done players A B C D m j o h x y q = record {
-    long = subst Long (sym q) (put-long C (m + e + e) (record { tail = 0; head = 2 * e + 1; low = 0; up = players; cost = 0 }) (y .long));
-    each = λ b T f g.
-        (let few : length (bookArcs b) ≤ 512 = omega (arith, few-arcs b T) in
-        let n = sym (T .entries-are) in
-        let u = x .adds (bookArcs b) (map (endArc b) (numbers b) ++ (lastArc b ∷ [])) few
-        (subst (λ k. Progress (bookArcs b) A m (map entryArc (from k 1) ++ (map (endArc b) (numbers b) ++ (lastArc b ∷ [])))) n (outer-done A m j o h b T f)) in
-        let v = y .adds (bookArcs b) (lastArc b ∷ []) few (subst (λ k. Progress (bookArcs b) B (m + e) (map (endTo k) (from k 1) ++ (lastArc b ∷ []))) n u) in
-        rw q (subst (λ k. Progress (bookArcs b) (put C (m + e + e) (record { tail = 0; head = 2 * k + 1; low = 0; up = players; cost = 0 })) (m + e + e + 1) []) n
-        (subst (λ p. Progress (bookArcs b) (put C (m + e + e) (record { tail = 0; head = 2 * size b + 1; low = 0; up = p; cost = 0 })) (m + e + e + 1) []) (sym g)
-        (progress-put (bookArcs b) C (m + e + e) (lastArc b) [] few v))));
+  pub all-done : (players : ℕ) (A B : Arrays) (m j : ℕ) → Outer A m j → e < j → Adds A m B (m + e + e + 1) (rowsBy e players) → AddsAll players fee e ticks costs instruments starts finishes B (m + e + e + 1)
+  all-done players A B m j o h x = record {
+    long = x .long;
+    each = λ b T g.
+        (let q : rowsOf b ≡ rowsBy e players ++ [] = ap₂ rowsBy (sym (T .entries-are)) (sym g) ∙ sym (append-nil (rowsBy e players)) in
+        x .adds (bookArcs b) [] (omega (arith, few-arcs b T)) (subst (λ k. Progress (bookArcs b) A m k) q (outer-done A m j o h b T)));
   }
 
 pub few-of : (players fee e : ℕ) (ticks costs instruments starts finishes : List ℕ) → HasBook players fee e ticks costs instruments starts finishes → e ≤ 28
@@ -109,9 +95,10 @@ same : {n n′ m m′ : ℕ} {b b′ c c′ : List ℤ} {t t′ d d′ l l′ u 
     (record { nodes = n′; arcs = m′; balances = b′; tails = t′; heads = d′; lows = l′; ups = u′; costs = c′ })
 same p q r s v w x y = cc
 
-tables-of : (b : Book) (s : CheckedBook) → Holds b s → Tables b (s .count) (s .ticks) (s .costs) (s .instruments) (s .starts) (s .finishes)
+tables-of : (b : Book) (s : CheckedBook) → Holds b s → Tables b (s .fee) (s .count) (s .ticks) (s .costs) (s .instruments) (s .starts) (s .finishes)
 tables-of b s h = record {
   accepted = h .accepted;
+  fee-is = ap (λ (x : CheckedBook). x .fee) (h .is);
   entries-are = ap (λ (x : CheckedBook). x .count) (h .is);
   ticks-are = ap (λ (x : CheckedBook). x .ticks) (h .is);
   costs-are = ap (λ (x : CheckedBook). x .costs) (h .is);
@@ -123,9 +110,6 @@ tables-of b s h = record {
 players-of : (b : Book) (s : CheckedBook) → Holds b s → s .players ≡ b .players
 players-of b s h = ap (λ (x : CheckedBook). x .players) (h .is)
 
-fee-of : (b : Book) (s : CheckedBook) → Holds b s → s .fee ≡ b .fee
-fee-of b s h = ap (λ (x : CheckedBook). x .fee) (h .is)
-
 struct-made : (b : Book) (e : ℕ) (A : Arrays) (r : ℕ) (balances : List ℤ) → e ≡ size b → balances ≡ padded 64 (pos 0) (balancesOf b) → Progress (bookArcs b) A r []
     → _≡_ {A = Network} (record { nodes = 2 * e + 2; arcs = r; balances = balances; tails = A .tails; heads = A .heads; lows = A .lows; ups = A .ups; costs = A .costs }) (structOf (bookNet b))
 struct-made b e A r balances n w p =
@@ -136,7 +120,7 @@ struct-made b e A r balances n w p =
     (p .costs-are ∙ filled-all (λ a. pos (a .cost)) (bookArcs b) 512 (pos 0) r all)
 
 pub has-book : (s : CheckedBook) → Held s → HasBook (s .players) (s .fee) (s .count) (s .ticks) (s .costs) (s .instruments) (s .starts) (s .finishes)
-has-book s h = record { book = h .book; tables = tables-of (h .book) s (h .holds); players-is = players-of (h .book) s (h .holds); fee-is = fee-of (h .book) s (h .holds) }
+has-book s h = record { book = h .book; tables = tables-of (h .book) s (h .holds); players-is = players-of (h .book) s (h .holds) }
 
 pub few-entries : (s : CheckedBook) → Held s → s .count ≤ 28
 few-entries s h = few-of (s .players) (s .fee) (s .count) (s .ticks) (s .costs) (s .instruments) (s .starts) (s .finishes) (has-book s h)
@@ -155,5 +139,5 @@ makes-net s A r balances w a = record {
       let p = players-of b s h in
       let n = T .entries-are in
       struct-made b (s .count) A r balances n
-      (w ∙ ap₂ (λ p n. padded 64 (pos 0) (pos p ∷ (replicate (2 * n) (pos 0) ++ (negℤ (pos p) ∷ [])))) p n) (a .each b T (fee-of b s h) p));
+      (w ∙ ap₂ (λ p n. padded 64 (pos 0) (pos p ∷ (replicate (2 * n) (pos 0) ++ (negℤ (pos p) ∷ [])))) p n) (a .each b T p));
 }

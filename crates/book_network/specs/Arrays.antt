@@ -1,17 +1,19 @@
 -- The arrays of a network, filled arc after arc.
 use mathlib.Core.Path.{_≡_}
 use mathlib.Core.Bool.{cond}
-use mathlib.Core.List.{List, [], _++_, map}
+use mathlib.Core.List.{List, [], _∷_, _++_, map}
 use Prim.Native.Nat.{ℕ, _+_, _*_, _-_, _≤_}
 use lib.ListN.{length, set, drop, replicate}
 use lib.IntN.{ℤ, pos}
 use Rattle.laws.specs.Padded.{filled}
+use Rattle.laws.specs.Within.{from}
 use Rattle.network.specs.Checked.{structOf}
 use Rattle.network.specs.declared.Network.{Network}
 use Rattle.book.specs.Book.{Book}
 use Rattle.book.specs.declared.CheckedBook.{CheckedBook}
-use Rattle.allocation.specs.BookNet.{Arc, sources, joinArc, bookArcs, bookNet}
+use Rattle.allocation.specs.BookNet.{Arc, sources, joinArc, entryArc, bookArcs, bookNet}
 use Rattle.book_network.specs.declared.Join.{Join}
+use Rattle.book_network.specs.declared.NetworkArc.{NetworkArc}
 use Rattle.book_network.specs.Held.{Holds, Tables}
 use Rattle.book_network.specs.Joins.{isJoin, costIn}
 
@@ -33,17 +35,20 @@ pub record Long (A : Arrays) : Type 0 where
   pub ups-long : length (A .ups) ≡ 512
   pub costs-long : length (A .costs) ≡ 512
 
+-- an arc as the arrays hold it
+abbrev pub arcOf : Arc → NetworkArc
+arcOf a = record { tail = a .tail; head = a .head; low = a .low; up = a .up; cost = pos (a .cost) }
+
 -- an arc put at m
-abbrev pub put : Arrays → ℕ → Arc → Arrays
-put A m a =
-    arrays (set (A .tails) m (a .tail)) (set (A .heads) m (a .head)) (set (A .lows) m (a .low)) (set (A .ups) m (a .up)) (set (A .costs) m (pos (a .cost)))
+abbrev pub put : Arrays → ℕ → NetworkArc → Arrays
+put A m a = arrays (set (A .tails) m (a .tail)) (set (A .heads) m (a .head)) (set (A .lows) m (a .low)) (set (A .ups) m (a .up)) (set (A .costs) m (a .cost))
 
 -- the join from i to j, put at m if there is one
 abbrev pub arcBy : Join → ℕ → ℕ → Arc
 arcBy o i j = record { tail = 2 * i; head = 2 * j - 1; low = 0; up = 1; cost = costIn o }
 
 abbrev pub putIf : Join → ℕ → ℕ → Arrays → ℕ → Arrays
-putIf o i j A m = cond (isJoin o) (put A m (arcBy o i j)) A
+putIf o i j A m = cond (isJoin o) (put A m (arcOf (arcBy o i j))) A
 
 -- the first m arcs of l are in the arrays, and `ahead` are to come
 pub record Progress (l : List Arc) (A : Arrays) (m : ℕ) (ahead : List Arc) : Type 0 where
@@ -63,12 +68,18 @@ pub record Adds (A : Arrays) (m : ℕ) (B : Arrays) (r : ℕ) (some : List Arc) 
 -- the joins and the opening arc of entry j, of each book that the tables hold
 pub record AddsJoins (fee e : ℕ) (ticks costs instruments starts finishes : List ℕ) (j : ℕ) (A : Arrays) (m : ℕ) (B : Arrays) (r : ℕ) : Type 0 where
   pub long : Long B
-  pub each : (b : Book) → Tables b e ticks costs instruments starts finishes → fee ≡ b .fee
+  pub each : (b : Book) → Tables b fee e ticks costs instruments starts finishes
       → (l rest : List Arc) → length l ≤ 512 → Progress l A m (map (joinArc b j) (sources b j) ++ rest) → Progress l B r rest
 
--- the arc from 2j to the last node of a book of e entries
+-- the arcs behind the joins of a book of e entries
 abbrev pub endTo : ℕ → ℕ → Arc
 endTo e j = record { tail = 2 * j; head = 2 * e + 1; low = 0; up = 1; cost = 0 }
+
+abbrev pub lastTo : ℕ → ℕ → Arc
+lastTo e players = record { tail = 0; head = 2 * e + 1; low = 0; up = players; cost = 0 }
+
+abbrev pub rowsBy : ℕ → ℕ → List Arc
+rowsBy e players = map entryArc (from e 1) ++ (map (endTo e) (from e 1) ++ (lastTo e players ∷ []))
 
 abbrev pub blank : Arrays
 blank = arrays (replicate 512 0) (replicate 512 0) (replicate 512 0) (replicate 512 0) (replicate 512 (pos 0))
@@ -76,7 +87,7 @@ blank = arrays (replicate 512 0) (replicate 512 0) (replicate 512 0) (replicate 
 -- all arcs of each book that the tables hold
 pub record AddsAll (players fee e : ℕ) (ticks costs instruments starts finishes : List ℕ) (B : Arrays) (r : ℕ) : Type 0 where
   pub long : Long B
-  pub each : (b : Book) → Tables b e ticks costs instruments starts finishes → fee ≡ b .fee → players ≡ b .players → Progress (bookArcs b) B r []
+  pub each : (b : Book) → Tables b fee e ticks costs instruments starts finishes → players ≡ b .players → Progress (bookArcs b) B r []
 
 -- the struct of the network of each book that the checked book holds
 pub record MakesNet (s : CheckedBook) (r : Network) : Type 0 where

@@ -18,9 +18,10 @@ pub record Held (s : CheckedBook) : Type 0 where
   pub book : Book
   pub holds : Holds book s
 
--- its arrays, lent one by one
-pub record Tables (b : Book) (e : ℕ) (ticks costs instruments starts finishes : List ℕ) : Type 0 where
+-- its numbers and arrays, lent one by one
+pub record Tables (b : Book) (fee e : ℕ) (ticks costs instruments starts finishes : List ℕ) : Type 0 where
   pub accepted : Accepted b
+  pub fee-is : fee ≡ b .fee
   pub entries-are : e ≡ size b
   pub ticks-are : ticks ≡ table (λ m. m .ticks + 1) (b .moves)
   pub costs-are : costs ≡ table (λ m. m .cost) (b .moves)
@@ -28,12 +29,11 @@ pub record Tables (b : Book) (e : ℕ) (ticks costs instruments starts finishes 
   pub starts-are : starts ≡ column (λ e. e .start) (b .entries)
   pub finishes-are : finishes ≡ column (λ e. e .finish) (b .entries)
 
-pub record HasTables (e : ℕ) (ticks costs instruments starts finishes : List ℕ) : Type 0 where
+pub record HasTables (fee e : ℕ) (ticks costs instruments starts finishes : List ℕ) : Type 0 where
   pub book : Book
-  pub tables : Tables book e ticks costs instruments starts finishes
+  pub tables : Tables book fee e ticks costs instruments starts finishes
 
 pub record HasBook (players fee e : ℕ) (ticks costs instruments starts finishes : List ℕ) : Type 0 where
   pub book : Book
-  pub tables : Tables book e ticks costs instruments starts finishes
+  pub tables : Tables book fee e ticks costs instruments starts finishes
   pub players-is : players ≡ book .players
-  pub fee-is : fee ≡ book .fee

@@ -33,6 +33,6 @@ moveBy (suc t) c = some (record { source = 0; target = 0; ticks = t; cost = c })
 abbrev pub linkBy : ℕ → ℕ → ℕ → ℕ → Option Move
 linkBy a b t c = cond (eqb a b) (some stay) (moveBy t c)
 
--- the join from i to j, of each book that the tables hold
-pub record Joins (e : ℕ) (ticks costs instruments starts finishes : List ℕ) (i j : ℕ) (r : Join) : Type 0 where
-  pub each : (b : Book) → Tables b e ticks costs instruments starts finishes → r ≡ joinOf (offer b i j)
+-- the join from i to j, or the opening of j where i is 0, of each book that the tables hold
+pub record Joins (fee e : ℕ) (ticks costs instruments starts finishes : List ℕ) (i j : ℕ) (r : Join) : Type 0 where
+  pub each : (b : Book) → Tables b fee e ticks costs instruments starts finishes → r ≡ joinOf (offer b i j)

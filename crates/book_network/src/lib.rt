@@ -2,21 +2,19 @@
 use book::CheckedBook;
 use network::Network;
 ghost use mathlib.Core.Path.{_≡_};
-ghost use mathlib.Core.List.{[], _∷_, _++_, map};
+ghost use mathlib.Core.List.{[], _∷_, _++_};
 ghost use Prim.Native.Nat.{_+_, _*_, _-_, _≤_, _<_};
 ghost use lib.IntN.{pos, negℤ};
-ghost use lib.ListN.{replicate};
+ghost use lib.ListN.{getD, replicate};
 ghost use Rattle.laws.specs.Padded.{padded};
-ghost use Rattle.laws.specs.Within.{from};
 ghost use Rattle.allocation.specs.Follow.{inTime};
 ghost use Rattle.allocation.specs.Ways.{oneIf};
-ghost use Rattle.allocation.specs.BookNet.{entryArc};
 ghost use Rattle.book_network.specs.Held.{Held, HasTables, HasBook};
 ghost use Rattle.book_network.specs.Joins.{joinOf, isJoin, costIn, linkBy, Joins};
-ghost use Rattle.book_network.specs.Arrays.{arrays, Long, put, putIf, endTo, Adds, AddsJoins, blank, AddsAll, MakesNet};
+ghost use Rattle.book_network.specs.Arrays.{arrays, arcOf, Long, put, putIf, lastTo, rowsBy, Adds, AddsJoins, blank, AddsAll, MakesNet};
 
 // The cost of a join, or that there is none.
-pub enum Join {
+enum Join {
     No,
     At(u32),
 }
@@ -41,8 +39,9 @@ fn join_by(a: u32, b: u32, t: u32, c: u32, finish: u32, start: u32) -> Join
     Join::No
 }
 
-// The join from entry i to entry j.
+// The join from entry i to entry j; from 0, the opening of j.
 fn join_of<'a>(
+    fee: u32,
     e: usize,
     ticks: &'a [u32],
     costs: &'a [u32],
@@ -52,9 +51,12 @@ fn join_of<'a>(
     i: usize,
     j: usize,
 ) -> Join
-    requires { ⌜ HasTables e (now ticks) (now costs) (now instruments) (now starts) (now finishes) × (1 ≤ i) × (i ≤ e) × (1 ≤ j) × (j ≤ e) ⌝ }
-    ensures { λ r. ⌜ Joins e (now (ticks .entry)) (now (costs .entry)) (now (instruments .entry)) (now (starts .entry)) (now (finishes .entry)) i j r ⌝ }
+    requires { ⌜ HasTables fee e (now ticks) (now costs) (now instruments) (now starts) (now finishes) × (i ≤ e) × (1 ≤ j) × (j ≤ e) ⌝ }
+    ensures { λ r. ⌜ Joins fee e (now (ticks .entry)) (now (costs .entry)) (now (instruments .entry)) (now (starts .entry)) (now (finishes .entry)) i j r ⌝ }
 {
+    if i == 0 {
+        return Join::At(fee);
+    }
     if i == j {
         return Join::No;
     }
@@ -71,28 +73,48 @@ fn join_of<'a>(
     )
 }
 
+// An arc in the types of the arrays.
+struct NetworkArc {
+    tail: u8,
+    head: u8,
+    low: u32,
+    up: u32,
+    cost: i32,
+}
+
+// The arc with these numbers.
+fn arc_of(tail: usize, head: usize, low: u32, up: u32, cost: u32) -> NetworkArc
+    requires { ⌜ (tail ≤ 57) × (head ≤ 57) × (cost ≤ 1000000) ⌝ }
+    ensures { λ r. ⌜ r ≡ arcOf (record { tail = tail; head = head; low = low; up = up; cost = cost }) ⌝ }
+{
+    NetworkArc {
+        tail: tail as u8,
+        head: head as u8,
+        low: low,
+        up: up,
+        cost: cost as i32,
+    }
+}
+
 // An arc, put at m.
 fn put_arc(
+    a: NetworkArc,
     tails: &mut [u8],
     heads: &mut [u8],
     lows: &mut [u32],
     ups: &mut [u32],
     costs: &mut [i32],
     m: usize,
-    tail: usize,
-    head: usize,
-    low: u32,
-    up: u32,
-    cost: u32,
 )
-    requires { ⌜ Long (arrays (now tails) (now heads) (now lows) (now ups) (now costs)) × (m < 512) × (tail ≤ 57) × (head ≤ 57) × (cost ≤ 1000000) ⌝ }
-    ensures { λ _. ⌜ arrays (now (tails .exit)) (now (heads .exit)) (now (lows .exit)) (now (ups .exit)) (now (costs .exit)) ≡ put (arrays (now (tails .entry)) (now (heads .entry)) (now (lows .entry)) (now (ups .entry)) (now (costs .entry))) m (record { tail = tail; head = head; low = low; up = up; cost = cost }) ⌝ }
+    requires { ⌜ Long (arrays (now tails) (now heads) (now lows) (now ups) (now costs)) × (m < 512) ⌝ }
+    ensures { λ _. ⌜ arrays (now (tails .exit)) (now (heads .exit)) (now (lows .exit)) (now (ups .exit)) (now (costs .exit)) ≡ put (arrays (now (tails .entry)) (now (heads .entry)) (now (lows .entry)) (now (ups .entry)) (now (costs .entry))) m a ⌝ }
 {
-    tails[m] = tail as u8;
-    heads[m] = head as u8;
-    lows[m] = low;
-    ups[m] = up;
-    costs[m] = cost as i32;
+    let cost = a.cost;
+    tails[m] = a.tail;
+    heads[m] = a.head;
+    lows[m] = a.low;
+    ups[m] = a.up;
+    costs[m] = cost;
 }
 
 // The join from i to j, put at m if there is one.
@@ -113,7 +135,8 @@ fn put_join(
     match o {
         Join::No => m,
         Join::At(c) => {
-            put_arc(tails, heads, lows, ups, costs, m, 2 * i, 2 * j - 1, 0, 1, c);
+            let a = arc_of(2 * i, 2 * j - 1, 0, 1, c);
+            put_arc(a, tails, heads, lows, ups, costs, m);
             m + 1
         }
     }
@@ -136,22 +159,38 @@ fn put_joins<'a>(
     costs: &mut [i32],
     m: usize,
 ) -> usize
-    requires { ⌜ HasTables e (now ticks) (now prices) (now instruments) (now starts) (now finishes) × (fee ≤ 1000000) × (1 ≤ j) × (j ≤ e) × Long (arrays (now tails) (now heads) (now lows) (now ups) (now costs)) × (m ≤ 463) ⌝ }
+    requires { ⌜ HasTables fee e (now ticks) (now prices) (now instruments) (now starts) (now finishes) × (1 ≤ j) × (j ≤ e) × Long (arrays (now tails) (now heads) (now lows) (now ups) (now costs)) × (m ≤ 463) ⌝ }
     ensures { λ r. ⌜ AddsJoins fee e (now (ticks .entry)) (now (prices .entry)) (now (instruments .entry)) (now (starts .entry)) (now (finishes .entry)) j (arrays (now (tails .entry)) (now (heads .entry)) (now (lows .entry)) (now (ups .entry)) (now (costs .entry))) m (arrays (now (tails .exit)) (now (heads .exit)) (now (lows .exit)) (now (ups .exit)) (now (costs .exit))) r ⌝ }
 {
     let mut at = m;
-    let mut i = e;
+    let mut i = e + 1;
     while i > 0 {
-        let o = join_of(e, ticks, prices, instruments, starts, finishes, i, j);
-        at = put_join(o, i, j, tails, heads, lows, ups, costs, at);
         i -= 1;
+        let o = join_of(fee, e, ticks, prices, instruments, starts, finishes, i, j);
+        at = put_join(o, i, j, tails, heads, lows, ups, costs, at);
     }
-    put_arc(tails, heads, lows, ups, costs, at, 0, 2 * j - 1, 0, 1, fee);
-    at + 1
+    at
 }
 
-// The entry arcs, put from m on.
-fn put_entries(
+// Arc k behind the joins: the entry arcs, the arcs to the last node, and the arc from the first node to the last.
+fn row_arc(players: u32, e: usize, k: usize) -> NetworkArc
+    requires { ⌜ (e ≤ 28) × (k ≤ 2 * e) ⌝ }
+    ensures { λ r. ⌜ r ≡ arcOf (getD (rowsBy e players) k (lastTo e players)) ⌝ }
+{
+    if k < e {
+        let j = k + 1;
+        return arc_of(2 * j - 1, 2 * j, 1, 1, 0);
+    }
+    if k < 2 * e {
+        let j = k - e + 1;
+        return arc_of(2 * j, 2 * e + 1, 0, 1, 0);
+    }
+    arc_of(0, 2 * e + 1, 0, players, 0)
+}
+
+// The arcs behind the joins, put from m on.
+fn put_rows(
+    players: u32,
     e: usize,
     tails: &mut [u8],
     heads: &mut [u8],
@@ -160,53 +199,12 @@ fn put_entries(
     costs: &mut [i32],
     m: usize,
 )
-    requires { ⌜ Long (arrays (now tails) (now heads) (now lows) (now ups) (now costs)) × (e ≤ 28) × (m + e ≤ 512) ⌝ }
-    ensures { λ _. ⌜ Adds (arrays (now (tails .entry)) (now (heads .entry)) (now (lows .entry)) (now (ups .entry)) (now (costs .entry))) m (arrays (now (tails .exit)) (now (heads .exit)) (now (lows .exit)) (now (ups .exit)) (now (costs .exit))) (m + e) (map entryArc (from e 1)) ⌝ }
+    requires { ⌜ Long (arrays (now tails) (now heads) (now lows) (now ups) (now costs)) × (e ≤ 28) × (m + 2 * e < 512) ⌝ }
+    ensures { λ _. ⌜ Adds (arrays (now (tails .entry)) (now (heads .entry)) (now (lows .entry)) (now (ups .entry)) (now (costs .entry))) m (arrays (now (tails .exit)) (now (heads .exit)) (now (lows .exit)) (now (ups .exit)) (now (costs .exit))) (m + e + e + 1) (rowsBy e players) ⌝ }
 {
-    for k in 0..e {
-        put_arc(
-            tails,
-            heads,
-            lows,
-            ups,
-            costs,
-            m + k,
-            2 * k + 1,
-            2 * k + 2,
-            1,
-            1,
-            0,
-        );
-    }
-}
-
-// The arcs to the last node, put from m on.
-fn put_ends(
-    e: usize,
-    tails: &mut [u8],
-    heads: &mut [u8],
-    lows: &mut [u32],
-    ups: &mut [u32],
-    costs: &mut [i32],
-    m: usize,
-)
-    requires { ⌜ Long (arrays (now tails) (now heads) (now lows) (now ups) (now costs)) × (e ≤ 28) × (m + e ≤ 512) ⌝ }
-    ensures { λ _. ⌜ Adds (arrays (now (tails .entry)) (now (heads .entry)) (now (lows .entry)) (now (ups .entry)) (now (costs .entry))) m (arrays (now (tails .exit)) (now (heads .exit)) (now (lows .exit)) (now (ups .exit)) (now (costs .exit))) (m + e) (map (endTo e) (from e 1)) ⌝ }
-{
-    for k in 0..e {
-        put_arc(
-            tails,
-            heads,
-            lows,
-            ups,
-            costs,
-            m + k,
-            2 * k + 2,
-            2 * e + 1,
-            0,
-            1,
-            0,
-        );
+    for k in 0..2 * e + 1 {
+        let a = row_arc(players, e, k);
+        put_arc(a, tails, heads, lows, ups, costs, m + k);
     }
 }
 
@@ -262,21 +260,7 @@ fn put_arcs<'a>(
         );
         j += 1;
     }
-    put_entries(e, tails, heads, lows, ups, costs, m);
-    put_ends(e, tails, heads, lows, ups, costs, m + e);
-    put_arc(
-        tails,
-        heads,
-        lows,
-        ups,
-        costs,
-        m + e + e,
-        0,
-        2 * e + 1,
-        0,
-        players,
-        0,
-    );
+    put_rows(players, e, tails, heads, lows, ups, costs, m);
     m + e + e + 1
 }
 

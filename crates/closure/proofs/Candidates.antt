@@ -1,39 +1,79 @@
--- The walks over the arcs from the last down: none of those passed is a candidate.
+-- An arc whose step closes no cycle is no candidate; and the walks over the arcs from the last down: none of those passed is one.
 use mathlib.Core.Path.{_≡_, subst}
+use mathlib.Core.Logic.{_⊎_, inl, inr}
 use mathlib.Core.List.{List}
-use mathlib.Core.Bool.{Bool}
+use mathlib.Core.Bool.{Bool, false}
 use Prim.Native.Nat.{ℕ, suc, _-_, _≤_, _<_}
 use native.Mathlib.Omega.{arith}
 use native.Mathlib.Decide.{ℕ-discrete}
-use Rattle.network.specs.Network.{Net, arcs}
-use Rattle.closure.specs.Closure.{Closure}
-use Rattle.closure.specs.Candidates.{NotRaisable, NotLowerable, NoneRaisable, NoneLowerable}
+use Rattle.network.specs.Network.{Net, arcs, tail, head}
+use Rattle.paths.specs.Reaching.{Searchable, Blocked}
+use Rattle.closure.specs.Closure.{leads, Closure}
+use Rattle.closure.specs.Candidates.{NotRaisable, NotLowerable, HasStep, ClosesNone, NoneRaisable, NoneLowerable}
+use Rattle.closure.proofs.Closure.{closure-blocked}
+
+-- what holds from a on holds from a - 1 on, once it holds of a - 1
+one-down : (P : ℕ → Type 0) (a n : ℕ) → P (a - 1) → ((i : ℕ) → a ≤ i → i < n → P i) → (i : ℕ) → a - 1 ≤ i → i < n → P i
+one-down P a n here later i h l = go (ℕ-discrete i (a - 1))
+  where
+    go : Dec (i ≡ a - 1) → P i
+    go (yes e) = rw e here
+    go (no d) = later i (omega arith) l
 
 module _ (N : Net) (f : List ℕ) (free : List Bool) where
   -- the closure before arc a - 1 is added
   pub before-arc : (a : ℕ) (rows : List ℕ) → 0 < a → Closure N f free a rows → Closure N f free (suc (a - 1)) rows
   before-arc a rows h cl = let e : a ≡ suc (a - 1) = omega arith in subst (λ (i : ℕ). Closure N f free i rows) e cl
 
+  module _ (ok : Searchable 64 N f free) (a : ℕ) (rows : List ℕ) (h : a < arcs N) (cl : Closure N f free (suc a) rows) where
+    pub raises : HasStep (N .tails) (N .heads) f (N .ups) free rows a
+    raises = record {
+      near-has = h;
+      far-has = omega (arith, ok .heads-len);
+      lowers-has = omega (arith, ok .flow-len);
+      uppers-has = omega (arith, ok .ups-len);
+      free-has = omega (arith, ok .free-len);
+      near-in = ok .tail-in a h;
+      far-in = ok .head-in a h;
+      rows-len = cl .preorder .rows-len;
+    }
+
+    pub lowers : HasStep (N .heads) (N .tails) (N .lows) f free rows a
+    lowers = record {
+      near-has = omega (arith, ok .heads-len);
+      far-has = h;
+      lowers-has = omega (arith, ok .lows-len);
+      uppers-has = omega (arith, ok .flow-len);
+      free-has = omega (arith, ok .free-len);
+      near-in = ok .head-in a h;
+      far-in = ok .tail-in a h;
+      rows-len = cl .preorder .rows-len;
+    }
+
+    -- an end that does not lead to the other is out of its reach
+    apart : (s t : ℕ) → s < 64 → {P Q : Type 0} → P ⊎ (Q ⊎ (leads rows s t ≡ false)) → P ⊎ (Q ⊎ Blocked N f free s t (suc a))
+    apart s t k (inl p) = inl p
+    apart s t k (inr (inl q)) = inr (inl q)
+    apart s t k (inr (inr e)) = inr (inr (closure-blocked N f free (suc a) rows s t cl k e))
+
+    pub not-raisable : ClosesNone (N .tails) (N .heads) f (N .ups) free rows a → NotRaisable N f free a
+    not-raisable = apart (head N a) (tail N a) (ok .head-in a h)
+
+    pub not-lowerable : ClosesNone (N .heads) (N .tails) (N .lows) f free rows a → NotLowerable N f free a
+    not-lowerable = apart (tail N a) (head N a) (ok .tail-in a h)
+
   pub raisable-start : NoneRaisable N f free (arcs N)
   raisable-start = record { in-range = omega arith; none = λ a h l. absurd (omega arith) }
 
   pub raisable-step : (a : ℕ) → 0 < a → NoneRaisable N f free a → NotRaisable N f free (a - 1) → NoneRaisable N f free (a - 1)
-  raisable-step a h w s = record { in-range = omega (arith, w .in-range); none = λ i p l. go i p l (ℕ-discrete i (a - 1)) }
-    where
-      go : (i : ℕ) → a - 1 ≤ i → i < arcs N → Dec (i ≡ a - 1) → NotRaisable N f free i
-      go i p l (yes e) = rw e s
-      go i p l (no n) = w .none i (omega arith) l
+  raisable-step a h w s = record { in-range = omega (arith, w .in-range); none = one-down (NotRaisable N f free) a (arcs N) s (w .none) }
 
   pub lowerable-start : NoneLowerable N f free (arcs N) (arcs N)
   lowerable-start = record { after = omega arith; in-range = omega arith; none = λ a h l. absurd (omega arith) }
 
   -- arc a - 1 is no candidate, or the first
   pub lowerable-step : (a first : ℕ) → 0 < a → NoneLowerable N f free a first → NotLowerable N f free (a - 1) → NoneLowerable N f free (a - 1) first
-  lowerable-step a first h w s = record { after = omega (arith, w .after); in-range = w .in-range; none = λ i p l. go i p l (ℕ-discrete i (a - 1)) }
-    where
-      go : (i : ℕ) → a - 1 ≤ i → i < first → Dec (i ≡ a - 1) → NotLowerable N f free i
-      go i p l (yes e) = rw e s
-      go i p l (no n) = w .none i (omega arith) l
+  lowerable-step a first h w s = record { after = omega (arith, w .after); in-range = w .in-range; none = one-down (NotLowerable N f free) a first s (w .none) }
 
   pub lowerable-first : (a first : ℕ) → NoneLowerable N f free a first → NoneLowerable N f free (a - 1) (a - 1)
   lowerable-first a first w = record { after = omega arith; in-range = omega (arith, w .after, w .in-range); none = λ i p l. absurd (omega arith) }

@@ -11,7 +11,7 @@ use lib.ListN.{length, getD, set, length-set}
 use lib.Seq.{getD-set-other}
 use borrow.Author.Tests.{eq-eqb, eqb-true}
 use Rattle.laws.specs.Padded.{set-more}
-use Rattle.laws.specs.Tests.{and-true, true-and}
+use Rattle.laws.specs.Tests.{and-true, true-and, or-cases, or-left, or-right}
 use Rattle.network.specs.Network.{Net, arcs, tail, head, low, up}
 use Rattle.network.specs.Residual.{src, dst}
 use Rattle.certificates.specs.Codes.{even-code, odd-code, even-arc, odd-arc}
@@ -42,18 +42,6 @@ alone rows l h = record {
 }
 
 -- ---- a step added
-or-cases : (p q : Bool) → (p || q) ≡ true → (p ≡ true) ⊎ (q ≡ true)
-or-cases true q e = inl refl
-or-cases false q e = inr e
-
-or-left : (p q : Bool) → p ≡ true → (p || q) ≡ true
-or-left true q e = refl
-or-left false q e = absurd (let z : _≡_ {A = ℕ} 0 1 = cc in omega arith)
-
-or-right : (p q : Bool) → q ≡ true → (p || q) ≡ true
-or-right true q e = refl
-or-right false q e = e
-
 -- r is s, with all of t if p is in s
 abbrev pub Joined : ℕ → ℕ → ℕ → ℕ → Type 0
 Joined s t p r = (w : ℕ) → has r w ≡ (has s w || (has s p && has t w))

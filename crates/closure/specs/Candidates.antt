@@ -4,9 +4,10 @@ use mathlib.Core.Logic.{_⊎_}
 use mathlib.Core.List.{List}
 use mathlib.Core.Bool.{Bool, false}
 use Prim.Native.Nat.{ℕ, suc, _≤_, _<_}
-use lib.ListN.{getD}
+use lib.ListN.{length, getD}
 use Rattle.network.specs.Network.{Net, arcs, tail, head, low, up}
 use Rattle.paths.specs.Reaching.{Blocked}
+use Rattle.closure.specs.Closure.{leads}
 
 -- arc a is not free, or full, or nothing leads from its head to its tail over the free arcs after it
 abbrev pub NotRaisable : Net → List ℕ → List Bool → ℕ → Type 0
@@ -15,6 +16,21 @@ NotRaisable N f free a = (getD free a false ≡ false) ⊎ ((up N a ≤ getD f a
 -- arc a is not free, or at its lower bound, or nothing leads from its tail to its head over the free arcs after it
 abbrev pub NotLowerable : Net → List ℕ → List Bool → ℕ → Type 0
 NotLowerable N f free a = (getD free a false ≡ false) ⊎ ((getD f a 0 ≤ low N a) ⊎ Blocked N f free (tail N a) (head N a) (suc a))
+
+-- what is read of the step of arc a from its near end to its far end, which takes its number from `lowers` towards `uppers`
+pub record HasStep (near far lowers uppers : List ℕ) (free : List Bool) (rows : List ℕ) (a : ℕ) : Type 0 where
+  pub near-has : a < length near
+  pub far-has : a < length far
+  pub lowers-has : a < length lowers
+  pub uppers-has : a < length uppers
+  pub free-has : a < length free
+  pub near-in : getD near a 0 < 64
+  pub far-in : getD far a 0 < 64
+  pub rows-len : length rows ≡ 64
+
+-- the arc is not free, or has no room, or its far end does not lead to its near end
+abbrev pub ClosesNone : List ℕ → List ℕ → List ℕ → List ℕ → List Bool → List ℕ → ℕ → Type 0
+ClosesNone near far lowers uppers free rows a = (getD free a false ≡ false) ⊎ ((getD uppers a 0 ≤ getD lowers a 0) ⊎ (leads rows (getD far a 0) (getD near a 0) ≡ false))
 
 -- so every arc from `from` on
 pub record NoneRaisable (N : Net) (f : List ℕ) (free : List Bool) (from : ℕ) : Type 0 where

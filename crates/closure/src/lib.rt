@@ -9,7 +9,7 @@ ghost use Rattle.paths.specs.Graph.{graph};
 ghost use Rattle.paths.specs.Reaching.{Searchable};
 ghost use Rattle.closure.specs.NodeSet.{has};
 ghost use Rattle.closure.specs.Closure.{Preorder, Extended, Closure};
-ghost use Rattle.closure.specs.Candidates.{NotRaisable, NotLowerable, NoneRaisable, NoneLowerable};
+ghost use Rattle.closure.specs.Candidates.{HasStep, ClosesNone, NoneRaisable, NoneLowerable};
 
 // Whether v is in s.
 fn has(s: u64, v: usize) -> bool
@@ -97,60 +97,31 @@ fn add_arc(
     add(rows, l < f, q, p);
 }
 
-// Whether arc a may be raised: false only if it cannot be.
-fn may_raise(
-    tails: &[u8],
-    heads: &[u8],
-    lows: &[u32],
-    ups: &[u32],
+// Whether the step of arc a from its near end to its far end closes a cycle: false only if it does not.
+fn closes_cycle(
+    near: &[u8],
+    far: &[u8],
+    lowers: &[u32],
+    uppers: &[u32],
     free: &[bool],
-    flow: &[u32],
     rows: &[u64],
     a: usize,
 ) -> bool
-    requires { ⌜ Searchable 64 (graph (now tails) (now heads) (now lows) (now ups)) (now flow) (now free) × (a < length (now tails)) × Closure (graph (now tails) (now heads) (now lows) (now ups)) (now flow) (now free) (suc a) (now rows) ⌝ }
-    ensures { λ r. ⌜ (r ≡ false → NotRaisable (graph (now (tails .entry)) (now (heads .entry)) (now (lows .entry)) (now (ups .entry))) (now (flow .entry)) (now (free .entry)) a) ⌝ }
+    requires { ⌜ HasStep (now near) (now far) (now lowers) (now uppers) (now free) (now rows) a ⌝ }
+    ensures { λ r. ⌜ (r ≡ false → ClosesNone (now (near .entry)) (now (far .entry)) (now (lowers .entry)) (now (uppers .entry)) (now (free .entry)) (now (rows .entry)) a) ⌝ }
 {
     if !free[a] {
         return false;
     }
-    let f = flow[a];
-    let u = ups[a];
-    if u <= f {
+    let u = uppers[a];
+    let l = lowers[a];
+    if u <= l {
         return false;
     }
-    let p = tails[a] as usize;
-    let q = heads[a] as usize;
+    let p = near[a] as usize;
+    let q = far[a] as usize;
     let row = rows[q];
     has(row, p)
-}
-
-// Whether arc a may be lowered: false only if it cannot be.
-fn may_lower(
-    tails: &[u8],
-    heads: &[u8],
-    lows: &[u32],
-    ups: &[u32],
-    free: &[bool],
-    flow: &[u32],
-    rows: &[u64],
-    a: usize,
-) -> bool
-    requires { ⌜ Searchable 64 (graph (now tails) (now heads) (now lows) (now ups)) (now flow) (now free) × (a < length (now tails)) × Closure (graph (now tails) (now heads) (now lows) (now ups)) (now flow) (now free) (suc a) (now rows) ⌝ }
-    ensures { λ r. ⌜ (r ≡ false → NotLowerable (graph (now (tails .entry)) (now (heads .entry)) (now (lows .entry)) (now (ups .entry))) (now (flow .entry)) (now (free .entry)) a) ⌝ }
-{
-    if !free[a] {
-        return false;
-    }
-    let f = flow[a];
-    let l = lows[a];
-    if f <= l {
-        return false;
-    }
-    let p = tails[a] as usize;
-    let q = heads[a] as usize;
-    let row = rows[p];
-    has(row, q)
 }
 
 // One more than the last arc that may be raised; 0 if there is none.
@@ -169,7 +140,7 @@ pub fn after_last_raisable(
     clear(&mut rows);
     let mut a = tails.len();
     while 0 < a {
-        if may_raise(tails, heads, lows, ups, free, flow, &rows, a - 1) {
+        if closes_cycle(tails, heads, flow, ups, free, &rows, a - 1) {
             return a;
         }
         a -= 1;
@@ -197,7 +168,7 @@ pub fn first_lowerable(
     let mut first = a;
     while from < a {
         a -= 1;
-        if may_lower(tails, heads, lows, ups, free, flow, &rows, a) {
+        if closes_cycle(heads, tails, lows, flow, free, &rows, a) {
             first = a;
         }
         add_arc(tails, heads, lows, ups, free, flow, &mut rows, a);

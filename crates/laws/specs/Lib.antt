@@ -14,6 +14,8 @@ pub mod Image
 pub mod Lexicographic
 pub mod Equality
 pub mod Within
+pub mod Rows
+pub mod Totals
 pub mod Suffix
 pub mod Snoc
 pub mod Tabulate

@@ -4,9 +4,9 @@ use mathlib.Core.Logic.{_⊎_, inl, inr}
 use mathlib.Core.List.{List, [], _∷_, _++_, map}
 use mathlib.Core.Option.{Option, none, some}
 use mathlib.Core.Bool.{Bool, true, false}
-use Prim.Native.Nat.{ℕ, zero, suc}
+use Prim.Native.Nat.{ℕ, zero, suc, _<_}
 use native.Mathlib.Omega.{arith}
-use lib.ListN.{getElem?}
+use lib.ListN.{length, getD, getElem?}
 
 module _ {A : Type 0} where
   infix 40 _∈_
@@ -100,6 +100,11 @@ module _ {A : Type 0} where
   at-member (b ∷ l) zero a e = inl (cc)
   at-member (b ∷ l) (suc i) a e = inr (at-member l i a e)
 
+  pub getD-member : (l : List A) (k : ℕ) (d : A) → k < length l → getD l k d ∈ l
+  getD-member [] k d h = absurd (omega arith)
+  getD-member (a ∷ l) zero d h = inl refl
+  getD-member (a ∷ l) (suc k) d h = inr (getD-member l k d (omega arith))
+
   pub first-at : (l : List A) → first? l ≡ getElem? l 0
   first-at [] = refl
   first-at (a ∷ l) = refl
@@ -114,3 +119,8 @@ module _ {A B : Type 0} (f : A → B) where
   member-map [] b m = absurd m
   member-map (a ∷ l) b (inl q) = (a, inl refl, q)
   member-map (a ∷ l) b (inr m) = let (c, n, q) = member-map l b m in (c, inr n, q)
+
+  pub map-at : (l : List A) (k : ℕ) (d : A) (e : B) → k < length l → getD (map f l) k e ≡ f (getD l k d)
+  map-at [] k d e h = absurd (omega arith)
+  map-at (a ∷ l) zero d e h = refl
+  map-at (a ∷ l) (suc k) d e h = map-at l k d e (omega arith)

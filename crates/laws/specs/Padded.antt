@@ -4,13 +4,16 @@ use mathlib.Core.List.{List, _∷_, _++_, map}
 use Prim.Native.Nat.{ℕ, suc, _+_, _-_, _≤_, _<_}
 use native.Mathlib.Numerals.{add-one}
 use native.Mathlib.Omega.{arith}
-use lib.ListN.{length, getD, take, set, replicate, length-map, length-append}
+use lib.ListN.{length, getD, take, set, replicate, length-map, length-append, length-replicate}
 use lib.Seq.{append-snoc, take-suc, take-length, length-take-le, take-at, set-at}
 use Rattle.laws.specs.Snoc.{map-more}
 use Rattle.laws.specs.Store.{set-cases}
 
 abbrev pub padded : {A : Type 0} → ℕ → A → List A → List A
 padded k d l = l ++ replicate (k - length l) d
+
+pub padded-length : {A : Type 0} (k : ℕ) (d : A) (l : List A) → length l ≤ k → length (padded k d l) ≡ k
+padded-length k d l h = length-append l (replicate (k - length l) d) ∙ omega (arith, length-replicate (k - length l) d)
 
 -- the first places hold the list
 pub take-padded : {A : Type 0} (k : ℕ) (d : A) (l : List A) → take (length l) (padded k d l) ≡ l

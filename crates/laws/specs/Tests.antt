@@ -1,8 +1,8 @@
 -- Tests, the Bools that code and definitions compute: joined, as questions in a row, of a decided fact, of every member of a list, of every number below n.
 use mathlib.Core.Path.{_≡_, refl, sym, ap, _∙_}
-use mathlib.Core.Bool.{Bool, true, false, _&&_}
+use mathlib.Core.Bool.{Bool, true, false, _&&_, _||_}
 use mathlib.Core.List.{List, [], _∷_}
-use mathlib.Core.Logic.{inl, inr}
+use mathlib.Core.Logic.{_⊎_, inl, inr}
 use Prim.Native.Nat.{ℕ, zero, suc, _+_, _<_}
 use native.Mathlib.Numerals.{add-one}
 use native.Mathlib.Omega.{arith}
@@ -38,6 +38,18 @@ and-then b₁ b₂ x y p q r = rw (sym p ∙ q) r
 
 pub and-else : (b₁ x y : Bool) → b₁ ≡ x → b₁ ≡ false → false ≡ x && y
 and-else b₁ x y p q = rw (sym p ∙ q)
+
+-- one of two tests
+pub or-cases : (p q : Bool) → p || q ≡ true → (p ≡ true) ⊎ (q ≡ true)
+or-cases true q e = inl refl
+or-cases false q e = inr e
+
+pub or-left : (p q : Bool) → p ≡ true → p || q ≡ true
+or-left p q e = rw e
+
+pub or-right : (p q : Bool) → q ≡ true → p || q ≡ true
+or-right true q e = refl
+or-right false q e = e
 
 -- a question of a row of them: the next one's answer where the test holds, and else this one's number
 abbrev pub ask : Bool → ℕ → ℕ → ℕ

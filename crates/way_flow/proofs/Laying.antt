@@ -1,6 +1,6 @@
 -- The flow of a list of numbers, arc by arc.
 use mathlib.Core.Path.{_≡_, refl, sym, ap, ap₂, subst, _∙_}
-use mathlib.Core.List.{List, [], _∷_, _++_, map}
+use mathlib.Core.List.{List, [], _∷_, _++_, map, map-id}
 use Prim.Native.Nat.{ℕ, zero, suc, _+_, _*_, _-_, _/_, _≤_, _<_}
 use native.Mathlib.Omega.{arith}
 use native.Mathlib.Nat.{suc-inj}
@@ -8,15 +8,17 @@ use native.Mathlib.Numerals.{add-one}
 use lib.ListN.{length, getD, drop, set, replicate, length-append, List·getD-map, List·getD-append}
 use lib.Seq.{drop-cons, drop-length, getD-append-add}
 use Rattle.laws.specs.Padded.{padded, filled, filled-more, filled-all}
-use Rattle.laws.specs.Equality.{cons-same, heads-same, tails-same, nil-cons}
+use Rattle.laws.specs.Members.{map-at}
+use Rattle.laws.specs.Suffix.{drop-front}
+use Rattle.laws.specs.Equality.{cons-same}
 use Rattle.book.specs.Book.{Book}
 use Rattle.allocation.specs.Follow.{size}
 use Rattle.allocation.specs.Ways.{times}
 use Rattle.allocation.specs.BookNet.{Arc, sources, joinArc, joinArcs, bookArcs}
-use Rattle.allocation.specs.WayFlow.{hit, marked, joinFlow, entryFlow, endFlow, flowOf}
-use Rattle.allocation.proofs.Weights.{hit-small}
-use Rattle.allocation.proofs.Rows.{row-at, row-length}
+use Rattle.allocation.specs.WayFlow.{hit, marked, joinFlow, flowOf}
+use Rattle.allocation.proofs.Hits.{hit-small}
 use Rattle.allocation.proofs.Blocks.{joinFlow-length}
+use Rattle.allocation.proofs.Rows.{rows, rows-length, in-first, in-second, in-last}
 use Rattle.allocation.proofs.Nodes.{noArc, count-arcs}
 use Rattle.allocation.proofs.Size.{arcs-few}
 use Rattle.way_flow.specs.Arcs.{Ends, HasEnds, FlowAt, LaysFlow}
@@ -65,16 +67,10 @@ module _ (b : Book) (all : List ℕ) where
       go (p ∷ w) n = absurd (omega arith)
   joins-carry j [] k e (suc m) n = absurd (omega arith)
   joins-carry j (p ∷ w) k e (suc m) n =
-      let (h, t) = front all (j - 1) p w e in
+      let f = drop-front 0 all (j - 1) p w e in
       let s : suc j - 1 ≡ suc (j - 1) = omega arith in
-      block-carries j p (sources b j) (joinArcs b m (suc j)) k h
-      ∙ ap (λ l. marked p (sources b j) ++ l) (joins-carry (suc j) w (omega arith) (ap (λ i. drop i all) s ∙ t) m (suc-inj n))
-    where
-      front : (l : List ℕ) (i p : ℕ) (w : List ℕ) → drop i l ≡ p ∷ w → (getD l i 0 ≡ p) × (drop (suc i) l ≡ w)
-      front [] zero p w e = absurd (nil-cons p w e)
-      front [] (suc i) p w e = absurd (nil-cons p w e)
-      front (a ∷ l) zero p w e = (heads-same a p l w e, tails-same a p l w e)
-      front (a ∷ l) (suc i) p w e = front l i p w e
+      block-carries j p (sources b j) (joinArcs b m (suc j)) k (f .here)
+      ∙ ap (λ l. marked p (sources b j) ++ l) (joins-carry (suc j) w (omega arith) (ap (λ i. drop i all) s ∙ f .later) m (suc-inj n))
 
 module _ (e : ℕ) (tails heads : List ℕ) (b : Book) (h : Ends b e tails heads) (w : List ℕ) (len : length w ≡ e) where
   joined-length : length (joinFlow b 1 w) ≡ length (joinArcs b (size b) 1)
@@ -83,14 +79,12 @@ module _ (e : ℕ) (tails heads : List ℕ) (b : Book) (h : Ends b e tails heads
   joined-all : length tails ≡ length (joinFlow b 1 w) + (2 * e + 1)
   joined-all = joins-count e tails heads b h ∙ ap (λ n. n + (2 * e + 1)) (sym joined-length)
 
+  -- what stands behind the joins
+  abbrev behind : List ℕ
+  behind = rows (λ j. 1) (λ j. 1 - times j w) (b .players - times 0 w) (size b)
+
   pub flow-long : length (flowOf b w) ≡ length tails
-  flow-long =
-      let x = length-append (joinFlow b 1 w) (entryFlow b ++ (endFlow b w ++ ((b .players - times 0 w) ∷ []))) in
-      let y = length-append (entryFlow b) (endFlow b w ++ ((b .players - times 0 w) ∷ [])) in
-      let z = length-append (endFlow b w) ((b .players - times 0 w) ∷ []) in
-      let u = row-length {A = ℕ} (λ j. 1) (size b) 1 in
-      let v = row-length (λ j. 1 - times j w) (size b) 1 in
-      omega (arith, joined-all, h .entries-are)
+  flow-long = omega (arith, length-append (joinFlow b 1 w) behind, rows-length (λ j. 1) (λ j. 1 - times j w) (b .players - times 0 w) (size b), joined-all, h .entries-are)
 
   pub on-join : (k : ℕ) → k < length tails - (2 * e + 1) → getD (flowOf b w) k 0 ≡ hit (getD tails k 0 / 2) (getD w ((getD heads k 0 - 1) / 2) 0)
   unfolding carries
@@ -99,46 +93,25 @@ module _ (e : ℕ) (tails heads : List ℕ) (b : Book) (h : Ends b e tails heads
       let m : k < length (joinArcs b (size b) 1) = omega (arith, joined-length) in
       List·getD-append (joinFlow b 1 w) _ 0 k n
       ∙ ap (λ l. getD l k 0) (sym (joins-carry b w 1 w (omega arith) refl (size b) (sym (len ∙ h .entries-are))))
-      ∙ at-arc (joinArcs b (size b) 1) k m
+      ∙ map-at (carries b w) (joinArcs b (size b) 1) k noArc 0 m
       ∙ ap (λ a. carries b w a) (sym (List·getD-append (joinArcs b (size b) 1) _ noArc k m))
       ∙ sym (ap₂ (λ t d. hit (t / 2) (getD w ((d - 1) / 2) 0)) (ap (λ l. getD l k 0) (h .tails-are) ∙ List·getD-map (λ a. a .tail) (bookArcs b) k noArc)
       (ap (λ l. getD l k 0) (h .heads-are) ∙ List·getD-map (λ a. a .head) (bookArcs b) k noArc))
-    where
-      at-arc : (l : List Arc) (k : ℕ) → k < length l → getD (map (carries b w) l) k 0 ≡ carries b w (getD l k noArc)
-      at-arc [] k h = absurd (omega arith)
-      at-arc (a ∷ l) zero h = refl
-      at-arc (a ∷ l) (suc k) h = at-arc l k (omega arith)
-
-  behind : (k : ℕ) → getD (flowOf b w) (length (joinFlow b 1 w) + k) 0 ≡ getD (entryFlow b ++ (endFlow b w ++ ((b .players - times 0 w) ∷ []))) k 0
-  behind k = getD-append-add (joinFlow b 1 w) (entryFlow b ++ (endFlow b w ++ ((b .players - times 0 w) ∷ []))) k 0
 
   module _ (k row : ℕ) (at : k ≡ length tails - (2 * e + 1) + row) where
-    shift : getD (flowOf b w) k 0 ≡ getD (entryFlow b ++ (endFlow b w ++ ((b .players - times 0 w) ∷ []))) row 0
-    shift = ap (λ i. getD (flowOf b w) i 0) (let q : k ≡ length (joinFlow b 1 w) + row = omega (arith, joined-all) in q) ∙ behind row
+    shift : getD (flowOf b w) k 0 ≡ getD behind row 0
+    shift = ap (λ i. getD (flowOf b w) i 0) (let q : k ≡ length (joinFlow b 1 w) + row = omega (arith, joined-all) in q) ∙ getD-append-add (joinFlow b 1 w) behind row 0
 
     pub on-entry : row < e → getD (flowOf b w) k 0 ≡ 1
-    on-entry l =
-        let n : row < size b = omega (arith, h .entries-are) in
-        shift ∙ List·getD-append (entryFlow b) _ 0 row (rw (row-length {A = ℕ} (λ j. 1) (size b) 1) n) ∙ row-at (λ j. 1) (size b) 1 row n
-
-    past : e ≤ row → getD (flowOf b w) k 0 ≡ getD (endFlow b w ++ ((b .players - times 0 w) ∷ [])) (row - e) 0
-    past l =
-        shift ∙ ap (λ i. getD (entryFlow b ++ (endFlow b w ++ ((b .players - times 0 w) ∷ []))) i 0)
-        (let q : row ≡ length (entryFlow b) + (row - e) = omega (arith, row-length {A = ℕ} (λ j. 1) (size b) 1, h .entries-are) in q)
-        ∙ getD-append-add (entryFlow b) (endFlow b w ++ ((b .players - times 0 w) ∷ [])) (row - e) 0
+    on-entry l = shift ∙ in-first (λ j. 1) (λ j. 1 - times j w) (b .players - times 0 w) (size b) row 0 (omega (arith, h .entries-are))
 
     pub on-end : e ≤ row → row < 2 * e → getD (flowOf b w) k 0 ≡ 1 - times (row - e + 1) w
     on-end g l =
-        let n : row - e < size b = omega (arith, h .entries-are) in
-        let s : 1 + (row - e) ≡ row - e + 1 = omega arith in
-        past g ∙ List·getD-append (endFlow b w) _ 0 (row - e) (rw (row-length (λ j. 1 - times j w) (size b) 1) n)
-        ∙ row-at (λ j. 1 - times j w) (size b) 1 (row - e) n ∙ ap (λ j. 1 - times j w) s
+        shift ∙ in-second (λ j. 1) (λ j. 1 - times j w) (b .players - times 0 w) (size b) row 0 (omega (arith, h .entries-are)) (omega (arith, h .entries-are))
+        ∙ ap (λ n. 1 - times (row - n + 1) w) (sym (h .entries-are))
 
     pub on-last : row ≡ 2 * e → getD (flowOf b w) k 0 ≡ b .players - times 0 w
-    on-last l =
-        past (omega arith) ∙ ap (λ i. getD (endFlow b w ++ ((b .players - times 0 w) ∷ [])) i 0)
-        (let q : row - e ≡ length (endFlow b w) + 0 = omega (arith, row-length (λ j. 1 - times j w) (size b) 1, h .entries-are) in q)
-        ∙ getD-append-add (endFlow b w) ((b .players - times 0 w) ∷ []) 0 0
+    on-last l = shift ∙ in-last (λ j. 1) (λ j. 1 - times j w) (b .players - times 0 w) (size b) row 0 (omega (arith, h .entries-are))
 
 -- the numbers of the first k arcs are laid
 module _ (e players : ℕ) (tails heads w : List ℕ) where
@@ -160,10 +133,6 @@ module _ (e players : ℕ) (tails heads w : List ℕ) where
     upto = omega arith;
     each = λ b h p. filled-more (λ x. x) (flowOf b w) 512 0 0 k flow x (g .each b h p) (omega (arith, flow-long e tails heads b h w len)) (omega (arith, few b h)) (a .each b h p);
   }
-
-  map-id : (l : List ℕ) → map (λ x. x) l ≡ l
-  map-id [] = refl
-  map-id (x ∷ l) = ap (λ t. x ∷ t) (map-id l)
 
   pub laying-done : (flow : List ℕ) (k : ℕ) → length w ≡ e → Laying flow k → length tails ≤ k → LaysFlow e players tails heads w flow
   laying-done flow k len g l = record {

@@ -10,7 +10,7 @@ use native.Mathlib.Numerals.{add-one}
 use lib.Dec.{eqb}
 use lib.ListN.{length, getD, set, drop, replicate, length-map, List·getD-map, List·getD-append}
 use lib.Seq.{drop-cons, sets, sets-eq}
-use Rattle.laws.specs.Members.{_∈_, every-member}
+use Rattle.laws.specs.Members.{_∈_, every-member, getD-member}
 use Rattle.laws.specs.Ascending.{Ascending}
 use Rattle.network.specs.Network.{tail}
 use Rattle.book.specs.Book.{Book}
@@ -18,10 +18,10 @@ use Rattle.allocation.specs.Follow.{size}
 use Rattle.allocation.specs.Ways.{Joined}
 use Rattle.allocation.specs.BookNet.{Arc, sources, joinArc, joinArcs, bookArcs, bookNet}
 use Rattle.allocation.specs.WayFlow.{hit, marked, joinFlow}
-use Rattle.allocation.proofs.Weights.{hit-same, hit-other, Above}
+use Rattle.allocation.proofs.Hits.{hit-same, hit-other, Above}
 use Rattle.allocation.proofs.Blocks.{sources-fall, source, joinFlow-length, joins-member}
 use Rattle.allocation.proofs.Nodes.{noArc, arcs-parts}
-use Rattle.allocation.proofs.Arcs.{getD-member, well-formed}
+use Rattle.allocation.proofs.Arcs.{well-formed}
 use Rattle.allocation.proofs.Size.{nodes-few}
 use Rattle.way_flow.specs.Arcs.{Ends, ReadsWay}
 

@@ -12,12 +12,6 @@ returns-2 c = by-late _ _ (c .before .before .args .t) (c .before .before .args 
 returns-3 : tie.Need-returns-3
 returns-3 c = by-none _ _ _ _ _ _ (c .before .if1 .left) (c .if3 .taken)
 
-sub-if4 : tie.Need-sub-if4
-sub-if4 c = search needs
-
-add-if4 : tie.Need-add-if4
-add-if4 c = search needs
-
 returns-4 : tie.Need-returns-4
 returns-4 c = by-move _ _ _ _ _ _ (c .before .before .if1 .left) (c .before .if3 .left) (c .if4 .taken)
 
@@ -25,4 +19,4 @@ returns-5 : tie.Need-returns-5
 returns-5 c = by-slow _ _ _ _ _ _ (c .before .before .if1 .left) (c .before .if3 .left) (c .if4 .left)
 
 pub join-by-spec : {M : Type 1} → statement M
-join-by-spec = tie.close (tie.spec returns returns-2 returns-3 sub-if4 add-if4 returns-4 returns-5)
+join-by-spec = tie.close (tie.spec returns returns-2 returns-3 (λ c. search needs) (λ c. search needs) returns-4 returns-5)

@@ -1,70 +1,38 @@
-use borrow.Author.Needs.{needs}
-use Rattle.book_network.proofs.network_of.Statement.{statement}
-use Rattle.book_network.proofs.network_of.Tie as tie
 use mathlib.Core.Path.{refl}
 use native.Mathlib.Omega.{arith}
+use borrow.Author.Needs.{needs}
 use Rattle.book_network.proofs.Network.{has-book, few-entries, few-players, makes-net}
+use Rattle.book_network.proofs.network_of.Statement.{statement}
+use Rattle.book_network.proofs.network_of.Tie as tie
 
-slice-aggregate-put-arcs : tie.Need-slice-aggregate-put-arcs
-slice-aggregate-put-arcs c = search needs
+-- from one place to an earlier one
+abbrev start : tie.After-costs → tie.Start
+start c = c .before .before .before .before .before .before .before .before .before .before .before .before .before .before .before
 
-slice-aggregate-put-arcs-2 : tie.Need-slice-aggregate-put-arcs-2
-slice-aggregate-put-arcs-2 c = search needs
-
-slice-aggregate-put-arcs-3 : tie.Need-slice-aggregate-put-arcs-3
-slice-aggregate-put-arcs-3 c = search needs
-
-slice-aggregate-put-arcs-4 : tie.Need-slice-aggregate-put-arcs-4
-slice-aggregate-put-arcs-4 c = search needs
-
-slice-aggregate-put-arcs-5 : tie.Need-slice-aggregate-put-arcs-5
-slice-aggregate-put-arcs-5 c = search needs
-
-slice-aggregate-put-arcs-6 : tie.Need-slice-aggregate-put-arcs-6
-slice-aggregate-put-arcs-6 c = search needs
-
-slice-aggregate-put-arcs-7 : tie.Need-slice-aggregate-put-arcs-7
-slice-aggregate-put-arcs-7 c = search needs
-
-slice-aggregate-put-arcs-8 : tie.Need-slice-aggregate-put-arcs-8
-slice-aggregate-put-arcs-8 c = search needs
-
-slice-aggregate-put-arcs-9 : tie.Need-slice-aggregate-put-arcs-9
-slice-aggregate-put-arcs-9 c = search needs
-
-slice-aggregate-put-arcs-10 : tie.Need-slice-aggregate-put-arcs-10
-slice-aggregate-put-arcs-10 c = search needs
+abbrev put : tie.After-costs2 → tie.After-put-arcs
+put c = c .before .before .before .before .before
 
 put-arcs-requires : tie.Need-put-arcs-requires
-put-arcs-requires c κs = (has-book (c .before .before .before .before .before .before .before .before .before .before .before .before .before .before .before .args .book) (c .before .before .before .before .before .before .before .before .before .before .before .before .before .before .before .pre), refl)
+put-arcs-requires c κs = (has-book (start c .args .book) (start c .pre), refl)
 
 balances-of-requires : tie.Need-balances-of-requires
-balances-of-requires c κs = let s = c .before .before .before .before .before .before .before .before .before .before .before .before .before .before .before .before .before .before .before .before .before in (few-players (s .args .book) (s .pre), few-entries (s .args .book) (s .pre))
+balances-of-requires c κs = let s = start (put c .before) in (few-players (s .args .book) (s .pre), few-entries (s .args .book) (s .pre))
 
 mul-t36 : tie.Need-mul-t36
-mul-t36 c = omega (arith, few-entries (c .before .before .before .before .before .before .before .before .before .before .before .before .before .before .before .before .before .before .before .before .before .before .args .book) (c .before .before .before .before .before .before .before .before .before .before .before .before .before .before .before .before .before .before .before .before .before .before .pre))
+mul-t36 c = let s = start (put (c .before) .before) in omega (arith, few-entries (s .args .book) (s .pre))
 
 add-t37 : tie.Need-add-t37
-add-t37 c = omega (arith, few-entries (c .before .before .before .before .before .before .before .before .before .before .before .before .before .before .before .before .before .before .before .before .before .before .args .book) (c .before .before .before .before .before .before .before .before .before .before .before .before .before .before .before .before .before .before .before .before .before .before .pre))
+add-t37 c = let s = start (put (c .before) .before) in omega (arith, few-entries (s .args .book) (s .pre))
 
 returns : tie.Need-returns
-returns c = makes-net (c .before .before .before .before .before .before .before .before .before .before .before .before .before .before .before .before .before .before .before .before .before .before .args .book) _ _ _ (c .balances-of .ensures) (c .before .before .before .before .before .before .put-arcs .ensures)
+returns c = let p = put (c .before) in makes-net (start (p .before) .args .book) _ _ _ (c .balances-of .ensures) (p .put-arcs .ensures)
 
 pub network-of-spec : {M : Type 1} → statement M
 network-of-spec =
     tie.close
     (tie.spec
-    slice-aggregate-put-arcs
-    slice-aggregate-put-arcs-2
-    slice-aggregate-put-arcs-3
-    slice-aggregate-put-arcs-4
-    slice-aggregate-put-arcs-5
-    slice-aggregate-put-arcs-6
-    slice-aggregate-put-arcs-7
-    slice-aggregate-put-arcs-8
-    slice-aggregate-put-arcs-9
-    slice-aggregate-put-arcs-10
-    put-arcs-requires
+    (λ c. search needs) (λ c. search needs) (λ c. search needs) (λ c. search needs) (λ c. search needs) (λ c. search needs) (λ c. search needs)
+    (λ c. search needs) (λ c. search needs) (λ c. search needs) put-arcs-requires
     balances-of-requires
     mul-t36
     add-t37

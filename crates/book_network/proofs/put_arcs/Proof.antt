@@ -1,11 +1,10 @@
-use Rattle.book_network.proofs.put_arcs.Statement.{statement}
-use Rattle.book_network.proofs.put_arcs.Tie as tie
-use mathlib.Core.Path.{sym, ap, _∙_}
+use mathlib.Core.Path.{sym, _∙_}
 use Prim.Native.Nat.{_+_, _-_, _≤_}
 use native.Mathlib.Omega.{arith}
-use lib.ListN.{length}
-use Rattle.book_network.specs.Arrays.{Arrays, arrays}
-use Rattle.book_network.proofs.Network.{Outer, outer-start, outer-on, outer-room, rows-room, all-done, few-of}
+use Rattle.book_network.specs.Arrays.{Long, arrays}
+use Rattle.book_network.proofs.Network.{Outer, outer-start, outer-on, outer-room, rows-room, all-done, few-of, blank-long}
+use Rattle.book_network.proofs.put_arcs.Statement.{statement}
+use Rattle.book_network.proofs.put_arcs.Tie as tie
 
 abbrev Inv-loop : tie.InvT-loop
 Inv-loop players fee e ticks prices instruments starts finishes tails₀ heads₀ lows₀ ups₀ costs₀ m₀ j₀ tails heads lows ups costs m j =
@@ -24,16 +23,10 @@ inside c = c .before .before .before .before .before
 abbrev joined : tie.After-costs Inv-loop μ-loop → tie.After-put-joins Inv-loop μ-loop
 joined c = c .before .before .before .before .before .before .before .before .before
 
-abbrev out : tie.After-put-entries-arg5 Inv-loop μ-loop → tie.After-loop Inv-loop μ-loop
+abbrev out : tie.After-put-rows-arg5 Inv-loop μ-loop → tie.After-loop Inv-loop μ-loop
 out c = c .before .before .before .before .before
 
-abbrev entered : tie.After-put-ends-arg5 Inv-loop μ-loop → tie.After-put-entries Inv-loop μ-loop
-entered c = c .before .before .before .before .before .before .before .before .before .before .before .before .before .before
-
-abbrev ended : tie.After-put-arc-arg5 Inv-loop μ-loop → tie.After-put-ends Inv-loop μ-loop
-ended c = c .before .before .before .before .before .before .before .before .before .before .before .before .before .before
-
-abbrev finished : tie.After-costs4 Inv-loop μ-loop → tie.After-put-arc Inv-loop μ-loop
+abbrev finished : tie.After-costs2 Inv-loop μ-loop → tie.After-put-rows Inv-loop μ-loop
 finished c = c .before .before .before .before .before .before .before .before .before
 
 -- room for the arcs behind the joins
@@ -57,7 +50,6 @@ put-joins-requires c κs =
     let l = inside c .before .loop in
     let h = s .pre .0 in (
       record { book = h .book; tables = h .tables },
-      omega (arith, h .fee-is, h .tables .accepted .fee-high),
       l .inv .low,
       omega (arith, inside c .loop-test .taken),
       l .inv .long,
@@ -77,67 +69,21 @@ loop-again c =
     let l = a .before .loop in
     outer-on (x .fee) (x .e) (x .ticks .now) (x .prices .now) (x .instruments .now) (x .starts .now) (x .finishes .now) (arrays (l .tails) (l .heads) (l .lows) (l .ups) (l .costs)) _ (l .m) _ (l .j) (l .inv) (omega (arith, a .loop-test .taken)) (joined c .put-joins .ensures)
 
-put-entries-requires : tie.Need-put-entries-requires Inv-loop μ-loop
-put-entries-requires c κs = (out c .before .loop .inv .long, rows (out c) .1, omega (arith, rows (out c)))
-
-add-put-ends : tie.Need-add-put-ends Inv-loop μ-loop
-add-put-ends c = omega (arith, rows (out (entered c .before)))
-
-put-ends-requires : tie.Need-put-ends-requires Inv-loop μ-loop
-put-ends-requires c κs = (entered c .put-entries .ensures .long, rows (out (entered c .before)) .1, omega (arith, rows (out (entered c .before))))
-
-add-put-arc : tie.Need-add-put-arc Inv-loop μ-loop
-add-put-arc c = omega (arith, rows (out (entered (ended c .before) .before)))
-
-add-put-arc-2 : tie.Need-add-put-arc-2 Inv-loop μ-loop
-add-put-arc-2 c = omega (arith, rows (out (entered (ended c .before) .before)))
-
-mul-put-arc : tie.Need-mul-put-arc Inv-loop μ-loop
-mul-put-arc c = omega (arith, rows (out (entered (ended c .before) .before)))
-
-add-put-arc-3 : tie.Need-add-put-arc-3 Inv-loop μ-loop
-add-put-arc-3 c = omega (arith, rows (out (entered (ended c .before) .before)))
-
-put-arc-requires : tie.Need-put-arc-requires Inv-loop μ-loop
-put-arc-requires c κs =
-    let r = rows (out (entered (ended c .before) .before)) in
-    (ended c .put-ends .ensures .long, omega arith, omega arith, omega arith, omega arith)
-
-add-result : tie.Need-add-result Inv-loop μ-loop
-add-result c = omega (arith, rows (out (entered (ended (finished c .before) .before) .before)))
-
-add-result-2 : tie.Need-add-result-2 Inv-loop μ-loop
-add-result-2 c = omega (arith, rows (out (entered (ended (finished c .before) .before) .before)))
-
-add-result-3 : tie.Need-add-result-3 Inv-loop μ-loop
-add-result-3 c = omega (arith, rows (out (entered (ended (finished c .before) .before) .before)))
+put-rows-requires : tie.Need-put-rows-requires Inv-loop μ-loop
+put-rows-requires c κs = (out c .before .loop .inv .long, rows (out c) .1, omega (arith, rows (out c)))
 
 returns : tie.Need-returns Inv-loop μ-loop
 returns c =
-    let d = ended (finished c .before) in
-    let n = entered (d .before) in
-    let o = out (n .before) in
+    let o = out (finished c .before) in
     let x = start (o .before) .args in
     let l = o .before .loop in
-    all-done (x .fee) (x .e) (x .ticks .now) (x .prices .now) (x .instruments .now) (x .starts .now) (x .finishes .now) (x .players) (arrays (l .tails) (l .heads) (l .lows) (l .ups) (l .costs)) _ _ _ (l .m) (l .j) (l .inv) (omega (arith, o .loop-test .left)) (n .put-entries .ensures) (d .put-ends .ensures) (finished c .put-arc .ensures)
+    all-done (x .fee) (x .e) (x .ticks .now) (x .prices .now) (x .instruments .now) (x .starts .now) (x .finishes .now) (x .players) (arrays (l .tails) (l .heads) (l .lows) (l .ups) (l .costs)) _ (l .m) (l .j) (l .inv) (omega (arith, o .loop-test .left)) (finished c .put-rows .ensures)
 
-abbrev blanked : tie.After-costs4 Inv-loop μ-loop → tie.Start Inv-loop μ-loop
-blanked c = start (out (entered (ended (finished c .before) .before) .before) .before)
+blanked : (c : tie.Start Inv-loop μ-loop) → Long (arrays (c .args .tails .now) (c .args .heads .now) (c .args .lows .now) (c .args .ups .now) (c .args .costs .now))
+blanked c = blank-long _ (c .pre .1)
 
-same-length : tie.Need-same-length Inv-loop μ-loop
-same-length c = returns c .long .tails-long ∙ sym (ap (λ (A : Arrays). length (A .tails)) (blanked c .pre .1))
-
-same-length-2 : tie.Need-same-length-2 Inv-loop μ-loop
-same-length-2 c = returns c .long .heads-long ∙ sym (ap (λ (A : Arrays). length (A .heads)) (blanked c .pre .1))
-
-same-length-3 : tie.Need-same-length-3 Inv-loop μ-loop
-same-length-3 c = returns c .long .lows-long ∙ sym (ap (λ (A : Arrays). length (A .lows)) (blanked c .pre .1))
-
-same-length-4 : tie.Need-same-length-4 Inv-loop μ-loop
-same-length-4 c = returns c .long .ups-long ∙ sym (ap (λ (A : Arrays). length (A .ups)) (blanked c .pre .1))
-
-same-length-5 : tie.Need-same-length-5 Inv-loop μ-loop
-same-length-5 c = returns c .long .costs-long ∙ sym (ap (λ (A : Arrays). length (A .costs)) (blanked c .pre .1))
+abbrev opening : tie.After-costs2 Inv-loop μ-loop → tie.Start Inv-loop μ-loop
+opening c = start (out (finished c .before) .before)
 
 pub put-arcs-spec : {M : Type 1} → statement M
 put-arcs-spec =
@@ -150,20 +96,13 @@ put-arcs-spec =
     add-j
     loop-less
     loop-again
-    put-entries-requires
-    add-put-ends
-    put-ends-requires
-    add-put-arc
-    add-put-arc-2
-    mul-put-arc
-    add-put-arc-3
-    put-arc-requires
-    add-result
-    add-result-2
-    add-result-3
-    same-length
-    same-length-2
-    same-length-3
-    same-length-4
-    same-length-5
+    put-rows-requires
+    (λ c. omega (arith, rows (out (finished c .before))))
+    (λ c. omega (arith, rows (out (finished c .before))))
+    (λ c. omega (arith, rows (out (finished c .before))))
+    (λ c. returns c .long .tails-long ∙ sym (blanked (opening c) .tails-long))
+    (λ c. returns c .long .heads-long ∙ sym (blanked (opening c) .heads-long))
+    (λ c. returns c .long .lows-long ∙ sym (blanked (opening c) .lows-long))
+    (λ c. returns c .long .ups-long ∙ sym (blanked (opening c) .ups-long))
+    (λ c. returns c .long .costs-long ∙ sym (blanked (opening c) .costs-long))
     returns)

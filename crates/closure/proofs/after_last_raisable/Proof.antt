@@ -1,12 +1,14 @@
 use mathlib.Core.Path.{refl, sym}
+use Prim.Native.Nat.{suc, _-_, _<_}
 use native.Mathlib.Omega.{arith}
+use lib.ListN.{length}
 use borrow.Author.Needs.{needs}
 use Rattle.network.specs.Network.{Net}
 use Rattle.paths.specs.Graph.{graph}
 use Rattle.closure.specs.Closure.{Closure}
 use Rattle.closure.specs.Candidates.{NoneRaisable}
 use Rattle.closure.proofs.Closure.{closure-start}
-use Rattle.closure.proofs.Candidates.{before-arc, raisable-start, raisable-step}
+use Rattle.closure.proofs.Candidates.{before-arc, raises, not-raisable, raisable-start, raisable-step}
 use Rattle.closure.proofs.after_last_raisable.Statement.{statement}
 use Rattle.closure.proofs.after_last_raisable.Tie as tie
 
@@ -19,8 +21,16 @@ abbrev μ-loop : tie.MeasureT-loop
 abbrev part : tie.Start Inv-loop μ-loop → Net
 part s = graph (s .args .tails .now) (s .args .heads .now) (s .args .lows .now) (s .args .ups .now)
 
-slice-aggregate-clear : tie.Need-slice-aggregate-clear Inv-loop μ-loop
-slice-aggregate-clear c = search needs
+-- from the loop's head to the start
+abbrev start : tie.At-loop Inv-loop μ-loop → tie.Start Inv-loop μ-loop
+start c = c .before .before .before .before .before .before .before .before .before .before
+
+-- arc a - 1, in a turn
+low : (c : tie.In-loop Inv-loop μ-loop) → c .before .loop .a - 1 < length (start (c .before) .args .tails .now)
+low c = omega (arith, c .loop-test .taken, c .before .loop .inv .1 .in-range)
+
+behind : (c : tie.In-loop Inv-loop μ-loop) → Closure (part (start (c .before))) (start (c .before) .args .flow .now) (start (c .before) .args .free .now) (suc (c .before .loop .a - 1)) (c .before .loop .rows)
+behind c = before-arc (part (start (c .before))) _ _ (c .before .loop .a) (c .before .loop .rows) (c .loop-test .taken) (c .before .loop .inv .0)
 
 clear-requires : tie.Need-clear-requires Inv-loop μ-loop
 clear-requires c κs = refl
@@ -28,14 +38,14 @@ clear-requires c κs = refl
 loop-holds : tie.Need-loop-holds Inv-loop μ-loop
 loop-holds c = let s = c .before .before .before .before .before .before .before .before .before in (closure-start (part s) (s .args .flow .now) (s .args .free .now) _ (c .before .clear .ensures), raisable-start (part s) (s .args .flow .now) (s .args .free .now))
 
-slice-aggregate-may-raise : tie.Need-slice-aggregate-may-raise Inv-loop μ-loop
-slice-aggregate-may-raise c = sym (c .before .before .loop .inv .0 .preorder .rows-len)
+slice-aggregate-closes-cycle : tie.Need-slice-aggregate-closes-cycle Inv-loop μ-loop
+slice-aggregate-closes-cycle c = sym (c .before .before .loop .inv .0 .preorder .rows-len)
 
-sub-may-raise : tie.Need-sub-may-raise Inv-loop μ-loop
-sub-may-raise c = omega (arith, c .before .loop-test .taken)
+sub-closes-cycle : tie.Need-sub-closes-cycle Inv-loop μ-loop
+sub-closes-cycle c = omega (arith, c .before .loop-test .taken)
 
-may-raise-requires : tie.Need-may-raise-requires Inv-loop μ-loop
-may-raise-requires c κs = let s = c .before .before .before .before .before .before .before .before .before .before .before .before in let a = c .before .before .loop in (s .pre, omega (arith, c .before .loop-test .taken, a .inv .1 .in-range), before-arc (part s) (s .args .flow .now) (s .args .free .now) (a .a) (a .rows) (c .before .loop-test .taken) (a .inv .0))
+closes-cycle-requires : tie.Need-closes-cycle-requires Inv-loop μ-loop
+closes-cycle-requires c κs = let i = c .before in raises (part (start (i .before))) _ _ (start (i .before) .pre) _ (i .before .loop .rows) (low i) (behind i)
 
 returns : tie.Need-returns Inv-loop μ-loop
 returns c = c .before .before .before .before .loop .inv .1
@@ -47,13 +57,20 @@ slice-aggregate-add-arc : tie.Need-slice-aggregate-add-arc Inv-loop μ-loop
 slice-aggregate-add-arc c = sym (c .before .before .before .before .before .loop .inv .0 .preorder .rows-len)
 
 add-arc-requires : tie.Need-add-arc-requires Inv-loop μ-loop
-add-arc-requires c κs = let s = c .before .before .before .before .before .before .before .before .before .before .before .before .before .before .before in let a = c .before .before .before .before .before .loop in let t = c .before .before .before .before .loop-test .taken in (s .pre, omega (arith, a .inv .1 .in-range), before-arc (part s) (s .args .flow .now) (s .args .free .now) (a .a) (a .rows) t (a .inv .0))
+add-arc-requires c κs = let i = c .before .before .before .before in (start (i .before) .pre, low i, behind i)
 
 loop-less : tie.Need-loop-less Inv-loop μ-loop
 loop-less c = omega (arith, c .before .before .before .before .before .before .loop-test .taken)
 
 loop-again : tie.Need-loop-again Inv-loop μ-loop
-loop-again c = let s = c .before .before .before .before .before .before .before .before .before .before .before .before .before .before .before .before .before in let a = c .before .before .before .before .before .before .before .loop in (c .before .add-arc .ensures, raisable-step (part s) (s .args .flow .now) (s .args .free .now) (a .a) (c .before .before .before .before .before .before .loop-test .taken) (a .inv .1) (c .before .before .before .before .may-raise .ensures (c .before .before .before .if1 .left)))
+loop-again c =
+    let i = c .before .before .before .before .before .before in
+    let s = start (i .before) in
+    let l = i .before .loop in (
+      c .before .add-arc .ensures,
+      raisable-step (part s) (s .args .flow .now) (s .args .free .now) (l .a) (i .loop-test .taken) (l .inv .1)
+          (not-raisable (part s) _ _ (s .pre) (l .a - 1) (l .rows) (low i) (behind i) (c .before .before .before .before .closes-cycle .ensures (c .before .before .before .if1 .left))),
+    )
 
 returns-2 : tie.Need-returns-2 Inv-loop μ-loop
 returns-2 c = c .before .loop .inv .1
@@ -64,12 +81,11 @@ after-last-raisable-spec =
     (tie.spec
     Inv-loop
     μ-loop
-    slice-aggregate-clear
-    clear-requires
+    (λ c. search needs) clear-requires
     loop-holds
-    slice-aggregate-may-raise
-    sub-may-raise
-    may-raise-requires
+    slice-aggregate-closes-cycle
+    sub-closes-cycle
+    closes-cycle-requires
     returns
     sub-a
     slice-aggregate-add-arc

@@ -22,15 +22,6 @@ loop-holds c = (refl, omega arith, λ v h. absurd (omega arith))
 only-requires : tie.Need-only-requires Inv-loop μ-loop
 only-requires c κs = omega (arith, c .loop-test .taken, c .before .loop .inv .0, c .before .before .before .pre)
 
-mul-rows : tie.Need-mul-rows Inv-loop μ-loop
-mul-rows c = search needs
-
-slice-write-rows : tie.Need-slice-write-rows Inv-loop μ-loop
-slice-write-rows c = search needs
-
-add-v : tie.Need-add-v Inv-loop μ-loop
-add-v c = search needs
-
 loop-less : tie.Need-loop-less Inv-loop μ-loop
 loop-less c = simp length-set (omega (arith, c .before .loop-test .taken))
 
@@ -51,10 +42,7 @@ clear-spec =
     μ-loop
     loop-holds
     only-requires
-    mul-rows
-    slice-write-rows
-    add-v
-    loop-less
+    (λ c. search needs) (λ c. search needs) (λ c. search needs) loop-less
     loop-again
     same-length
     returns)

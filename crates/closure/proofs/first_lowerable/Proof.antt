@@ -1,14 +1,15 @@
 use mathlib.Core.Path.{refl, sym, subst}
 use mathlib.Core.Logic.{⊎-elim}
-use Prim.Native.Nat.{ℕ, _-_, _≤_, _<_}
+use Prim.Native.Nat.{ℕ, suc, _-_, _≤_, _<_}
 use native.Mathlib.Omega.{arith}
+use lib.ListN.{length}
 use borrow.Author.Needs.{needs}
 use Rattle.network.specs.Network.{Net}
 use Rattle.paths.specs.Graph.{graph}
 use Rattle.closure.specs.Closure.{Closure}
 use Rattle.closure.specs.Candidates.{NoneLowerable}
 use Rattle.closure.proofs.Closure.{closure-start}
-use Rattle.closure.proofs.Candidates.{before-arc, lowerable-start, lowerable-step, lowerable-first, lowerable-from}
+use Rattle.closure.proofs.Candidates.{before-arc, lowers, not-lowerable, lowerable-start, lowerable-step, lowerable-first, lowerable-from}
 use Rattle.closure.proofs.first_lowerable.Statement.{statement}
 use Rattle.closure.proofs.first_lowerable.Tie as tie
 
@@ -21,8 +22,19 @@ abbrev μ-loop : tie.MeasureT-loop
 abbrev part : tie.Start Inv-loop μ-loop → Net
 part s = graph (s .args .tails .now) (s .args .heads .now) (s .args .lows .now) (s .args .ups .now)
 
-slice-aggregate-clear : tie.Need-slice-aggregate-clear Inv-loop μ-loop
-slice-aggregate-clear c = search needs
+-- from the loop's head to the start
+abbrev start : tie.At-loop Inv-loop μ-loop → tie.Start Inv-loop μ-loop
+start c = c .before .before .before .before .before .before .before .before .before .before
+
+-- arc a - 1, in a turn
+some : (c : tie.In-loop Inv-loop μ-loop) → 0 < c .before .loop .a
+some c = omega (arith, c .loop-test .taken)
+
+low : (c : tie.In-loop Inv-loop μ-loop) → c .before .loop .a - 1 < length (start (c .before) .args .tails .now)
+low c = omega (arith, some c, c .before .loop .inv .2 .after, c .before .loop .inv .2 .in-range)
+
+behind : (c : tie.In-loop Inv-loop μ-loop) → Closure (part (start (c .before))) (start (c .before) .args .flow .now) (start (c .before) .args .free .now) (suc (c .before .loop .a - 1)) (c .before .loop .rows)
+behind c = before-arc (part (start (c .before))) _ _ (c .before .loop .a) (c .before .loop .rows) (some c) (c .before .loop .inv .1)
 
 clear-requires : tie.Need-clear-requires Inv-loop μ-loop
 clear-requires c κs = refl
@@ -33,30 +45,34 @@ loop-holds c = let s = c .before .before .before .before .before .before .before
 sub-a : tie.Need-sub-a Inv-loop μ-loop
 sub-a c = omega (arith, c .loop-test .taken)
 
-slice-aggregate-may-lower : tie.Need-slice-aggregate-may-lower Inv-loop μ-loop
-slice-aggregate-may-lower c = sym (c .before .before .loop .inv .1 .preorder .rows-len)
+slice-aggregate-closes-cycle : tie.Need-slice-aggregate-closes-cycle Inv-loop μ-loop
+slice-aggregate-closes-cycle c = sym (c .before .before .loop .inv .1 .preorder .rows-len)
 
-may-lower-requires : tie.Need-may-lower-requires Inv-loop μ-loop
-may-lower-requires c κs = let s = c .before .before .before .before .before .before .before .before .before .before .before .before in let a = c .before .before .loop in let t : 0 < a .a = omega (arith, c .before .loop-test .taken) in (s .pre .0, omega (arith, a .inv .2 .after, a .inv .2 .in-range), before-arc (part s) (s .args .flow .now) (s .args .free .now) (a .a) (a .rows) t (a .inv .1))
+closes-cycle-requires : tie.Need-closes-cycle-requires Inv-loop μ-loop
+closes-cycle-requires c κs = let i = c .before in lowers (part (start (i .before))) _ _ (start (i .before) .pre .0) _ (i .before .loop .rows) (low i) (behind i)
 
 slice-aggregate-add-arc : tie.Need-slice-aggregate-add-arc Inv-loop μ-loop
 slice-aggregate-add-arc c = sym (c .before .before .before .before .before .loop .inv .1 .preorder .rows-len)
 
 add-arc-requires : tie.Need-add-arc-requires Inv-loop μ-loop
-add-arc-requires c κs = let s = c .before .before .before .before .before .before .before .before .before .before .before .before .before .before .before in let a = c .before .before .before .before .before .loop in let t : 0 < a .a = omega (arith, c .before .before .before .before .loop-test .taken) in (s .pre .0, omega (arith, a .inv .2 .after, a .inv .2 .in-range), before-arc (part s) (s .args .flow .now) (s .args .free .now) (a .a) (a .rows) t (a .inv .1))
+add-arc-requires c κs = let i = c .before .before .before .before in (start (i .before) .pre .0, low i, behind i)
 
 loop-less : tie.Need-loop-less Inv-loop μ-loop
 loop-less c = omega (arith, c .before .before .before .before .before .before .loop-test .taken)
 
 loop-again : tie.Need-loop-again Inv-loop μ-loop
-loop-again c = let s = c .before .before .before .before .before .before .before .before .before .before .before .before .before .before .before .before .before in let a = c .before .before .before .before .before .before .before .loop in (
-  omega (arith, c .before .before .before .before .before .before .loop-test .taken),
-  c .before .add-arc .ensures,
-  ⊎-elim
-      (λ w. subst (λ (i : ℕ). NoneLowerable (part s) (s .args .flow .now) (s .args .free .now) (a .a - 1) i) (sym (w .1)) (lowerable-first (part s) (s .args .flow .now) (s .args .free .now) (a .a) (a .first) (a .inv .2)))
-      (λ w. subst (λ (i : ℕ). NoneLowerable (part s) (s .args .flow .now) (s .args .free .now) (a .a - 1) i) (sym (w .1)) (lowerable-step (part s) (s .args .flow .now) (s .args .free .now) (a .a) (a .first) (omega (arith, c .before .before .before .before .before .before .loop-test .taken)) (a .inv .2) (c .before .before .before .before .may-lower .ensures (w .0 .left))))
-      (c .before .before .before .if1 .came),
-)
+loop-again c =
+    let i = c .before .before .before .before .before .before in
+    let s = start (i .before) in
+    let l = i .before .loop in (
+      omega (arith, i .loop-test .taken),
+      c .before .add-arc .ensures,
+      ⊎-elim
+          (λ w. subst (λ (k : ℕ). NoneLowerable (part s) (s .args .flow .now) (s .args .free .now) (l .a - 1) k) (sym (w .1)) (lowerable-first (part s) (s .args .flow .now) (s .args .free .now) (l .a) (l .first) (l .inv .2)))
+          (λ w. subst (λ (k : ℕ). NoneLowerable (part s) (s .args .flow .now) (s .args .free .now) (l .a - 1) k) (sym (w .1)) (lowerable-step (part s) (s .args .flow .now) (s .args .free .now) (l .a) (l .first) (some i) (l .inv .2)
+          (not-lowerable (part s) _ _ (s .pre .0) (l .a - 1) (l .rows) (low i) (behind i) (c .before .before .before .before .closes-cycle .ensures (w .0 .left)))))
+          (c .before .before .before .if1 .came),
+    )
 
 returns : tie.Need-returns Inv-loop μ-loop
 returns c = let s = c .before .before .before .before .before .before .before .before .before .before .before in let a = c .before .loop in lowerable-from (part s) (s .args .flow .now) (s .args .free .now) (s .args .from) (a .a) (a .first) (a .inv .0) (c .loop-test .left) (a .inv .2)
@@ -67,12 +83,11 @@ first-lowerable-spec =
     (tie.spec
     Inv-loop
     μ-loop
-    slice-aggregate-clear
-    clear-requires
+    (λ c. search needs) clear-requires
     loop-holds
     sub-a
-    slice-aggregate-may-lower
-    may-lower-requires
+    slice-aggregate-closes-cycle
+    closes-cycle-requires
     slice-aggregate-add-arc
     add-arc-requires
     loop-less

@@ -4,9 +4,6 @@ use Rattle.closure.proofs.NodeSet.{joined-yes, joined-no}
 use Rattle.closure.proofs.joined.Statement.{statement}
 use Rattle.closure.proofs.joined.Tie as tie
 
-has-requires : tie.Need-has-requires
-has-requires c κs = search needs
-
 returns : tie.Need-returns
 returns c = let s = c .before .before in λ w. joined-yes (s .args .s) (s .args .t) (s .args .p) w (sym (c .before .has .ensures) ∙ c .if1 .taken)
 
@@ -14,4 +11,4 @@ returns-2 : tie.Need-returns-2
 returns-2 c = let s = c .before .before in λ w. joined-no (s .args .s) (s .args .t) (s .args .p) w (sym (c .before .has .ensures) ∙ c .if1 .left)
 
 pub joined-spec : {M : Type 1} → statement M
-joined-spec = tie.close (tie.spec has-requires returns returns-2)
+joined-spec = tie.close (tie.spec (λ c κs. search needs) returns returns-2)

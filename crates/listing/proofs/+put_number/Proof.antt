@@ -1,4 +1,4 @@
--- `listing::put_number` meets its contract: the number falls at each call. Assumes nothing.
+-- The number falls at each call.
 use Prim.Native.Nat.{ℕ, _+_, _/_, _%_, _≤_, _<_}
 use mathlib.Core.Path.{_≡_, ap}
 use mathlib.Core.List.{List}

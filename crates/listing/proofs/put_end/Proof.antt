@@ -1,23 +1,16 @@
--- `listing::put_end` meets its contract. Assumes nothing.
 use borrow.Author.Needs.{needs}
 use Rattle.text.specs.Reader.{bytes}
 use Rattle.listing.specs.Lines.{endLine}
 use Rattle.listing.proofs.put_end.Statement.{statement}
 use Rattle.listing.proofs.put_end.Tie as tie
 
-slice-aggregate-put-row : tie.Need-slice-aggregate-put-row
-slice-aggregate-put-row c = search needs
-
 put-row-requires : tie.Need-put-row-requires
 unfolding bytes endLine
 put-row-requires c κs = c .before .before .before .pre
-
-same-length : tie.Need-same-length
-same-length c = search needs
 
 returns : tie.Need-returns
 unfolding bytes endLine
 returns c = c .before .before .put-row .ensures
 
 pub put-end-spec : {M : Type 1} → statement M
-put-end-spec = tie.close (tie.spec slice-aggregate-put-row put-row-requires same-length returns)
+put-end-spec = tie.close (tie.spec (λ c. search needs) put-row-requires (λ c. search needs) returns)

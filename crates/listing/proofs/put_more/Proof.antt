@@ -1,23 +1,16 @@
--- `listing::put_more` meets its contract. Assumes nothing.
 use borrow.Author.Needs.{needs}
 use Rattle.text.specs.Reader.{bytes}
 use Rattle.listing.specs.Lines.{moreLine}
 use Rattle.listing.proofs.put_more.Statement.{statement}
 use Rattle.listing.proofs.put_more.Tie as tie
 
-slice-aggregate-put-text : tie.Need-slice-aggregate-put-text
-slice-aggregate-put-text c = search needs
-
 put-text-requires : tie.Need-put-text-requires
 unfolding bytes moreLine
 put-text-requires c κs = c .before .before .before .pre
-
-same-length : tie.Need-same-length
-same-length c = search needs
 
 returns : tie.Need-returns
 unfolding bytes moreLine
 returns c = c .before .before .put-text .ensures
 
 pub put-more-spec : {M : Type 1} → statement M
-put-more-spec = tie.close (tie.spec slice-aggregate-put-text put-text-requires same-length returns)
+put-more-spec = tie.close (tie.spec (λ c. search needs) put-text-requires (λ c. search needs) returns)

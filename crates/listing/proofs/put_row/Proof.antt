@@ -1,4 +1,4 @@
--- `listing::put_row` meets its contract: a text, a number and a text, one after another. Assumes nothing.
+-- A text, a number and a text, one after another.
 use borrow.Author.Needs.{needs}
 use mathlib.Core.List.{_++_}
 use Rattle.text.specs.Reader.{bytes}
@@ -17,9 +17,6 @@ put-number-requires c κs =
     let start = c .before .before .before .before .before .before .before in
     room-next (start .args .head .now) (decimal (start .args .n)) (room-first (start .args .head .now ++ decimal (start .args .n)) (bytes ")\n") _ _ (start .pre)) (c .before .before .before .put-text .ensures)
 
-slice-aggregate-put-text : tie.Need-slice-aggregate-put-text
-slice-aggregate-put-text c = search needs
-
 put-text-requires-2 : tie.Need-put-text-requires-2
 unfolding bytes
 put-text-requires-2 c κs =
@@ -27,9 +24,6 @@ put-text-requires-2 c κs =
     let headed = named .before .before .before .before in
     let start = headed .before .before .before .before in
     room-next (start .args .head .now ++ decimal (start .args .n)) (bytes ")\n") (start .pre) (appended-then (headed .put-text .ensures) (named .put-number .ensures))
-
-same-length : tie.Need-same-length
-same-length c = search needs
 
 returns : tie.Need-returns
 unfolding bytes
@@ -45,7 +39,5 @@ put-row-spec =
     (tie.spec
     put-text-requires
     put-number-requires
-    slice-aggregate-put-text
-    put-text-requires-2
-    same-length
-    returns)
+    (λ c. search needs) put-text-requires-2
+    (λ c. search needs) returns)

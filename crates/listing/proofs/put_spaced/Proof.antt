@@ -1,13 +1,9 @@
--- `listing::put_spaced` meets its contract. Assumes nothing.
 use borrow.Author.Needs.{needs}
 use Rattle.text.specs.Reader.{bytes}
 use Rattle.listing.specs.Lines.{decimal}
 use Rattle.listing.proofs.Pieces.{appended-then, room-first, room-next}
 use Rattle.listing.proofs.put_spaced.Statement.{statement}
 use Rattle.listing.proofs.put_spaced.Tie as tie
-
-slice-aggregate-put-text : tie.Need-slice-aggregate-put-text
-slice-aggregate-put-text c = search needs
 
 put-text-requires : tie.Need-put-text-requires
 unfolding bytes
@@ -19,14 +15,9 @@ put-number-requires c κs =
     let start = c .before .before .before .before .before .before .before in
     room-next (bytes " ") (decimal (start .args .n)) (start .pre) (c .before .before .before .put-text .ensures)
 
-same-length : tie.Need-same-length
-same-length c = search needs
-
 returns : tie.Need-returns
 unfolding bytes
 returns c = appended-then (c .before .before .before .before .before .before .put-text .ensures) (c .before .before .put-number .ensures)
 
 pub put-spaced-spec : {M : Type 1} → statement M
-put-spaced-spec =
-    tie.close
-    (tie.spec slice-aggregate-put-text put-text-requires put-number-requires same-length returns)
+put-spaced-spec = tie.close (tie.spec (λ c. search needs) put-text-requires put-number-requires (λ c. search needs) returns)

@@ -1,4 +1,4 @@
--- `listing::put_text` meets its contract. The invariant: the first i bytes are written. Assumes nothing.
+-- The invariant: the first i bytes are written.
 use Prim.Native.Nat.{ℕ, _+_, _-_, _≤_, _<_}
 use mathlib.Core.Path.{_≡_}
 use mathlib.Core.List.{List, []}

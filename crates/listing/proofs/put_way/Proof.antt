@@ -1,4 +1,4 @@
--- `listing::put_way` meets its contract. The invariant: the first i predecessors are written after the head. Assumes nothing.
+-- The invariant: the first i predecessors are written after the head.
 use Prim.Native.Nat.{ℕ, _+_, _-_, _≤_, _<_}
 use mathlib.Core.Path.{refl, ap, subst}
 use mathlib.Core.List.{List, _++_}

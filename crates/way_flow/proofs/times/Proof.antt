@@ -4,7 +4,7 @@ use Prim.Native.Nat.{_-_}
 use native.Mathlib.Omega.{arith}
 use lib.ListN.{getD}
 use borrow.Author.Needs.{needs}
-use Rattle.allocation.proofs.Weights.{hit-small}
+use Rattle.allocation.proofs.Hits.{hit-small}
 use Rattle.way_flow.proofs.Laying.{Counting, counting-start, counting-on, counting-done}
 
 abbrev Inv-loop : tie.InvT-loop
@@ -21,9 +21,6 @@ mul-hit c = omega (arith, c .before .before .before .pre)
 
 shared-slice-read-hit : tie.Need-shared-slice-read-hit Inv-loop μ-loop
 shared-slice-read-hit c = omega arith
-
-hit-requires : tie.Need-hit-requires Inv-loop μ-loop
-hit-requires c κs = search needs
 
 add-n : tie.Need-add-n Inv-loop μ-loop
 add-n c = omega (arith, c .before .before .before .loop .inv .few, c .hit .ensures, hit-small (getD (c .before .before .before .before .before .args .way .now) (c .before .before .before .loop .k) 0) (c .before .before .before .before .before .args .i), c .before .before .before .before .before .pre)
@@ -49,8 +46,7 @@ times-spec =
     loop-holds
     mul-hit
     shared-slice-read-hit
-    hit-requires
-    add-n
+    (λ c κs. search needs) add-n
     add-k
     loop-less
     loop-again

@@ -34,9 +34,6 @@ sub-joins c = omega (arith, long (c .before .before .before))
 loop-holds : tie.Need-loop-holds Inv-loop μ-loop
 loop-holds c = noting-start _ _ _ _
 
-slice-aggregate-note : tie.Need-slice-aggregate-note Inv-loop μ-loop
-slice-aggregate-note c = search needs
-
 shared-slice-read-note : tie.Need-shared-slice-read-note Inv-loop μ-loop
 shared-slice-read-note c = omega (arith, long (c .before .before .before .before .before .before .before))
 
@@ -82,8 +79,7 @@ way-of-spec =
     add-joins
     sub-joins
     loop-holds
-    slice-aggregate-note
-    shared-slice-read-note
+    (λ c. search needs) shared-slice-read-note
     shared-slice-read-note-2
     mul-note
     shared-slice-read-note-3

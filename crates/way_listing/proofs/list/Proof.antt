@@ -34,9 +34,6 @@ cost-of c b walks = toZ-ofZ {w = w64} {z = c .before .before .before .before .be
 cost-low : (c : tie.After-put-cost-arg) → let b = c .before .before .before .before .before .before .before .pre .0 .book in wayCost b (shown b (c .before .before .before .before .before .first .result)) ≤ 28000000
 cost-low c = let h = c .before .before .before .before .before .before .before .pre .0 in cost-few (h .book) None (c .before .before .before .before .before .first .result) (first-at (c .before .before .before .before .before) (h .book) (h .walks)) (c .before .before .enum-told .given .1)
 
-first-requires : tie.Need-first-requires
-first-requires c κs = search needs
-
 enum-told : tie.Need-enum-told
 enum-told c = search needs
 
@@ -56,9 +53,6 @@ list-from-requires c κs = let s = c .before .before .before .before .before .be
 put-none-requires : tie.Need-put-none-requires
 put-none-requires c κs = omega (arith, c .before .before .before .before .before .pre .1, none-size)
 
-same-length : tie.Need-same-length
-same-length c = search needs
-
 returns : tie.Need-returns
 returns c = let k = c .before .before .before .before .before .before in let p = k .put-cost in let l = c .before .before .list-from in
     record {
@@ -66,9 +60,6 @@ returns c = let k = c .before .before .before .before .before .before in let p =
           subst (λ (t : List ℕ). Appended (c .before .before .before .before .before .before .before .before .before .before .before .before .before .before .args .out .now) 0 t (l .last .1 .0) (l .result)) (ap (λ z. costLine (natAbs z) ++ allLines b) (cost-of (k .before) b walks) ∙ text-of b w (first-is b None (c .before .before .before .before .before .before .before .before .before .before .before .before .first .result) a (c .before .before .before .before .before .before .before .before .before .enum-told .given .1)))
           (appended-then (p .ensures) (l .ensures .each b (a .walks) (a .way-is))));
     }
-
-same-length-2 : tie.Need-same-length-2
-same-length-2 c = search needs
 
 returns-2 : tie.Need-returns-2
 returns-2 c = let f = c .before .before .put-none in
@@ -81,13 +72,10 @@ pub list-spec : {M : Type 1} → statement M
 list-spec =
     tie.close
     (tie.spec
-    first-requires
-    enum-told
+    (λ c κs. search needs) enum-told
     cast-put-cost
     put-cost-requires
     list-from-requires
     put-none-requires
-    same-length
-    returns
-    same-length-2
-    returns-2)
+    (λ c. search needs) returns
+    (λ c. search needs) returns-2)

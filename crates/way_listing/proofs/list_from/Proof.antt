@@ -29,9 +29,6 @@ loop-holds c = let s = c .before in
 put-more-requires : tie.Need-put-more-requires Inv-loop μ-loop
 put-more-requires c κs = let s = c .before .before .before .before in let i = c .before .before .loop .inv in omega (arith, i .0, i .2, s .pre .2, more-size, c .before .if1 .taken)
 
-same-length : tie.Need-same-length Inv-loop μ-loop
-same-length c = search needs
-
 returns : tie.Need-returns Inv-loop μ-loop
 returns c = let s = c .before .before .before .before .before .before .before in let l = c .before .before .before .before .before .loop in let m = c .before .before .put-more in let full = c .before .before .before .before .if1 .taken in
     record {
@@ -41,9 +38,6 @@ returns c = let s = c .before .before .before .before .before .before .before in
 
 list-one-requires : tie.Need-list-one-requires Inv-loop μ-loop
 list-one-requires c κs = let s = c .before .before .before .before in let i = c .before .before .loop .inv in (i .4, i .3, omega (arith, i .0, i .1, i .2, s .pre .2, c .before .if1 .left))
-
-add-n : tie.Need-add-n Inv-loop μ-loop
-add-n c = search needs
 
 next-requires : tie.Need-next-requires Inv-loop μ-loop
 next-requires c κs = c .before .before .before .before .before .loop .inv .4
@@ -72,9 +66,6 @@ put-end-requires : tie.Need-put-end-requires Inv-loop μ-loop
 put-end-requires c κs = let s = c .before .before .before .before .before .before .before .before .before .before .before in let l = c .before .before .before .before .before .before .before .before .before .loop in let one = c .before .before .before .before .before .before .list-one in
     omega (arith, l .inv .0, l .inv .1, l .inv .2, s .pre .2, one .kept .1 .0, one .ensures .0, c .before .before .before .before .before .before .before .before .if1 .left, end-size (l .n + 1) (omega (arith, l .inv .1, c .before .before .before .before .before .before .before .before .if1 .left)))
 
-same-length-2 : tie.Need-same-length-2 Inv-loop μ-loop
-same-length-2 c = search needs
-
 returns-2 : tie.Need-returns-2 Inv-loop μ-loop
 returns-2 c = let s = c .before .before .before .before .before .before .before .before .before .before .before .before .before .before in let l = c .before .before .before .before .before .before .before .before .before .before .before .before .loop in let one = c .before .before .before .before .before .before .before .before .before .list-one in let m = c .before .before .before .before .before .before .next in let f = c .before .before .put-end in
     record {
@@ -91,14 +82,11 @@ list-from-spec =
     μ-loop
     loop-holds
     put-more-requires
-    same-length
-    returns
+    (λ c. search needs) returns
     list-one-requires
-    add-n
-    next-requires
+    (λ c. search needs) next-requires
     enum-told
     loop-less
     loop-again
     put-end-requires
-    same-length-2
-    returns-2)
+    (λ c. search needs) returns-2)

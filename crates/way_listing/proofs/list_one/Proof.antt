@@ -12,21 +12,12 @@ use Rattle.way_listing.proofs.list_one.Tie as tie
 in-way : (c : tie.After-way) → c .before .before .args .walk .entries ≤ length (c .way .result)
 in-way c = search needs
 
-way-requires : tie.Need-way-requires
-way-requires c κs = search needs
-
-array-share-prefix-way : tie.Need-array-share-prefix-way
-array-share-prefix-way c = search needs
-
 slice-aggregate-put-way : tie.Need-slice-aggregate-put-way
 slice-aggregate-put-way c = let s = c .before .before .before .before in sym (length-take-le (s .args .walk .entries) (c .before .before .way .result) (in-way (c .before .before)))
 
 put-way-requires : tie.Need-put-way-requires
 put-way-requires c κs = let s = c .before .before .before .before in let w = c .before .before .way in let h = s .pre .0 in
     omega (arith, s .pre .2, ap (λ v. length (wayLine v)) (told (h .book) (s .args .walk) (s .pre .1) (h .walks) (w .result) (w .ensures)), line-short (h .book) (s .args .walk) (s .pre .1) (h .walks))
-
-same-length : tie.Need-same-length
-same-length c = search needs
 
 returns : tie.Need-returns
 returns c = let s = c .before .before .before .before .before .before .before in let w = c .before .before .before .before .before .way in let k = c .before .before .put-way in let h = s .pre .0 in (
@@ -38,9 +29,6 @@ pub list-one-spec : {M : Type 1} → statement M
 list-one-spec =
     tie.close
     (tie.spec
-    way-requires
-    array-share-prefix-way
-    slice-aggregate-put-way
+    (λ c κs. search needs) (λ c. search needs) slice-aggregate-put-way
     put-way-requires
-    same-length
-    returns)
+    (λ c. search needs) returns)

@@ -1,55 +1,65 @@
--- Weighted sums of a list of numbers that stands beside another list: what arcs carry into a node, what a flow costs.
-use mathlib.Core.Path.{_≡_, refl, sym, ap, _∙_}
+-- Totals of lists of numbers, and totals weighted by the members of a list that stands beside the numbers.
+use mathlib.Core.Path.{_≡_, refl, ap}
 use mathlib.Core.Logic.{inl, inr}
-use mathlib.Core.Bool.{Bool, true, false}
 use mathlib.Core.List.{List, [], _∷_, _++_, map}
-use Prim.Native.Nat.{ℕ, zero, suc, _+_, _*_, _≤_, _<_}
+use Prim.Native.Nat.{ℕ, zero, suc, _+_, _*_, _-_, _≤_, _<_}
 use native.Mathlib.Omega.{arith}
-use native.Mathlib.Nat.{suc-inj}
-use native.Mathlib.Decide.{ℕ-discrete}
-use lib.Dec.{eqb}
+use native.Mathlib.Nat.{suc-inj, add-zero, add-suc}
 use lib.ListN.{length, getD}
 use lib.IntN.{ℤ, pos, _+ℤ_, pos-+ℤ-pos}
 use Rattle.laws.specs.Linear.{lin, given}
 use Rattle.laws.specs.Sum.{sum}
-use Rattle.laws.specs.Members.{_∈_, every-member}
-use Rattle.laws.specs.Ascending.{Ascending}
+use Rattle.laws.specs.Members.{_∈_}
 use Rattle.laws.specs.Within.{from, from-member}
-use Rattle.laws.specs.Equality.{test-same, test-differ}
-use Rattle.allocation.specs.Ways.{oneIf}
-use Rattle.allocation.specs.WayFlow.{hit, marked}
-
-pub hit-same : (m n : ℕ) → m ≡ n → hit m n ≡ 1
-hit-same m n q = go (eqb m n) refl
-  where
-    go : (t : Bool) → eqb m n ≡ t → oneIf t ≡ 1
-    go true e = refl
-    go false e = absurd (test-differ m n e q)
-
-pub hit-other : (m n : ℕ) → ¬ (m ≡ n) → hit m n ≡ 0
-hit-other m n q = go (eqb m n) refl
-  where
-    go : (t : Bool) → eqb m n ≡ t → oneIf t ≡ 0
-    go true e = absurd (q (test-same m n e))
-    go false e = refl
-
-pub hit-iff : (m n k l : ℕ) → (m ≡ n → k ≡ l) → (k ≡ l → m ≡ n) → hit m n ≡ hit k l
-hit-iff m n k l f g = go (ℕ-discrete m n)
-  where
-    go : Dec (m ≡ n) → hit m n ≡ hit k l
-    go (yes q) = hit-same m n q ∙ sym (hit-same k l (f q))
-    go (no q) = hit-other m n q ∙ sym (hit-other k l (λ r. q (g r)))
-
-pub hit-small : (m n : ℕ) → hit m n ≤ 1
-hit-small m n = go (eqb m n)
-  where
-    go : (t : Bool) → oneIf t ≤ 1
-    go true = omega arith
-    go false = omega arith
 
 abbrev pub total : List ℕ → ℕ
 total [] = 0
 total (x ∷ f) = x + total f
+
+-- of φ over a list
+abbrev pub totalOf : (ℕ → ℕ) → List ℕ → ℕ
+totalOf φ l = total (map φ l)
+
+pub total-add : (φ χ : ℕ → ℕ) (l : List ℕ) → totalOf (λ a. φ a + χ a) l ≡ totalOf φ l + totalOf χ l
+total-add φ χ [] = refl
+total-add φ χ (a ∷ l) = let h = total-add φ χ l in omega arith
+
+pub total-none : (φ : ℕ → ℕ) (l : List ℕ) → ((a : ℕ) → a ∈ l → φ a ≡ 0) → totalOf φ l ≡ 0
+total-none φ [] h = refl
+total-none φ (a ∷ l) h = let u = h a (inl refl) in let v = total-none φ l (λ b m. h b (inr m)) in omega arith
+
+pub total-ones : (φ : ℕ → ℕ) (l : List ℕ) → ((a : ℕ) → a ∈ l → φ a ≤ 1) → totalOf φ l ≤ length l
+total-ones φ [] h = omega arith
+total-ones φ (a ∷ l) h = let k = total-ones φ l (λ b m. h b (inr m)) in let u = h a (inl refl) in omega arith
+
+-- where φ is at most 1, as many are left as it misses
+pub total-rest : (φ : ℕ → ℕ) (l : List ℕ) → ((a : ℕ) → a ∈ l → φ a ≤ 1) → totalOf (λ a. 1 - φ a) l + totalOf φ l ≡ length l
+total-rest φ [] h = refl
+total-rest φ (a ∷ l) h = let u = h a (inl refl) in let v = total-rest φ l (λ b m. h b (inr m)) in omega arith
+
+pub total-last : (φ : ℕ → ℕ) (n s : ℕ) → totalOf φ (from (suc n) s) ≡ totalOf φ (from n s) + φ (s + n)
+total-last φ zero s = let e : φ (s + 0) ≡ φ s = ap φ (omega arith) in omega arith
+total-last φ (suc n) s = let h = total-last φ n (suc s) in let e : φ (suc s + n) ≡ φ (s + suc n) = ap φ (omega arith) in omega arith
+
+-- 0 + 1 + .. + (n − 1)
+abbrev pub triangle : ℕ → ℕ
+triangle zero = 0
+triangle (suc n) = triangle n + n
+
+pub triangle-mono : (n m : ℕ) → triangle n ≤ triangle (n + m)
+triangle-mono n zero = rw add-zero (omega arith)
+triangle-mono n (suc m) = let h = triangle-mono n m in rw add-suc (omega arith)
+
+-- what holds at most one way between two numbers holds for at most that many pairs
+pub square : (r : ℕ → ℕ → ℕ) (l : List ℕ) → ((i j : ℕ) → i ∈ l → j ∈ l → r i j + r j i ≤ 1) → totalOf (λ j. totalOf (λ i. r i j) l) l ≤ triangle (length l)
+square r [] h = omega arith
+square r (x ∷ l) h =
+    let deep = square r l (λ i j m n. h i j (inr m) (inr n)) in
+    let side = total-add (λ j. r x j) (λ j. totalOf (λ i. r i j) l) l in
+    let both = total-add (λ j. r x j) (λ j. r j x) l in
+    let most = total-ones (λ j. r x j + r j x) l (λ j m. h x j (inl refl) (inr m)) in
+    let self = h x x (inl refl) (inl refl) in
+    omega arith
 
 sum-first : (n : ℕ) (f : ℕ → ℤ) → sum (suc n) f ≡ f 0 +ℤ sum n (λ i. f (suc i))
 sum-first zero f = simp lin (omega arith)
@@ -107,19 +117,3 @@ weigh-from φ (suc n) s (x ∷ f) e (suc k) h one none =
       none s (omega arith) (λ z. omega arith),
       weigh-from φ n (suc s) f (suc-inj e) k (omega arith) (rw q at one) (λ j b z. none j (omega arith) (λ r. z (omega arith))),
     ) (omega arith)
-
--- a list that falls, and the place of p in it
-abbrev pub Above : ℕ → ℕ → Type 0
-Above a b = b < a
-
-pub marked-none : (φ : ℕ → ℕ) (l : List ℕ) (p : ℕ) → ((a : ℕ) → a ∈ l → ¬ (a ≡ p)) → weigh φ l (marked p l) ≡ 0
-marked-none φ [] p h = refl
-marked-none φ (a ∷ l) p h = rw (hit-other a p (h a (inl refl)), marked-none φ l p (λ b m. h b (inr m))) (omega arith)
-
-pub marked-one : (φ : ℕ → ℕ) (l : List ℕ) (p : ℕ) → Ascending Above l → p ∈ l → weigh φ l (marked p l) ≡ φ p
-marked-one φ [] p h m = absurd m
-marked-one φ (a ∷ l) p h (inl q) =
-    rw (hit-same a p (sym q), marked-none φ l p (λ b m. (let g = every-member (Above a) l (h .0) b m in λ z. omega arith)), q) (omega arith)
-marked-one φ (a ∷ l) p h (inr m) =
-    let g = every-member (Above a) l (h .0) p m in
-    rw (hit-other a p (λ z. omega arith), marked-one φ l p (h .1) m) (omega arith)
