@@ -10,8 +10,7 @@ use Rattle.book.specs.Book.{opening, book, whole, parse}
 use Rattle.book.specs.Questions.{refusal}
 use Rattle.book.specs.Name.{nameRefusal, nameOf}
 
-sample : List ℕ
-unfolding bytes
+abbrev pub sample : List ℕ
 sample =
     bytes "(book\n(players 2)\n(fee 6)\n(move 1 2 24 3)\n(move 2 1 24 3)\n(entry (name snare) 1 0 96)\n(entry (name xylo) 2 120 200)\n(entry (name snare2) 1 240 300)\n)\n"
 
@@ -25,13 +24,13 @@ sample-read : parse sample ≡ some (record {
       ∷ record { name = bytes "snare2"; left = 21; instrument = 1; start = 240; finish = 300 }
       ∷ [];
 })
-unfolding sample bytes after _>>=_ _>>_ give guard remaining begins text front run valueFrom number word row more upTo many move entry opening book whole parse
+unfolding bytes after _>>=_ _>>_ give guard remaining begins text front run valueFrom number word row more upTo many move entry opening book whole parse
 sample-read = refl
 
 sample-accepted : refusal sample ≡ 0
-unfolding sample bytes after _>>=_ _>>_ give guard remaining begins text front run valueFrom number word row more upTo many move entry opening book whole parse moves all
+unfolding bytes after _>>=_ _>>_ give guard remaining begins text front run valueFrom number word row more upTo many move entry opening book whole parse moves all
 sample-accepted = refl
 
 sample-named : (nameOf sample 2 ≡ bytes "xylo") × (nameRefusal sample 4 ≡ 19)
-unfolding sample bytes after _>>=_ _>>_ give guard remaining begins text front run valueFrom number word row more upTo many move entry opening book whole parse moves all
+unfolding bytes after _>>=_ _>>_ give guard remaining begins text front run valueFrom number word row more upTo many move entry opening book whole parse moves all
 sample-named = (refl, refl)

@@ -1,0 +1,4 @@
+pub mod BookRun
+pub mod FirstWay
+mod BookEntries
+mod BookExamples

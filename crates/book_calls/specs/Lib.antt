@@ -1,0 +1,3 @@
+pub mod BookCalls
+pub mod BookRun
+pub mod FirstWay

@@ -1,0 +1,34 @@
+-- Document 01's example book and others, as bytes: what `ways` prints.
+use mathlib.Core.Path.{_≡_, refl}
+use Rattle.text.specs.Reader.{after, _>>=_, _>>_, give, guard, remaining, bytes, begins, text, front, run, valueFrom, number, word, row, more, upTo, many}
+use Rattle.lines.specs.Lines.{move, entry}
+use Rattle.lines.specs.Questions as lines
+use Rattle.book.specs.Book.{opening, book, whole, parse}
+use Rattle.book.proofs.Example.{sample}
+use Rattle.allocation.specs.FullWays.{wayList, fullWays}
+use Rattle.listing.specs.Lines.{digits, decimal, spaced, costLine, wayLine, endLine, moreLine, noneLine, refusedLine}
+use Rattle.book_listing.specs.Listing.{listing}
+
+-- "prints"
+prints : listing sample ≡ bytes "(cost 12)\n(way 0 0 1)\n(way 0 1 2)\n(end 2)\n"
+unfolding wayList fullWays bytes after _>>=_ _>>_ give guard remaining begins text front run valueFrom number word row more upTo many move entry opening book whole parse lines.moves lines.all digits decimal spaced costLine wayLine endLine moreLine noneLine refusedLine
+prints = refl
+
+-- "With one player and snare ending at 97: none."
+prints-none : listing (bytes "(book\n(players 1)\n(fee 6)\n(move 1 2 24 3)\n(move 2 1 24 3)\n(entry (name snare) 1 0 97)\n(entry (name xylo) 2 120 200)\n(entry (name snare2) 1 240 300)\n)\n") ≡ bytes "(none)\n"
+unfolding wayList fullWays bytes after _>>=_ _>>_ give guard remaining begins text front run valueFrom number word row more upTo many move entry opening book whole parse lines.moves lines.all digits decimal spaced costLine wayLine endLine moreLine noneLine refusedLine
+prints-none = refl
+
+-- "No entries: `(cost 0)`, `(way)`, `(end 1)`."
+no-entries : listing (bytes "(book\n(players 1)\n(fee 6)\n)\n") ≡ bytes "(cost 0)\n(way)\n(end 1)\n"
+unfolding wayList fullWays bytes after _>>=_ _>>_ give guard remaining begins text front run valueFrom number word row more upTo many move entry opening book whole parse lines.moves lines.all digits decimal spaced costLine wayLine endLine moreLine noneLine refusedLine
+no-entries = refl
+
+-- no players; nothing closes the book
+prints-refusals : listing (bytes "(book\n(players 0)\n(fee 6)\n)\n") ≡ bytes "(refused 13)\n"
+unfolding wayList fullWays bytes after _>>=_ _>>_ give guard remaining begins text front run valueFrom number word row more upTo many move entry opening book whole parse lines.moves lines.all digits decimal spaced costLine wayLine endLine moreLine noneLine refusedLine
+prints-refusals = refl
+
+prints-malformed : listing (bytes "(book\n(players 1)\n(fee 6)\n") ≡ bytes "(refused 12)\n"
+unfolding wayList fullWays bytes after _>>=_ _>>_ give guard remaining begins text front run valueFrom number word row more upTo many move entry opening book whole parse lines.moves lines.all digits decimal spaced costLine wayLine endLine moreLine noneLine refusedLine
+prints-malformed = refl

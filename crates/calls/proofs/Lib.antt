@@ -1,0 +1,5 @@
+pub mod Lines
+pub mod Turns
+pub mod Places
+pub mod Room
+pub mod Given

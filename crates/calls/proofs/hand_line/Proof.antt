@@ -1,0 +1,26 @@
+use mathlib.Core.Path.{ap, _∙_}
+use mir.Facts.{toZ-ofZ}
+use lib.ListN.{take}
+use Rattle.bytes32.specs.Words.{encodeWords, over}
+use Rattle.calls.proofs.Room.{room-fits}
+use borrow.Author.Needs.{needs}
+use Rattle.calls.proofs.hand_line.Statement.{statement}
+use Rattle.calls.proofs.hand_line.Tie as tie
+
+write-words-requires : tie.Need-write-words-requires
+write-words-requires c κs = search needs
+
+same-length : tie.Need-same-length
+same-length c = search needs
+
+returns : tie.Need-returns
+returns c =
+    let w = c .before .before in
+    let s = w .before .before .before .before in
+    let a = s .args in (
+      rw (toZ-ofZ (s .fits .cost)),
+      w .write-words .ensures ∙ ap (λ n. over (encodeWords (take n (a .numbers .now))) (a .out .now)) (room-fits (a .k) (a .out .now) (s .pre)),
+    )
+
+pub hand-line-spec : {M : Type 1} → statement M
+hand-line-spec = tie.close (tie.spec write-words-requires same-length returns)

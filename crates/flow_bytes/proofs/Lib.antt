@@ -1,0 +1,3 @@
+pub mod NetworkLines
+pub mod NetworkBytes
+mod Prices

@@ -1,0 +1,65 @@
+use mathlib.Core.Path.{_≡_, sym, ap, _∙_}
+use mathlib.Core.Bool.{false, cond}
+use mathlib.Core.Option.{none, some}
+use Prim.Native.Nat.{_*_}
+use lib.ListN.{length, take}
+use Rattle.laws.specs.Padded.{padded}
+use Rattle.bytes32.specs.Words.{words}
+use Rattle.network.specs.Network.{arcs}
+use Rattle.network.specs.FullList.{fullList}
+use Rattle.network.specs.Checked.{netIn}
+use Rattle.calls.specs.ByteLists.{listed}
+use Rattle.network.proofs.FullList.{full-member}
+use Rattle.enumerator.specs.Enumerator.{lineAt, lineOf, flowIn}
+use Rattle.calls.proofs.Lines.{every-at, other-length}
+use Rattle.flow_bytes.proofs.NetworkLines.{full-flows}
+use Rattle.calls.proofs.Given.{read-all, found}
+use Rattle.calls.proofs.Places.{off-line}
+use borrow.Author.Needs.{needs}
+use Rattle.flow_bytes.proofs.find.Statement.{statement}
+use Rattle.flow_bytes.proofs.find.Tie as tie
+
+mul-if1 : tie.Need-mul-if1
+mul-if1 c = search needs
+
+start-requires : tie.Need-start-requires
+start-requires c κs = search needs
+
+returns : tie.Need-returns
+returns c =
+    let a = c .before .before .before in
+    let N = netIn (a .args .net) in
+    let g = a .args .given .now in
+    let (stands, same, start) = c .start .ensures in
+    let e : listed g (fullList N) ≡ false = other-length (arcs N) (fullList N) (full-flows N (a .pre .accepted)) g (λ q. c .before .if1 .taken (q ∙ ap (λ k. 4 * k) (sym (a .pre .arcs-held)))) in
+    (stands, same, ap (λ p. lineAt p (flowIn (c .start .result))) start ∙ sym (ap (λ t. cond t (some (words g)) none) e))
+
+read-words-requires : tie.Need-read-words-requires
+read-words-requires c κs = search needs
+
+resume-requires : tie.Need-resume-requires
+resume-requires c κs = search needs
+
+returns-2 : tie.Need-returns-2
+returns-2 c =
+    let a = c .before .before .before .before in
+    let s = a .args .net in
+    let N = netIn s in
+    let g = a .args .given .now in
+    let (stands, same, resumes) = c .resume .ensures in
+    let e : length g ≡ 4 * arcs N = c .before .before .if1 .left ∙ ap (λ k. 4 * k) (a .pre .arcs-held) in
+    let q : take (s .arcs) (c .before .read-words .result) ≡ words g =
+    ap (λ l. take (s .arcs) l) (c .before .read-words .ensures) ∙ ap (λ k. take k (padded 512 0 (take 512 (words g)))) (a .pre .arcs-held) ∙ read-all (arcs N) (a .pre .accepted .few-arcs) g e in
+    let r = c .resume .result in
+    let member = full-member N (a .pre .accepted .well-formed) (words g) in (
+      stands,
+      same,
+      found (arcs N) (fullList N) (full-flows N (a .pre .accepted)) g (every-at g 256 (λ i h. c .before .before .before .shared-slice-known .given i .fits)) e (r .place) (lineOf r)
+          (λ p. (ap (λ x. lineAt x (flowIn r)) p ∙ ap some (resumes .on p .0 ∙ q), member .1 (rw q at (resumes .on p .1))))
+          (λ n. (off-line (r .place) (flowIn r) n, λ m. resumes .off n (rw q (member .0 m)))),
+    )
+
+pub find-spec : {M : Type 1} → statement M
+find-spec =
+    tie.close
+    (tie.spec mul-if1 start-requires returns read-words-requires resume-requires returns-2)

@@ -1,0 +1,60 @@
+use mathlib.Core.Path.{_≡_, refl, sym, subst, _∙_}
+use mathlib.Core.Option.{none, some}
+use mir.Syntax.{w64}
+use mir.Facts.{toZ-ofZ}
+use borrow.Author.Tests.{not-true, not-false}
+use Rattle.network.specs.Network.{costOf}
+use Rattle.network.specs.Checked.{netIn}
+use Rattle.enumerator.specs.Enumerator.{lineOf, flowIn}
+use Rattle.calls.specs.Replies.{HandedOut}
+use Rattle.calls.proofs.Places.{no-line, a-line}
+use borrow.Author.Needs.{needs}
+use Rattle.flow_bytes.proofs.hand_out.Statement.{statement}
+use Rattle.flow_bytes.proofs.hand_out.Tie as tie
+
+on-line-requires : tie.Need-on-line-requires
+on-line-requires c κs = search needs
+
+word-requires : tie.Need-word-requires
+word-requires c κs = search needs
+
+returns : tie.Need-returns
+returns c =
+    let a = c .before .before .before .before in
+    let s = a .args .walk in
+    let e : lineOf s ≡ none = no-line (s .place) (flowIn s) (sym (c .before .before .on-line .ensures) ∙ not-true (c .before .before .on-line .result) (c .before .if1 .taken)) in
+    subst (λ o. HandedOut (costOf (netIn (s .net))) o (a .args .code) (a .args .flows .now) (c .word .result) (a .args .flows .now)) (sym e) (c .word .ensures, refl)
+
+slice-aggregate-hand-line : tie.Need-slice-aggregate-hand-line
+slice-aggregate-hand-line c = search needs
+
+hand-line-requires : tie.Need-hand-line-requires
+hand-line-requires c κs = search needs
+
+same-length : tie.Need-same-length
+same-length c = search needs
+
+returns-2 : tie.Need-returns-2
+returns-2 c =
+    let h = c .before .before in
+    let t = h .before .before .before in
+    let l = t .before .before .before in
+    let a = l .before .before .before in
+    let s = a .args .walk in
+    let e : lineOf s ≡ some (flowIn s) = a-line (s .place) (flowIn s) (sym (l .before .on-line .ensures) ∙ not-false (l .before .on-line .result) (l .if1 .left)) in
+    rw e (
+      h .hand-line .ensures .0 ∙ rw (toZ-ofZ {w = w64} {z = s .cost} (record { sfits = t .struct-told .given .1 .1 .0 .1 }), a .pre .0 .cost-is, e),
+      h .hand-line .ensures .1,
+    )
+
+pub hand-out-spec : {M : Type 1} → statement M
+hand-out-spec =
+    tie.close
+    (tie.spec
+    on-line-requires
+    word-requires
+    returns
+    slice-aggregate-hand-line
+    hand-line-requires
+    same-length
+    returns-2)

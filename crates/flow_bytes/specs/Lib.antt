@@ -1,0 +1,2 @@
+pub mod NetworkBytes
+pub mod Prices

@@ -1,0 +1,28 @@
+-- A network as bytes, and questions 1 to 7 of a call.
+use mathlib.Core.Path.{_≡_}
+use mathlib.Core.List.{List}
+use Prim.Native.Nat.{ℕ}
+use Rattle.laws.specs.Tests.{ask}
+use Rattle.bytes32.specs.Words.{ints}
+use Rattle.network.specs.Network.{Net, arcs}
+use Rattle.network.specs.Questions.{netOf, refusal}
+use Rattle.network.specs.Checked.{Sound, netIn}
+use Rattle.network.specs.declared.Network.{Network}
+use Rattle.calls.specs.Replies.{orElse}
+use Rattle.calls.specs.ByteLists.{room}
+use Rattle.flow_bytes.specs.declared.Begun.{Begun}
+
+-- "The network comes as n balances and five numbers an arc (tail, head, l, u, c), all signed 32-bit."
+abbrev pub net : List ℕ → List ℕ → Net
+net bs xs = netOf (ints bs) (ints xs)
+
+-- past questions 1 to 6: a struct that stands for the network of the bytes
+pub record Ready (bs xs : List ℕ) (s : Network) : Type 0 where
+  pub ok : refusal bs xs ≡ 0
+  pub sound : Sound s
+  pub is : netIn s ≡ net bs xs
+
+-- questions 1 to 7, with a list of so many bytes lent for the flows
+pub record Begins (bs xs : List ℕ) (bytes : ℕ) (r : Begun) : Type 0 where
+  pub number-is : r .number ≡ orElse (refusal bs xs) (ask (room (arcs (net bs xs)) bytes) 7 0)
+  pub ready : r .number ≡ 0 → Ready bs xs (r .net)

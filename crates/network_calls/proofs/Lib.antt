@@ -1,0 +1,4 @@
+pub mod NetworkRun
+pub mod FirstFlow
+mod NetworkEntries
+mod NetworkExamples

@@ -1,0 +1,3 @@
+pub mod NetworkCalls
+pub mod NetworkRun
+pub mod FirstFlow

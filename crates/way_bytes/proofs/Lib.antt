@@ -1,0 +1,4 @@
+pub mod BookLines
+pub mod Told
+pub mod BookBytes
+mod HandingWays

@@ -1,0 +1,65 @@
+use mathlib.Core.Path.{_≡_, sym, ap, _∙_}
+use mathlib.Core.Bool.{true}
+use mir.Syntax.{w64}
+use mir.Facts.{toZ-ofZ}
+use borrow.Author.Tests.{not-true, not-false}
+use Rattle.calls.specs.Replies.{onLine}
+use Rattle.calls.proofs.Places.{is-line}
+use Rattle.way_bytes.proofs.HandingWays.{hands-none, hands-way}
+use borrow.Author.Needs.{needs}
+use Rattle.way_bytes.proofs.hand_way.Statement.{statement}
+use Rattle.way_bytes.proofs.hand_way.Tie as tie
+
+abbrev entry : tie.After-on-line → tie.Start
+entry c = c .before .before .before
+
+on : (c : tie.Else1) → onLine (entry (c .before) .args .walk .walk .place) ≡ true
+on c = sym (c .before .on-line .ensures) ∙ not-false (c .before .on-line .result) (c .if1 .left)
+
+on-line-requires : tie.Need-on-line-requires
+on-line-requires c κs = search needs
+
+word-requires : tie.Need-word-requires
+word-requires c κs = search needs
+
+returns : tie.Need-returns
+returns c =
+    let l = c .before .before in
+    let a = entry l .args in
+    hands-none (a .walk) (a .code) (a .way .now) (c .word .result) (sym (l .on-line .ensures) ∙ not-true (l .on-line .result) (c .before .if1 .taken)) (c .word .ensures)
+
+way-requires : tie.Need-way-requires
+way-requires c κs = let e = c .before in let s = entry (e .before) in (s .pre .0, is-line (s .args .walk .walk .place) (on e))
+
+slice-aggregate-hand-line : tie.Need-slice-aggregate-hand-line
+slice-aggregate-hand-line c = search needs
+
+hand-line-requires : tie.Need-hand-line-requires
+hand-line-requires c κs = search needs
+
+same-length : tie.Need-same-length
+same-length c = search needs
+
+returns-2 : tie.Need-returns-2
+returns-2 c =
+    let h = c .before .before in
+    let y = h .before .before .before in
+    let t = y .before in
+    let e = t .before in
+    let s = entry (e .before) in
+    let k = s .args .walk in
+    hands-way k (s .args .code) (s .args .way .now) _ (is-line (k .walk .place) (on e)) (y .way .result) _ (y .way .ensures) (h .hand-line .ensures .1)
+    (h .hand-line .ensures .0 ∙ ap (λ z. record { code = 0; line = 0; value = z }) (toZ-ofZ {w = w64} {z = k .walk .cost} (record { sfits = t .struct-told .given .1 .1 .0 .1 })))
+
+pub hand-way-spec : {M : Type 1} → statement M
+hand-way-spec =
+    tie.close
+    (tie.spec
+    on-line-requires
+    word-requires
+    returns
+    way-requires
+    slice-aggregate-hand-line
+    hand-line-requires
+    same-length
+    returns-2)

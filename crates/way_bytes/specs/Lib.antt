@@ -1,0 +1,3 @@
+pub mod BookBytes
+pub mod Told
+pub mod Steps
