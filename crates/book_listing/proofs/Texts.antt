@@ -2,21 +2,18 @@
 use mathlib.Core.Path.{_≡_, refl, sym, ap, _∙_}
 use mathlib.Core.List.{List}
 use mathlib.Core.Option.{some}
-use Prim.Native.Nat.{ℕ, zero, suc, _+_, _<_}
+use Prim.Native.Nat.{ℕ, zero, suc, _<_}
 use native.Mathlib.Omega.{arith}
-use native.Mathlib.Numerals.{add-one}
-use lib.ListN.{length, getD, take, drop, set}
-use lib.Seq.{take-suc, take-at}
-use borrow.Author.Tests.{le-leb, lt-leb}
+use lib.ListN.{length, take, drop}
+use lib.Seq.{take-at}
 use Rattle.listing.specs.Appended.{Appended}
 use Rattle.listing.specs.Lines.{refusedLine}
-use Rattle.listing.proofs.Pieces.{appended-byte, appended-then}
 use Rattle.book.specs.Book.{Book, parse}
 use Rattle.book.specs.Questions.{refusal, questionOf}
 use Rattle.book.specs.declared.Answer.{Answer}
 use Rattle.book.specs.declared.Answer.the-variants.{Accepted, TooLong, Malformed, BadHeader, BadMove, BadEntry, TooMany}
 use Rattle.way_listing.specs.WayListing.{waysText}
-use Rattle.book_listing.specs.Listing.{listing, fit}
+use Rattle.book_listing.specs.Listing.{listing}
 
 pub question-few : (a : Answer) → questionOf a < 100
 question-few Accepted = omega arith
@@ -33,18 +30,6 @@ refused-text s (suc k) e n = rw (sym e) refl
 
 pub ways-text : (s : List ℕ) (b : Book) → refusal s ≡ 0 → parse s ≡ some b → waysText b ≡ listing s
 ways-text s b e p = rw (e, p) refl
-
--- one byte more of a copy
-pub copied-more : (from before to : List ℕ) (i : ℕ) → i < length from → i < length to → Appended before 0 (take i from) to i → Appended before 0 (take (i + 1) from) (set to i (getD from i 0)) (i + 1)
-copied-more from before to i h k a = rw (ap (λ j. take j from) (add-one i) ∙ take-suc from i 0 h) (appended-then a (appended-byte to i (getD from i 0) k))
-
-pub fitted : (v before after : List ℕ) (r : ℕ) → Appended before 0 v after r → after ≡ fit v before
-fitted v before after r a =
-    let e : r ≡ length v = a .end ∙ omega arith in
-    a .is ∙ rw (e, le-leb (length v) (length before) (omega (arith, a .within, e))) refl
-
-pub too-short : (v before : List ℕ) → length before < length v → before ≡ fit v before
-too-short v before h = rw (lt-leb (length v) (length before) h) refl
 
 pub taken : (v before after : List ℕ) (r : ℕ) → Appended before 0 v after r → (r ≡ length v) × (take r after ≡ v)
 taken v before after r a = let e : r ≡ length v = a .end ∙ omega arith in (e, ap (take r) (a .is) ∙ take-at v (drop r before) r (sym e))

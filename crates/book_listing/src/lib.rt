@@ -1,9 +1,9 @@
 // The listing of a book.
 ghost use mathlib.Core.Path.{_≡_};
 ghost use Prim.Native.Nat.{_≤_};
-ghost use lib.ListN.{length, take};
+ghost use lib.ListN.{length};
 ghost use Rattle.listing.specs.Appended.{Appended};
-ghost use Rattle.book_listing.specs.Listing.{listing, fit, Listed};
+ghost use Rattle.book_listing.specs.Listing.{listing, Listed};
 
 // Room for the longest listing.
 fn blank() -> [u8; 98304]
@@ -27,27 +27,12 @@ fn write_listing(book: &[u8], out: &mut [u8]) -> usize
     way_listing::list(way_enumerator::start(b), out)
 }
 
-// The first n bytes of `from`, over the front of a list that has room for them; else the list stays as it is.
-fn copy_if_room(from: &[u8], to: &mut [u8], n: usize)
-    requires { ⌜ n ≤ length (now from) ⌝ }
-    ensures { λ _. ⌜ now (to .exit) ≡ fit (take n (now (from .entry))) (now (to .entry)) ⌝ }
-{
-    if to.len() < n {
-        return;
-    }
-    let mut i = 0;
-    while i < n {
-        to[i] = from[i];
-        i += 1;
-    }
-}
-
 // How long the listing of a book is; where there is room, the listing.
 pub fn list(book: &[u8], text: &mut [u8]) -> usize
     ensures { λ r. ⌜ Listed (now (book .entry)) (now (text .entry)) (now (text .exit)) r ⌝ }
 {
     let mut room = blank();
     let n = write_listing(book, &mut room);
-    copy_if_room(&room, text, n);
+    listing::copy_if_room(&room[..n], text);
     n
 }

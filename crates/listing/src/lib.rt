@@ -1,4 +1,4 @@
-// The lines of a listing, written into a lent list of bytes from the place `at` on. Each function answers the place after what it wrote.
+// The lines of a listing, written into a lent list of bytes from the place `at` on. Each `put` answers the place after what it wrote.
 ghost use mathlib.Core.Path.{_≡_};
 ghost use mathlib.Core.List.{_++_};
 ghost use Prim.Native.Nat.{_+_, _≤_};
@@ -6,6 +6,7 @@ ghost use lib.ListN.{length};
 ghost use Rattle.text.specs.Reader.{bytes};
 ghost use Rattle.listing.specs.Lines.{decimal, costLine, wayLine, endLine, moreLine, noneLine, refusedLine};
 ghost use Rattle.listing.specs.Appended.{Appended};
+ghost use Rattle.listing.specs.Fit.{fit};
 
 fn put_text(out: &mut [u8], at: usize, head: &[u8]) -> usize
     requires { ⌜ at + length (now head) ≤ length (now out) ⌝ }
@@ -103,4 +104,14 @@ pub fn put_way(out: &mut [u8], at: usize, way: &[u32]) -> usize
         k = put_spaced(out, k, way[i]);
     }
     put_text(out, k, b")\n")
+}
+
+// A text over the front of a list that has room for it; else the list stays as it is.
+pub fn copy_if_room(text: &[u8], out: &mut [u8])
+    ensures { λ _. ⌜ now (out .exit) ≡ fit (now (text .entry)) (now (out .entry)) ⌝ }
+{
+    if out.len() < text.len() {
+        return;
+    }
+    put_text(out, 0, text);
 }
