@@ -1,8 +1,11 @@
 -- The name of an entry, as C gets it: "the part of the book that holds it".
 use mathlib.Core.Path.{_≡_}
 use mathlib.Core.List.{List}
-use Prim.Native.Nat.{ℕ, _+_, _≤_}
-use lib.ListN.{length, take, drop}
+use Prim.Native.Nat.{ℕ, _+_, _-_, _≤_}
+use lib.ListN.{length, take, drop, getD}
+use Rattle.lines.specs.Columns.{nobody}
+use Rattle.book.specs.Book.{parse}
+use Rattle.book.specs.Checked.{entriesOf}
 use Rattle.book.specs.Name.{Given, nameRefusal}
 use Rattle.book_names.specs.declared.Span.{Span}
 
@@ -10,8 +13,13 @@ use Rattle.book_names.specs.declared.Span.{Span}
 abbrev pub part : List ℕ → Span → List ℕ
 part s r = take (r .length) (drop (r .start) s)
 
--- the span of the name of entry j; all zeros if it is refused
+-- where the name of entry j was read: so many bytes of s are left from there on
+abbrev pub placeOf : List ℕ → ℕ → ℕ
+placeOf s j = length s - getD (entriesOf (parse s)) (j - 1) nobody .left
+
+-- the span of the name of entry j, at the place where it was read; all zeros if it is refused
 pub record Names (s : List ℕ) (j : ℕ) (r : Span) : Type 0 where
   pub within : r .start + r .length ≤ length s
   pub given : Given s j (part s r)
+  pub here : nameRefusal s j ≡ 0 → r .start ≡ placeOf s j
   pub zero : ¬ (nameRefusal s j ≡ 0) → r ≡ record { start = 0; length = 0 }
