@@ -39,7 +39,7 @@ pub fn refused(code: u32, line: u32) -> Reply
     }
 }
 
-// The reply of counting, by a count that is right up to the cap and above it beyond.
+// The reply of counting up to the cap: the count, or "more".
 pub fn count_reply(count: usize, cap: u16) -> Reply
     ensures { λ r. ⌜ r ≡ countReply (counted cap count) ⌝ }
 {

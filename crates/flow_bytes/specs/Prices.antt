@@ -18,12 +18,12 @@ pub record Prices (N : Net) (f : List ℕ) (ps : List ℤ) : Type 0 where
   pub each : (v : ℕ) → v < nodes N → Price N f v (getD ps v (pos 0))
   pub fit : Every (SFits w32) ps
 
--- "A line fills the first E or m places lent, prices the first n; all else keeps what it held."
+-- where a list is lent for them, they fill its first n places
 abbrev pub PricesAfter : Net → List ℕ → Option (List ℕ) → Option (List ℕ) → Type 0
 PricesAfter N f none after = after ≡ none
 PricesAfter N f (some out) after = (ps : List ℤ) × Prices N f ps × (after ≡ some (over (encodeInts ps) out))
 
--- the prices of a line, where a list is lent for them
+-- the same of a walk, where it stands on a line
 abbrev pub PricesOut : Net → Option (List ℕ) → Option (List ℕ) → Option (List ℕ) → Type 0
 PricesOut N none out out′ = out′ ≡ out
 PricesOut N (some f) out out′ = PricesAfter N f out out′

@@ -54,6 +54,7 @@ number bs xs c =
 abbrev pub refuses : List ℕ → List ℕ → NetCall → Option ℕ
 refuses bs xs c = failed (number bs xs c)
 
+-- "A line fills the first E or m places lent, prices the first n; all else keeps what it held."
 pub record Wrote (N : Net) (c : NetCall) (f : List ℕ) (after : Lent) : Type 0 where
   pub flows-are : after .flows ≡ over (encodeWords f) (lent c .flows)
   pub prices-are : PricesAfter N f (lent c .prices) (after .prices)

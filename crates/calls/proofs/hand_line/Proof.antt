@@ -18,7 +18,7 @@ returns c =
     let w = c .before .before in
     let s = w .before .before .before .before in
     let a = s .args in (
-      rw (toZ-ofZ (s .fits .cost)),
+      ap (λ z. record { code = 0; line = 0; value = z }) (toZ-ofZ (s .fits .cost)),
       w .write-words .ensures ∙ ap (λ n. over (encodeWords (take n (a .numbers .now))) (a .out .now)) (room-fits (a .k) (a .out .now) (s .pre)),
     )
 

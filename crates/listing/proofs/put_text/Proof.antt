@@ -47,7 +47,7 @@ loop-less : tie.Need-loop-less Inv-loop μ-loop
 loop-less c = omega arith
 
 loop-again : tie.Need-loop-again Inv-loop μ-loop
-loop-again c = (more _ _ _ _ _ (c .before .before .loop .inv .0) (c .before .loop-test .taken) (omega (arith, c .before .before .before .pre)), omega arith)
+loop-again c = (more _ _ _ _ _ (c .before .before .loop .inv .0) (omega (arith, c .before .loop-test .taken)) (omega (arith, c .before .before .before .pre)), omega arith)
 
 add-result : tie.Need-add-result Inv-loop μ-loop
 add-result c = omega (arith, c .before .loop .inv .0 .within)
