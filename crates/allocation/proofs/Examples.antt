@@ -3,7 +3,6 @@
 use mathlib.Core.Path.{_≡_, refl}
 use mathlib.Core.Bool.{Bool, true, _&&_}
 use mathlib.Core.List.{List, [], _∷_}
-use mathlib.Core.Option.{Option, none, some}
 use Prim.Native.Nat.{ℕ}
 use lib.Dec.{eqb}
 use borrow.Author.Tests.{eqb-true}
@@ -13,18 +12,10 @@ use Rattle.laws.specs.Members.{_∈_}
 use Rattle.text.specs.Reader.{after, _>>=_, _>>_, give, guard, remaining, bytes, begins, text, front, run, valueFrom, number, word, row, more, upTo, many}
 use Rattle.lines.specs.Lines.{move, entry}
 use Rattle.lines.specs.Questions as lines
-use Rattle.book.specs.Book.{Book, opening, book, whole, parse}
+use Rattle.book.specs.Book.{opening, book, whole, parse}
 use Rattle.book.specs.Questions.{refusal}
-use Rattle.allocation.specs.Ways.{wayCost}
 use Rattle.allocation.specs.FullWays.{wayList, fullWays}
-
-abbrev pub waysIn : Option Book → List (List ℕ)
-waysIn none = []
-waysIn (some b) = fullWays b
-
-abbrev pub costIn : Option Book → List ℕ → ℕ
-costIn none w = 0
-costIn (some b) w = wayCost b w
+use Rattle.allocation.specs.BookBytes.{waysIn, costIn}
 
 -- a book, its full list, and the cost of each line
 pub record Example : Type 0 where

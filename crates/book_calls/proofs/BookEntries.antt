@@ -31,7 +31,7 @@ use Rattle.way_bytes.specs.declared.Admitted.{Admitted}
 use Rattle.calls.specs.Replies.{orElse, codeOf, sees, word, HandedOut, countReply, refusedAt}
 use Rattle.calls.specs.ByteLists.{room, listed}
 use Rattle.book_calls.specs.BookCalls.{BookCall, lent, number, countWays, CountsBook}
-use Rattle.way_bytes.specs.BookBytes.{waysIn, ways, size, costIn, costOf}
+use Rattle.allocation.specs.BookBytes.{waysIn, ways, size, costIn, costOf}
 use Rattle.way_bytes.specs.Told.{Told}
 use Rattle.book_calls.specs.BookRun.{RightBook, AnswersBook}
 use Rattle.way_bytes.specs.Steps.{Admits}

@@ -19,7 +19,7 @@ use Rattle.calls.specs.declared.Reply.{Reply}
 use Rattle.calls.specs.Replies.{sees}
 use Rattle.calls.specs.ByteLists.{room}
 use Rattle.book_calls.specs.BookCalls.{BookCall, lent, refuses, countWays}
-use Rattle.way_bytes.specs.BookBytes.{ways, size}
+use Rattle.allocation.specs.BookBytes.{ways, size}
 use Rattle.book_calls.specs.BookRun.{RightBook, answer, AnswersBook, FairBook, KeptBook, ReadBook}
 use Rattle.calls.proofs.Lines.{FullOf, member-listed, lines-apart}
 use Rattle.way_bytes.proofs.BookLines.{full-ways}

@@ -19,7 +19,7 @@ use Rattle.allocation.proofs.Arcs.{well-formed}
 use Rattle.allocation.proofs.Matched.{way-flow}
 use Rattle.allocation.proofs.LineByLine.{matched}
 use Rattle.network.proofs.FullList.{none-iff}
-use Rattle.way_bytes.specs.BookBytes.{waysIn, ways}
+use Rattle.allocation.specs.BookBytes.{waysIn, ways}
 use Rattle.book_calls.specs.BookCalls.{refuses}
 use Rattle.book_calls.specs.BookRun.{RightBook, AnswersBook}
 use Rattle.book_calls.specs.FirstWay.{FindsWay, FindsNoWay}

@@ -12,7 +12,7 @@ use Rattle.book.specs.Questions.{refusal}
 use Rattle.calls.specs.declared.Reply.{Reply}
 use Rattle.calls.specs.Replies.{failed, orElse, countUnless}
 use Rattle.calls.specs.ByteLists.{room, fairGiven}
-use Rattle.way_bytes.specs.BookBytes.{ways, size}
+use Rattle.allocation.specs.BookBytes.{ways, size}
 use Rattle.way_bytes.specs.Told.{Told}
 
 -- `first` is lent a list for a way; `next` is given one and lent one

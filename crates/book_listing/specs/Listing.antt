@@ -8,7 +8,7 @@ use Rattle.book.specs.Questions.{refusal}
 use Rattle.listing.specs.Lines.{refusedLine}
 use Rattle.listing.specs.Fit.{fit}
 use Rattle.way_listing.specs.WayListing.{listWays}
-use Rattle.way_bytes.specs.BookBytes.{ways, costIn}
+use Rattle.allocation.specs.BookBytes.{ways, costIn}
 
 -- "for a refusal `(refused R)`"
 abbrev pub unlessRefused : ℕ → List ℕ → List ℕ

@@ -8,7 +8,7 @@ use Prim.Native.Nat.{ℕ, suc, _*_, _<_}
 use native.Mathlib.Omega.{arith}
 use lib.ListN.{length, getD, getElem?}
 use Rattle.laws.specs.Members.{_∈_, Every, first?, every-member, at-member, none-some}
-use Rattle.laws.specs.Tests.{test}
+use Rattle.laws.specs.Tests.{test, or-left, or-right}
 use Rattle.laws.specs.Equality.{same-list}
 use Rattle.laws.specs.Lexicographic.{_<lex_, lex-irrefl, lex-trans}
 use Rattle.laws.specs.Ascending.{Ascending, ascending-apart}
@@ -20,14 +20,6 @@ use Rattle.calls.specs.ByteLists.{listed}
 pub every-at : (l : List ℕ) (B : ℕ) → ((a : ℕ) → a < length l → getD l a 0 < B) → Every (λ n. n < B) l
 every-at [] B h = tt
 every-at (n ∷ l) B h = (h 0 (omega arith), every-at l B (λ a k. h (suc a) (omega arith)))
-
-or-true : (p q : Bool) → p ≡ true → p || q ≡ true
-or-true true q e = refl
-or-true false q e = absurd (let z : _≡_ {A = ℕ} 0 1 = cc in omega arith)
-
-true-or : (p q : Bool) → q ≡ true → p || q ≡ true
-true-or true q e = refl
-true-or false q e = e
 
 yes-test : {P : Type 0} (t : Dec P) → P → test t ≡ true
 yes-test (yes h) p = refl
@@ -45,8 +37,8 @@ listed-member g (v ∷ l) e = step (same-list (encodeWords v) g) refl (listed-me
 
 pub member-listed : (g v : List ℕ) (L : List (List ℕ)) → v ∈ L → encodeWords v ≡ g → listed g L ≡ true
 member-listed g v [] m e = absurd m
-member-listed g v (u ∷ l) (inl q) e = or-true (test (same-list (encodeWords u) g)) (listed g l) (yes-test (same-list (encodeWords u) g) (ap encodeWords (sym q) ∙ e))
-member-listed g v (u ∷ l) (inr m) e = true-or (test (same-list (encodeWords u) g)) (listed g l) (member-listed g v l m e)
+member-listed g v (u ∷ l) (inl q) e = or-left (test (same-list (encodeWords u) g)) (listed g l) (yes-test (same-list (encodeWords u) g) (ap encodeWords (sym q) ∙ e))
+member-listed g v (u ∷ l) (inr m) e = or-right (test (same-list (encodeWords u) g)) (listed g l) (member-listed g v l m e)
 
 pub not-listed : (g : List ℕ) (L : List (List ℕ)) → ((i : ℕ) (v : List ℕ) → getElem? L i ≡ some v → ¬ (encodeWords v ≡ g)) → listed g L ≡ false
 not-listed g [] h = refl

@@ -16,7 +16,7 @@ use Rattle.book_network.specs.Held.{Holds}
 use Rattle.book_network.proofs.Made.{held}
 use Rattle.calls.specs.ByteLists.{room}
 use Rattle.calls.proofs.Turns.{fails-first}
-use Rattle.way_bytes.specs.BookBytes.{size}
+use Rattle.allocation.specs.BookBytes.{size}
 use Rattle.way_bytes.specs.Told.{Told}
 use Rattle.way_bytes.specs.Steps.{Admits}
 use Rattle.way_bytes.proofs.Told.{told, untold}

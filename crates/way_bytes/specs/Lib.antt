@@ -1,3 +1,2 @@
-pub mod BookBytes
 pub mod Told
 pub mod Steps

@@ -20,7 +20,7 @@ use Rattle.calls.specs.declared.Reply.{Reply}
 use Rattle.calls.specs.Replies.{orElse, HandedOut}
 use Rattle.calls.specs.ByteLists.{room, listed}
 use Rattle.way_bytes.specs.declared.Admitted.{Admitted}
-use Rattle.way_bytes.specs.BookBytes.{size}
+use Rattle.allocation.specs.BookBytes.{size}
 use Rattle.way_bytes.specs.Told.{Told}
 
 -- questions 11 to 17, with a list of so many bytes lent for the way
