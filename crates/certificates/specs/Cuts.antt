@@ -11,13 +11,13 @@ use lib.IntN.{ℤ, pos, _-ℤ_, _*ℤ_}
 use lib.Signed.{_≤ℤ_, _<ℤ_}
 use borrow.Author.Tests.{lt-ltb}
 use Rattle.laws.specs.Divergence.{at, telescope, sum-le-one}
-use Rattle.laws.specs.Integers.{leZ-or-lt, ≤ℤ-antisym, *-nonneg, times-same}
+use Rattle.laws.specs.Integers.{*-nonneg, times-same}
 use Rattle.laws.specs.Linear.{lin, ring, given, given2, given3, given4}
 use Rattle.laws.specs.Sum.{sum, sum-cong, sum-mono, sum-none, sum-term}
 use Rattle.network.specs.Network.{Net, nodes, arcs, tail, head, low, up, balance, on, netOut, IsFlow, LeastCost, WellFormed}
 use Rattle.network.specs.Residual.{src, dst, usable}
 use Rattle.certificates.specs.Codes.{even-code, odd-code, even-arc, odd-arc}
-use Rattle.certificates.specs.Optimality.{reduced, Optimal, circulation, off-tight, weighted}
+use Rattle.certificates.specs.Optimality.{circulation, weighted}
 
 -- f and g have the same numbers before arc k
 abbrev pub Agree : ℕ → List ℕ → List ℕ → Type 0
@@ -108,48 +108,23 @@ module _ (N : Net) (ok : WellFormed N) where
       once : (x b : ℤ) → x ≡ b → b ≡ pos 1 *ℤ x
       once x b e = given e (simp lin (omega arith))
 
-  -- (d) no more, no less on arc k
-  module _ (f : List ℕ) (π : ℕ → ℤ) (ff : IsFlow N f) (o : Optimal N f π) (k : ℕ) (lk : k < arcs N) where
-    pub no-more-tight : reduced N π k ≢ pos 0 → NoMore N f k
-    no-more-tight ne g lg ag = omega (arith, off-tight N ok f g π ff o lg k lk ne)
+  -- (d) no more, no less on arc k: S is closed under the free arcs, and every other arc but k has the same number in f and in g
+  module _ (f g : List ℕ) (ff : IsFlow N f) (fg : IsFlow N g) (k : ℕ) (lk : k < arcs N) (free : ℕ → Type 0) (S : ℕ → Bool) (cl : Closed N f free S)
+      (others : (a : ℕ) → a < arcs N → a ≢ k → free a ⊎ (getD g a 0 ≡ getD f a 0)) where
+    each : (a : ℕ) → a < arcs N → a ≢ k → ((χ (S (tail N a)) -ℤ χ (S (head N a))) *ℤ (on g a -ℤ on f a)) ≤ℤ pos 0
+    each a l ne = go (others a l ne)
+      where
+        go : free a ⊎ (getD g a 0 ≡ getD f a 0) → ((χ (S (tail N a)) -ℤ χ (S (head N a))) *ℤ (on g a -ℤ on f a)) ≤ℤ pos 0
+        go (inl o) = cut-arc (S (tail N a)) (S (head N a)) (getD f a 0) (getD g a 0) (low N a) (up N a) (fg .above a l) (fg .below a l) (λ s h. cl .out a l o s h) (λ s h. cl .back a l o s h)
+        go (inr e) = given (times-same (χ (S (tail N a)) -ℤ χ (S (head N a))) (on g a) (on f a) (ap pos e)) (simp lin (omega arith))
 
-    pub no-less-tight : reduced N π k ≢ pos 0 → NoLess N f k
-    no-less-tight ne g lg ag = omega (arith, off-tight N ok f g π ff o lg k lk ne)
+    at-k : pos 0 ≤ℤ ((χ (S (tail N k)) -ℤ χ (S (head N k))) *ℤ (on g k -ℤ on f k))
+    at-k =
+        subst (λ (z : ℤ). z ≤ℤ ((χ (S (tail N k)) -ℤ χ (S (head N k))) *ℤ (on g k -ℤ on f k))) (circulation N ok f g (λ v. χ (S v)) ff fg)
+        (sum-le-one (arcs N) (λ a. (χ (S (tail N a)) -ℤ χ (S (head N a))) *ℤ (on g a -ℤ on f a)) k lk each)
 
-    pub no-more-top : up N k ≤ getD f k 0 → NoMore N f k
-    no-more-top h g lg ag = omega (arith, lg .flow .below k lk)
+    pub no-more : S (head N k) ≡ true → S (tail N k) ≡ false → getD g k 0 ≤ getD f k 0
+    no-more h t = given (rw (h, t) at at-k) (simp ring (omega arith))
 
-    pub no-less-bottom : getD f k 0 ≤ low N k → NoLess N f k
-    no-less-bottom h g lg ag = omega (arith, lg .flow .above k lk)
-
-    -- tight arcs above k
-    abbrev pub Above : ℕ → Type 0
-    Above a = (k < a) × (reduced N π a ≡ pos 0)
-
-    module _ (S : ℕ → Bool) (cl : Closed N f Above S) where
-      others : (g : List ℕ) → LeastCost N g → Agree k f g → (a : ℕ) → a < arcs N → a ≢ k
-          → ((χ (S (tail N a)) -ℤ χ (S (head N a))) *ℤ (on g a -ℤ on f a)) ≤ℤ pos 0
-      others g lg ag a l ne = go (decLt a k) (leZ-or-lt (reduced N π a) (pos 0)) (leZ-or-lt (pos 0) (reduced N π a))
-        where
-          nothing : (w : ℤ) → getD g a 0 ≡ getD f a 0 → (w *ℤ (on g a -ℤ on f a)) ≤ℤ pos 0
-          nothing w e = given (times-same w (on g a) (on f a) (ap pos e)) (simp lin (omega arith))
-
-          go : Dec (a < k) → (reduced N π a ≤ℤ pos 0) ⊎ (pos 0 <ℤ reduced N π a) → (pos 0 ≤ℤ reduced N π a) ⊎ (reduced N π a <ℤ pos 0)
-              → ((χ (S (tail N a)) -ℤ χ (S (head N a))) *ℤ (on g a -ℤ on f a)) ≤ℤ pos 0
-          go (yes h) p q = nothing (χ (S (tail N a)) -ℤ χ (S (head N a))) (sym (ag a h))
-          go (no h) (inl p) (inl q) =
-              let ab : Above a = (omega arith, ≤ℤ-antisym p q) in
-              cut-arc (S (tail N a)) (S (head N a)) (getD f a 0) (getD g a 0) (low N a) (up N a) (lg .flow .above a l) (lg .flow .below a l) (λ s h. cl .out a l ab s h) (λ s h. cl .back a l ab s h)
-          go (no h) (inr p) q = nothing (χ (S (tail N a)) -ℤ χ (S (head N a))) (off-tight N ok f g π ff o lg a l (λ e. given2 e p (simp lin (omega arith))))
-          go (no h) (inl p) (inr q) = nothing (χ (S (tail N a)) -ℤ χ (S (head N a))) (off-tight N ok f g π ff o lg a l (λ e. given2 e q (simp lin (omega arith))))
-
-      at-k : (g : List ℕ) → LeastCost N g → Agree k f g → pos 0 ≤ℤ ((χ (S (tail N k)) -ℤ χ (S (head N k))) *ℤ (on g k -ℤ on f k))
-      at-k g lg ag =
-          subst (λ (z : ℤ). z ≤ℤ ((χ (S (tail N k)) -ℤ χ (S (head N k))) *ℤ (on g k -ℤ on f k))) (circulation N ok f g (λ v. χ (S v)) ff (lg .flow))
-          (sum-le-one (arcs N) (λ a. (χ (S (tail N a)) -ℤ χ (S (head N a))) *ℤ (on g a -ℤ on f a)) k lk (others g lg ag))
-
-      pub no-more : S (head N k) ≡ true → S (tail N k) ≡ false → NoMore N f k
-      no-more h t g lg ag = given (rw (h, t) at (at-k g lg ag)) (simp ring (omega arith))
-
-      pub no-less : S (tail N k) ≡ true → S (head N k) ≡ false → NoLess N f k
-      no-less t h g lg ag = given (rw (h, t) at (at-k g lg ag)) (simp ring (omega arith))
+    pub no-less : S (tail N k) ≡ true → S (head N k) ≡ false → getD f k 0 ≤ getD g k 0
+    no-less t h = given (rw (h, t) at at-k) (simp ring (omega arith))

@@ -25,7 +25,7 @@ module _ (N : Net) (f : List ℕ) (free : List Bool) where
   pub before-arc : (a : ℕ) (rows : List ℕ) → 0 < a → Closure N f free a rows → Closure N f free (suc (a - 1)) rows
   before-arc a rows h cl = let e : a ≡ suc (a - 1) = omega arith in subst (λ (i : ℕ). Closure N f free i rows) e cl
 
-  module _ (ok : Searchable 64 N f free) (a : ℕ) (rows : List ℕ) (h : a < arcs N) (cl : Closure N f free (suc a) rows) where
+  module _ (ok : Searchable 64 N f free) (a : ℕ) (rows : List ℕ) (h : a < arcs N) (from : ℕ) (cl : Closure N f free from rows) where
     pub raises : HasStep (N .tails) (N .heads) f (N .ups) free rows a
     raises = record {
       near-has = h;
@@ -51,29 +51,29 @@ module _ (N : Net) (f : List ℕ) (free : List Bool) where
     }
 
     -- an end that does not lead to the other is out of its reach
-    apart : (s t : ℕ) → s < 64 → {P Q : Type 0} → P ⊎ (Q ⊎ (leads rows s t ≡ false)) → P ⊎ (Q ⊎ Blocked N f free s t (suc a))
+    apart : (s t : ℕ) → s < 64 → {P Q : Type 0} → P ⊎ (Q ⊎ (leads rows s t ≡ false)) → P ⊎ (Q ⊎ Blocked N f free s t from)
     apart s t k (inl p) = inl p
     apart s t k (inr (inl q)) = inr (inl q)
-    apart s t k (inr (inr e)) = inr (inr (closure-blocked N f free (suc a) rows s t cl k e))
+    apart s t k (inr (inr e)) = inr (inr (closure-blocked N f free from rows s t cl k e))
 
-    pub not-raisable : ClosesNone (N .tails) (N .heads) f (N .ups) free rows a → NotRaisable N f free a
+    pub not-raisable : ClosesNone (N .tails) (N .heads) f (N .ups) free rows a → NotRaisable N f free from a
     not-raisable = apart (head N a) (tail N a) (ok .head-in a h)
 
-    pub not-lowerable : ClosesNone (N .heads) (N .tails) (N .lows) f free rows a → NotLowerable N f free a
+    pub not-lowerable : ClosesNone (N .heads) (N .tails) (N .lows) f free rows a → NotLowerable N f free from a
     not-lowerable = apart (tail N a) (head N a) (ok .tail-in a h)
 
   pub raisable-start : NoneRaisable N f free (arcs N)
   raisable-start = record { in-range = omega arith; none = λ a h l. absurd (omega arith) }
 
-  pub raisable-step : (a : ℕ) → 0 < a → NoneRaisable N f free a → NotRaisable N f free (a - 1) → NoneRaisable N f free (a - 1)
-  raisable-step a h w s = record { in-range = omega (arith, w .in-range); none = one-down (NotRaisable N f free) a (arcs N) s (w .none) }
+  pub raisable-step : (a : ℕ) → 0 < a → NoneRaisable N f free a → NotRaisable N f free (suc (a - 1)) (a - 1) → NoneRaisable N f free (a - 1)
+  raisable-step a h w s = record { in-range = omega (arith, w .in-range); none = one-down (λ i. NotRaisable N f free (suc i) i) a (arcs N) s (w .none) }
 
   pub lowerable-start : NoneLowerable N f free (arcs N) (arcs N)
   lowerable-start = record { after = omega arith; in-range = omega arith; none = λ a h l. absurd (omega arith) }
 
   -- arc a - 1 is no candidate, or the first
-  pub lowerable-step : (a first : ℕ) → 0 < a → NoneLowerable N f free a first → NotLowerable N f free (a - 1) → NoneLowerable N f free (a - 1) first
-  lowerable-step a first h w s = record { after = omega (arith, w .after); in-range = w .in-range; none = one-down (NotLowerable N f free) a first s (w .none) }
+  pub lowerable-step : (a first : ℕ) → 0 < a → NoneLowerable N f free a first → NotLowerable N f free (suc (a - 1)) (a - 1) → NoneLowerable N f free (a - 1) first
+  lowerable-step a first h w s = record { after = omega (arith, w .after); in-range = w .in-range; none = one-down (λ i. NotLowerable N f free (suc i) i) a first s (w .none) }
 
   pub lowerable-first : (a first : ℕ) → NoneLowerable N f free a first → NoneLowerable N f free (a - 1) (a - 1)
   lowerable-first a first w = record { after = omega arith; in-range = omega (arith, w .after, w .in-range); none = λ i p l. absurd (omega arith) }

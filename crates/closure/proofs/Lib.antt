@@ -1,3 +1,4 @@
 mod NodeSet
 mod Closure
 mod Candidates
+mod Narrowing

@@ -1,15 +1,16 @@
 // Which arcs may be raised or lowered, by one walk over the arcs from the last down.
 // The walk keeps the transitive closure of the residual steps of the free arcs passed: a row of 64 bits for each node.
+// The closure of all of them shows which arcs may be neither.
 ghost use mathlib.Core.Path.{_≡_};
-ghost use mathlib.Core.Bool.{false, _&&_, _||_};
+ghost use mathlib.Core.Bool.{true, false, _&&_, _||_};
 ghost use Prim.Native.Nat.{ℕ, suc, _≤_, _<_};
 ghost use lib.Dec.{eqb};
-ghost use lib.ListN.{length};
+ghost use lib.ListN.{length, getD};
 ghost use Rattle.paths.specs.Graph.{graph};
 ghost use Rattle.paths.specs.Reaching.{Searchable};
 ghost use Rattle.closure.specs.NodeSet.{has};
 ghost use Rattle.closure.specs.Closure.{Preorder, Extended, Closure};
-ghost use Rattle.closure.specs.Candidates.{HasStep, ClosesNone, NoneRaisable, NoneLowerable};
+ghost use Rattle.closure.specs.Candidates.{HasStep, ClosesNone, NoneRaisable, NoneLowerable, Narrowed};
 
 // Whether v is in s.
 fn has(s: u64, v: usize) -> bool
@@ -108,7 +109,7 @@ fn closes_cycle(
     a: usize,
 ) -> bool
     requires { ⌜ HasStep (now near) (now far) (now lowers) (now uppers) (now free) (now rows) a ⌝ }
-    ensures { λ r. ⌜ (r ≡ false → ClosesNone (now (near .entry)) (now (far .entry)) (now (lowers .entry)) (now (uppers .entry)) (now (free .entry)) (now (rows .entry)) a) ⌝ }
+    ensures { λ r. ⌜ (r ≡ true → getD (now (free .entry)) a false ≡ true) × (r ≡ false → ClosesNone (now (near .entry)) (now (far .entry)) (now (lowers .entry)) (now (uppers .entry)) (now (free .entry)) (now (rows .entry)) a) ⌝ }
 {
     if !free[a] {
         return false;
@@ -174,4 +175,67 @@ pub fn first_lowerable(
         add_arc(tails, heads, lows, ups, free, flow, &mut rows, a);
     }
     first
+}
+
+// The steps of all free arcs.
+fn add_arcs(
+    tails: &[u8],
+    heads: &[u8],
+    lows: &[u32],
+    ups: &[u32],
+    free: &[bool],
+    flow: &[u32],
+    rows: &mut [u64],
+)
+    requires { ⌜ Searchable 64 (graph (now tails) (now heads) (now lows) (now ups)) (now flow) (now free) × Preorder (now rows) ⌝ }
+    ensures { λ _. ⌜ Closure (graph (now (tails .entry)) (now (heads .entry)) (now (lows .entry)) (now (ups .entry))) (now (flow .entry)) (now (free .entry)) 0 (now (rows .exit)) ⌝ }
+{
+    let mut a = tails.len();
+    while 0 < a {
+        a -= 1;
+        add_arc(tails, heads, lows, ups, free, flow, rows, a);
+    }
+}
+
+// Whether a step of arc a closes a cycle of the closure: false only if neither does.
+fn on_cycle(
+    tails: &[u8],
+    heads: &[u8],
+    lows: &[u32],
+    ups: &[u32],
+    free: &[bool],
+    flow: &[u32],
+    rows: &[u64],
+    a: usize,
+) -> bool
+    requires { ⌜ HasStep (now tails) (now heads) (now flow) (now ups) (now free) (now rows) a × HasStep (now heads) (now tails) (now lows) (now flow) (now free) (now rows) a ⌝ }
+    ensures { λ r. ⌜ (r ≡ true → getD (now (free .entry)) a false ≡ true) × (r ≡ false → ClosesNone (now (tails .entry)) (now (heads .entry)) (now (flow .entry)) (now (ups .entry)) (now (free .entry)) (now (rows .entry)) a × ClosesNone (now (heads .entry)) (now (tails .entry)) (now (lows .entry)) (now (flow .entry)) (now (free .entry)) (now (rows .entry)) a) ⌝ }
+{
+    if closes_cycle(tails, heads, flow, ups, free, rows, a) {
+        return true;
+    }
+    closes_cycle(heads, tails, lows, flow, free, rows, a)
+}
+
+// Only the free arcs on a cycle of residual steps of free arcs stay free. The two steps of one arc count as a cycle.
+pub fn unmark_fixed(
+    tails: &[u8],
+    heads: &[u8],
+    lows: &[u32],
+    ups: &[u32],
+    free: &mut [bool],
+    flow: &[u32],
+)
+    requires { ⌜ Searchable 64 (graph (now tails) (now heads) (now lows) (now ups)) (now flow) (now free) ⌝ }
+    ensures { λ _. ⌜ Narrowed (graph (now (tails .entry)) (now (heads .entry)) (now (lows .entry)) (now (ups .entry))) (now (flow .entry)) (now (free .entry)) (now (free .exit)) ⌝ }
+{
+    let mut rows = [0u64; 64];
+    clear(&mut rows);
+    add_arcs(tails, heads, lows, ups, free, flow, &mut rows);
+    let mut a = 0;
+    while a < tails.len() {
+        let stays = on_cycle(tails, heads, lows, ups, free, flow, &rows, a);
+        free[a] = stays;
+        a += 1;
+    }
 }

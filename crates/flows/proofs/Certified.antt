@@ -1,10 +1,12 @@
 -- What prices add: pushing round a tight arc keeps the least cost, and a set of nodes that no free code leaves shows that no least-cost flow
--- has less, or more, on the arc.
-use mathlib.Core.Path.{_≡_, refl}
+-- with the same arcs before has less, or more, on the arc.
+use mathlib.Core.Path.{_≡_, refl, sym, _∙_}
+use mathlib.Core.Logic.{_⊎_, inl, inr, _≢_}
 use mathlib.Core.List.{List}
 use mathlib.Core.Bool.{Bool, true, false}
 use Prim.Native.Nat.{ℕ, suc, _+_, _-_, _/_, _≤_, _<_}
 use native.Mathlib.Omega.{arith}
+use native.Mathlib.Decide.{decLt}
 use lib.ListN.{getD, set}
 use lib.IntN.{ℤ, pos}
 use Rattle.laws.specs.Members.{Every, every-map2}
@@ -12,7 +14,7 @@ use Rattle.laws.specs.Tests.{and-true, true-and}
 use Rattle.network.specs.Network.{Net, arcs, tail, head, low, up, LeastCost}
 use Rattle.network.specs.Residual.{usable}
 use Rattle.certificates.specs.Optimality.{reduced, optimal-any}
-use Rattle.certificates.specs.Cuts.{NoMore, NoLess, Closed, closed-steps, no-more, no-less, no-more-tight, no-less-tight, no-more-top, no-less-bottom}
+use Rattle.certificates.specs.Cuts.{Closed, closed-steps, no-more, no-less}
 use Rattle.certificates.specs.Push.{roomOf, flow-bounds, Detour, Moved, raised, lowered, pushAll}
 use Rattle.paths.specs.Reaching.{goes, Path, Blocked}
 use Rattle.flows.specs.Tight.{Tight}
@@ -23,7 +25,7 @@ pub tight-any : (N : Net) (π : ℕ → ℤ) (tight : List Bool) (f g : List ℕ
 tight-any N π tight f g ti lg = record {
   well-formed = ti .well-formed;
   marked = ti .marked;
-  unmarked = ti .unmarked;
+  unmarked = λ a l e h lh. ti .unmarked a l e h lh ∙ sym (ti .unmarked a l e g lg);
   least = lg;
   optimal = optimal-any N (ti .well-formed) f g π (ti .least .flow) (ti .optimal) lg;
 }
@@ -48,29 +50,25 @@ module _ (N : Net) (f : List ℕ) (tight : List Bool) (k : ℕ) (π : ℕ → �
       → Moved N π f (pushAll δ cs (set f k (getD f k 0 + δ))) k (getD f k 0 + δ)
   raised-by δ cs p m room h = raised N π δ f k cs l (ti .least) (ti .marked k l m) room (detour (head N k) (tail N k) cs p δ h)
 
-  closed : (s t : ℕ) (b : Blocked N f tight s t (suc k)) → Closed N f (λ a. (k < a) × (reduced N π a ≡ pos 0)) (b .inside)
-  closed s t b =
-      closed-steps N f (λ a. (k < a) × (reduced N π a ≡ pos 0)) (b .inside)
-      (λ c h o u i. b .shut c (omega (arith, o .0)) h (true-and (getD tight (c / 2) false) (usable N f c) (mark c h (o .1) (getD tight (c / 2) false) refl) u) i)
-    where
-      mark : (c : ℕ) → c < arcs N + arcs N → reduced N π (c / 2) ≡ pos 0 → (m : Bool) → getD tight (c / 2) false ≡ m → m ≡ true
-      mark c h z true e = refl
-      mark c h z false e = absurd (ti .unmarked (c / 2) (omega arith) e z)
+  -- marked arcs from `from` on
+  abbrev Free : ℕ → ℕ → Type 0
+  Free from a = (from ≤ a) × (getD tight a false ≡ true)
 
-  pub blocked-less : Blocked N f tight (tail N k) (head N k) (suc k) → NoLess N f k
-  blocked-less b = no-less N (ti .well-formed) f π (ti .least .flow) (ti .optimal) k l (b .inside) (closed (tail N k) (head N k) b) (b .has) (b .lacks)
+  closed : (s t from : ℕ) (b : Blocked N f tight s t from) → Closed N f (Free from) (b .inside)
+  closed s t from b = closed-steps N f (Free from) (b .inside) (λ c h o u i. b .shut c (omega (arith, o .0)) h (true-and (getD tight (c / 2) false) (usable N f c) (o .1) u) i)
 
-  pub blocked-more : Blocked N f tight (head N k) (tail N k) (suc k) → NoMore N f k
-  blocked-more b = no-more N (ti .well-formed) f π (ti .least .flow) (ti .optimal) k l (b .inside) (closed (head N k) (tail N k) b) (b .has) (b .lacks)
+  -- g has the numbers of f before arc `from`, but for arc k
+  module _ (from : ℕ) (g : List ℕ) (lg : LeastCost N g) (before : (a : ℕ) → a < from → a ≢ k → getD f a 0 ≡ getD g a 0) where
+    others : (a : ℕ) → a < arcs N → a ≢ k → Free from a ⊎ (getD g a 0 ≡ getD f a 0)
+    others a h ne = go (decLt a from) (getD tight a false) refl
+      where
+        go : Dec (a < from) → (m : Bool) → getD tight a false ≡ m → Free from a ⊎ (getD g a 0 ≡ getD f a 0)
+        go (yes p) m e = inr (sym (before a p ne))
+        go (no p) true e = inl (omega arith, e)
+        go (no p) false e = inr (ti .unmarked a h e g lg)
 
-  pub unmarked-less : getD tight k false ≡ false → NoLess N f k
-  unmarked-less e = no-less-tight N (ti .well-formed) f π (ti .least .flow) (ti .optimal) k l (ti .unmarked k l e)
+    pub blocked-less : Blocked N f tight (tail N k) (head N k) from → getD f k 0 ≤ getD g k 0
+    blocked-less b = no-less N (ti .well-formed) f g (ti .least .flow) (lg .flow) k l (Free from) (b .inside) (closed (tail N k) (head N k) from b) others (b .has) (b .lacks)
 
-  pub unmarked-more : getD tight k false ≡ false → NoMore N f k
-  unmarked-more e = no-more-tight N (ti .well-formed) f π (ti .least .flow) (ti .optimal) k l (ti .unmarked k l e)
-
-  pub bottom-less : getD f k 0 ≤ low N k → NoLess N f k
-  bottom-less h = no-less-bottom N (ti .well-formed) f π (ti .least .flow) (ti .optimal) k l h
-
-  pub top-more : up N k ≤ getD f k 0 → NoMore N f k
-  top-more h = no-more-top N (ti .well-formed) f π (ti .least .flow) (ti .optimal) k l h
+    pub blocked-more : Blocked N f tight (head N k) (tail N k) from → getD g k 0 ≤ getD f k 0
+    blocked-more b = no-more N (ti .well-formed) f g (ti .least .flow) (lg .flow) k l (Free from) (b .inside) (closed (head N k) (tail N k) from b) others (b .has) (b .lacks)

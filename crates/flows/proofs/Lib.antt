@@ -2,5 +2,5 @@ mod Detours
 pub mod Certified
 mod Minimising
 mod Following
-mod Candidates
+pub mod Candidates
 mod Counting

@@ -1,6 +1,5 @@
 -- What ties the marks that the code reads to the costs, which it does not.
 use mathlib.Core.Path.{_≡_}
-use mathlib.Core.Logic.{_≢_}
 use mathlib.Core.List.{List}
 use mathlib.Core.Bool.{Bool, true, false}
 use Prim.Native.Nat.{ℕ, _<_}
@@ -10,11 +9,11 @@ use Rattle.network.specs.Network.{Net, arcs, WellFormed, LeastCost}
 use Rattle.certificates.specs.Optimality.{reduced, Optimal}
 use Rattle.paths.specs.Graph.{netWith}
 
--- f is a least-cost flow with prices π, and `tight` marks the arcs whose reduced cost is 0
+-- f is a least-cost flow with prices π; the arcs that `tight` marks have reduced cost 0, and the others the same number in every least-cost flow
 pub record Tight (N : Net) (π : ℕ → ℤ) (tight : List Bool) (f : List ℕ) : Type 0 where
   pub well-formed : WellFormed N
   pub marked : (a : ℕ) → a < arcs N → getD tight a false ≡ true → reduced N π a ≡ pos 0
-  pub unmarked : (a : ℕ) → a < arcs N → getD tight a false ≡ false → reduced N π a ≢ pos 0
+  pub unmarked : (a : ℕ) → a < arcs N → getD tight a false ≡ false → (g : List ℕ) → LeastCost N g → getD g a 0 ≡ getD f a 0
   pub least : LeastCost N f
   pub optimal : Optimal N f π
 

@@ -1,5 +1,5 @@
 // The least-cost flows in order: the least flow from an arc on, the next flow, and the count.
-// `tight` marks the arcs of reduced cost 0: no least-cost flow differs from another on the rest.
+// `tight` marks arcs of reduced cost 0: no least-cost flow differs from another on the rest.
 ghost use mathlib.Core.Path.{_≡_};
 ghost use mathlib.Core.Bool.{true, false};
 ghost use mathlib.Core.Option.{some};

@@ -16,7 +16,7 @@ use Rattle.network.specs.Residual.{codes, usable}
 use Rattle.network.specs.FullList.{firstFlow}
 use Rattle.laws.specs.Members.{first?}
 use Rattle.network.proofs.FullList.{none-iff}
-use Rattle.certificates.specs.Optimality.{Optimal, priced-optimal, stepReduced}
+use Rattle.certificates.specs.Optimality.{Optimal, priced-optimal, off-tight, stepReduced}
 use Rattle.certificates.specs.Order.{first-line}
 use Rattle.search.specs.Labels.{costGraph, Relaxable}
 use Rattle.search.specs.Search.{Quiet, Settled}
@@ -24,9 +24,11 @@ use Rattle.search.specs.Prices.{PriceLabels}
 use Rattle.search.proofs.Cycles.{roomy-usable}
 use Rattle.search.proofs.Pricing.{usable-roomy}
 use Rattle.search.proofs.Potentials.{labels-quiet}
-use Rattle.paths.specs.Graph.{netWith}
+use Rattle.paths.specs.Graph.{graph, netWith}
+use Rattle.closure.specs.Candidates.{Narrowed}
 use Rattle.flows.specs.Minimising.{Minimised}
 use Rattle.flows.proofs.Certified.{tight-any}
+use Rattle.flows.proofs.Candidates.{narrowed}
 use Rattle.costs.specs.Costs.{endsAndCosts, MarkedBelow}
 use Rattle.least_cost.specs.Marked.{Marked}
 
@@ -50,21 +52,28 @@ module _ (b : List ℤ) (t h l u : List ℕ) (c : List ℤ) (f : List ℕ) where
   settled-whole s = record { potential = s .potential; quiet = record { low = s .quiet .low; reduced = s .quiet .reduced } }
 
   pub marked-by : WellFormed (netWith b t h l u c) → LeastCost (netWith b t h l u c) f → Relaxable (costGraph t h l u c) f → (d : List ℤ) → PriceLabels (costGraph t h l u c) f d
-      → (tight : List Bool) → length tight ≡ length t → MarkedBelow (endsAndCosts t h c) (λ v. getD d v (pos 0)) tight (length t) → Marked (netWith b t h l u c) tight f
-  marked-by ok least rel d P tight e m =
-      let q = labels-quiet (costGraph t h l u c) f rel d P in
-      record {
-        potential = λ v. getD d v (pos 0);
-        low = q .low;
-        marks-len = e;
-        marks = record {
-          well-formed = ok;
-          marked = m .marked;
-          unmarked = m .unmarked;
-          least = least;
-          optimal = quiet-optimal (netWith b t h l u c) f (λ v. getD d v (pos 0)) (record { low = q .low; reduced = q .reduced });
-        };
-      }
+      → (marks : List Bool) → MarkedBelow (endsAndCosts t h c) (λ v. getD d v (pos 0)) marks (length t) → (tight : List Bool) → length tight ≡ length t → Narrowed (graph t h l u) f marks tight → Marked (netWith b t h l u c) tight f
+  marked-by ok least rel d P marks m tight e n = record {
+    potential = π;
+    low = q .low;
+    marks-len = e;
+    marks = narrowed t h l u b c π marks f (record {
+      well-formed = ok;
+      marked = m .marked;
+      unmarked = λ a p z g lg. off-tight (netWith b t h l u c) ok f g π (least .flow) optimal lg a p (m .unmarked a p z);
+      least = least;
+      optimal = optimal;
+    }) tight n;
+  }
+    where
+      π : ℕ → ℤ
+      π v = getD d v (pos 0)
+
+      q : Quiet (costGraph t h l u c) f 1 π
+      q = labels-quiet (costGraph t h l u c) f rel d P
+
+      optimal : Optimal (netWith b t h l u c) f π
+      optimal = quiet-optimal (netWith b t h l u c) f π (record { low = q .low; reduced = q .reduced })
 
   -- a potential from the marks
   pub marked-settled : (tight : List Bool) → Marked (netWith b t h l u c) tight f → Settled (netWith b t h l u c) f 1

@@ -9,7 +9,7 @@ use lib.Signed.{_≤ℤ_}
 use Rattle.network.specs.Network.{Net, arcs}
 use Rattle.flows.specs.Tight.{Tight}
 
--- under some potential, `tight` marks the arcs of reduced cost 0, and f is a least-cost flow
+-- under some potential, `tight` marks arcs of reduced cost 0, all on which least-cost flows differ, and f is a least-cost flow
 pub record Marked (N : Net) (tight : List Bool) (f : List ℕ) : Type 0 where
   pub potential : ℕ → ℤ
   pub low : (v : ℕ) → potential v ≤ℤ pos 0

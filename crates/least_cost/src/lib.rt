@@ -8,7 +8,7 @@ ghost use Rattle.paths.specs.Graph.{netWith};
 ghost use Rattle.least_cost.specs.Marked.{Marked};
 ghost use Rattle.least_cost.specs.Answers.{FirstFlow, Tested, MarkedIfLeast};
 
-// Marks the arcs of reduced cost 0 under the prices of a least-cost flow.
+// Marks the arcs on which least-cost flows may differ: those of reduced cost 0 under the prices of one, and of them those that can be moved.
 fn mark(
     tails: &[u8],
     heads: &[u8],
@@ -24,6 +24,7 @@ fn mark(
 {
     let prices = search::prices(tails, heads, lows, ups, costs, flow);
     costs::mark_tight(tails, heads, costs, &prices, tight);
+    closure::unmark_fixed(tails, heads, lows, ups, tight, flow);
 }
 
 // The first flow, and its marks; false if there is none.

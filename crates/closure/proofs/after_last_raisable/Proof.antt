@@ -45,7 +45,7 @@ sub-closes-cycle : tie.Need-sub-closes-cycle Inv-loop μ-loop
 sub-closes-cycle c = omega (arith, c .before .loop-test .taken)
 
 closes-cycle-requires : tie.Need-closes-cycle-requires Inv-loop μ-loop
-closes-cycle-requires c κs = let i = c .before in raises (part (start (i .before))) _ _ (start (i .before) .pre) _ (i .before .loop .rows) (low i) (behind i)
+closes-cycle-requires c κs = let i = c .before in raises (part (start (i .before))) _ _ (start (i .before) .pre) _ (i .before .loop .rows) (low i) _ (behind i)
 
 returns : tie.Need-returns Inv-loop μ-loop
 returns c = c .before .before .before .before .loop .inv .1
@@ -69,7 +69,7 @@ loop-again c =
     let l = i .before .loop in (
       c .before .add-arc .ensures,
       raisable-step (part s) (s .args .flow .now) (s .args .free .now) (l .a) (i .loop-test .taken) (l .inv .1)
-          (not-raisable (part s) _ _ (s .pre) (l .a - 1) (l .rows) (low i) (behind i) (c .before .before .before .before .closes-cycle .ensures (c .before .before .before .if1 .left))),
+          (not-raisable (part s) _ _ (s .pre) (l .a - 1) (l .rows) (low i) _ (behind i) (c .before .before .before .before .closes-cycle .ensures .1 (c .before .before .before .if1 .left))),
     )
 
 returns-2 : tie.Need-returns-2 Inv-loop μ-loop

@@ -49,7 +49,7 @@ slice-aggregate-closes-cycle : tie.Need-slice-aggregate-closes-cycle Inv-loop μ
 slice-aggregate-closes-cycle c = sym (c .before .before .loop .inv .1 .preorder .rows-len)
 
 closes-cycle-requires : tie.Need-closes-cycle-requires Inv-loop μ-loop
-closes-cycle-requires c κs = let i = c .before in lowers (part (start (i .before))) _ _ (start (i .before) .pre .0) _ (i .before .loop .rows) (low i) (behind i)
+closes-cycle-requires c κs = let i = c .before in lowers (part (start (i .before))) _ _ (start (i .before) .pre .0) _ (i .before .loop .rows) (low i) _ (behind i)
 
 slice-aggregate-add-arc : tie.Need-slice-aggregate-add-arc Inv-loop μ-loop
 slice-aggregate-add-arc c = sym (c .before .before .before .before .before .loop .inv .1 .preorder .rows-len)
@@ -70,7 +70,7 @@ loop-again c =
       ⊎-elim
           (λ w. subst (λ (k : ℕ). NoneLowerable (part s) (s .args .flow .now) (s .args .free .now) (l .a - 1) k) (sym (w .1)) (lowerable-first (part s) (s .args .flow .now) (s .args .free .now) (l .a) (l .first) (l .inv .2)))
           (λ w. subst (λ (k : ℕ). NoneLowerable (part s) (s .args .flow .now) (s .args .free .now) (l .a - 1) k) (sym (w .1)) (lowerable-step (part s) (s .args .flow .now) (s .args .free .now) (l .a) (l .first) (some i) (l .inv .2)
-          (not-lowerable (part s) _ _ (s .pre .0) (l .a - 1) (l .rows) (low i) (behind i) (c .before .before .before .before .closes-cycle .ensures (w .0 .left)))))
+          (not-lowerable (part s) _ _ (s .pre .0) (l .a - 1) (l .rows) (low i) _ (behind i) (c .before .before .before .before .closes-cycle .ensures .1 (w .0 .left)))))
           (c .before .before .before .if1 .came),
     )
 

@@ -1,4 +1,5 @@
 use mathlib.Core.Path.{_≡_, refl, _∙_}
+use mathlib.Core.Logic.{inl, inr}
 use mathlib.Core.List.{List}
 use Prim.Native.Nat.{_≤_, _+_, ℕ, suc}
 use native.Mathlib.Omega.{arith}
@@ -11,9 +12,9 @@ use Rattle.network.specs.Network.{Net}
 use Rattle.certificates.specs.Push.{InBounds}
 use Rattle.paths.specs.Graph.{graph, netWith}
 use Rattle.paths.specs.Reaching.{Path}
-use Rattle.paths.proofs.Lists.{blocked-net, path-net, bounds-without-heads, bounds-with-heads, small-without-heads, searchable-again}
+use Rattle.paths.proofs.Lists.{path-net, bounds-without-heads, bounds-with-heads, small-without-heads, searchable-again}
 use Rattle.flows.specs.Tight.{Tight, ForAll}
-use Rattle.flows.proofs.Certified.{unmarked-less, bottom-less, blocked-less}
+use Rattle.flows.proofs.Candidates.{no-less}
 use Rattle.flows.proofs.Detours.{path-room}
 use Rattle.flows.proofs.Minimising.{LowTurn, low-start, low-step, low-done, room-without-heads, exact-net}
 use Rattle.flows.proofs.lower.Statement.{statement}
@@ -52,7 +53,7 @@ shared-slice-read-if1 : tie.Need-shared-slice-read-if1 Inv-loop μ-loop
 shared-slice-read-if1 c = let s = c .before .before .before .before .before .before .before in omega (arith, s .pre .1, s .pre .0 .searchable .free-len)
 
 returns : tie.Need-returns Inv-loop μ-loop
-returns c = let s = c .before .before .before .before .before .before .before .before in (s .pre .0 .bounds, λ b d π ti. low-done (whole s b d) π (s .args .tight .now) (s .args .flow .now) (s .args .a) (s .pre .1) (s .args .flow .now) (low-start (whole s b d) π (s .args .tight .now) (s .args .flow .now) (s .args .a) (s .pre .1) ti) (unmarked-less (whole s b d) (s .args .flow .now) (s .args .tight .now) (s .args .a) π ti (s .pre .1) (not-true _ (c .if1 .taken))))
+returns c = let s = c .before .before .before .before .before .before .before .before in (s .pre .0 .bounds, λ b d π ti. low-done (whole s b d) π (s .args .tight .now) (s .args .flow .now) (s .args .a) (s .pre .1) (s .args .flow .now) (low-start (whole s b d) π (s .args .tight .now) (s .args .flow .now) (s .args .a) (s .pre .1) ti) (no-less (s .args .tails .now) (s .args .heads .now) (s .args .lows .now) (s .args .ups .now) b d π (s .args .tight .now) (s .args .flow .now) ti (s .args .a) (s .pre .1) (inl (not-true _ (c .if1 .taken)))))
 
 shared-slice-read-s : tie.Need-shared-slice-read-s Inv-loop μ-loop
 shared-slice-read-s c = let s = c .before .before .before .before .before .before .before .before .before in s .pre .1
@@ -85,7 +86,7 @@ same-length : tie.Need-same-length Inv-loop μ-loop
 same-length c = c .before .before .loop .inv .0
 
 returns-2 : tie.Need-returns-2 Inv-loop μ-loop
-returns-2 c = let s = c .before .before .before .before .before .before .before .before .before .before .before .before .before .before in let a = c .before .before .loop in (a .inv .1, λ b d π ti. low-done (whole s b d) π (s .args .tight .now) (s .args .flow .now) (s .args .a) (s .pre .1) (a .flow) (a .inv .2 b d π ti) (bottom-less (whole s b d) (a .flow) (s .args .tight .now) (s .args .a) π (a .inv .2 b d π ti .tight-still) (s .pre .1) (c .if2 .taken)))
+returns-2 c = let s = c .before .before .before .before .before .before .before .before .before .before .before .before .before .before in let a = c .before .before .loop in (a .inv .1, λ b d π ti. low-done (whole s b d) π (s .args .tight .now) (s .args .flow .now) (s .args .a) (s .pre .1) (a .flow) (a .inv .2 b d π ti) (no-less (s .args .tails .now) (s .args .heads .now) (s .args .lows .now) (s .args .ups .now) b d π (s .args .tight .now) (a .flow) (a .inv .2 b d π ti .tight-still) (s .args .a) (s .pre .1) (inr (inl (c .if2 .taken)))))
 
 add-detour : tie.Need-add-detour Inv-loop μ-loop
 add-detour c = let s = c .before .before .before .before .before .before .before .before .before .before .before .before .before .before .before in omega (arith, s .pre .1, s .pre .0 .searchable .few)
@@ -100,7 +101,7 @@ returns-3 : tie.Need-returns-3 Inv-loop μ-loop
 returns-3 c = let s = c .before .before .before .before .before .before .before .before .before .before .before .before .before .before .before .before .before .before .before .before in let a = c .before .before .before .before .before .before .before .before .loop in (
   a .inv .1,
   λ b d π ti. low-done (whole s b d) π (s .args .tight .now) (s .args .flow .now) (s .args .a) (s .pre .1) (a .flow) (a .inv .2 b d π ti)
-      (blocked-less (whole s b d) (a .flow) (s .args .tight .now) (s .args .a) π (a .inv .2 b d π ti .tight-still) (s .pre .1) (blocked-net (s .args .tails .now) (s .args .heads .now) (s .args .lows .now) (s .args .ups .now) (a .flow) b d (s .args .tight .now) (getD (s .args .tails .now) (s .args .a) 0) (getD (s .args .heads .now) (s .args .a) 0) (suc (s .args .a)) (rw add-one at (rw (c .enum-told .given .1) at (c .before .before .before .detour .ensures))))),
+      (no-less (s .args .tails .now) (s .args .heads .now) (s .args .lows .now) (s .args .ups .now) b d π (s .args .tight .now) (a .flow) (a .inv .2 b d π ti .tight-still) (s .args .a) (s .pre .1) (inr (inr (rw add-one at (rw (c .enum-told .given .1) at (c .before .before .before .detour .ensures)))))),
 )
 
 take-off-requires : tie.Need-take-off-requires Inv-loop μ-loop

@@ -1,4 +1,5 @@
 use mathlib.Core.Path.{_≡_, refl}
+use mathlib.Core.Logic.{inl, inr}
 use mathlib.Core.List.{List}
 use Prim.Native.Nat.{_≤_, _+_, ℕ, suc}
 use native.Mathlib.Omega.{arith}
@@ -10,8 +11,8 @@ use borrow.Author.Needs.{needs}
 use Rattle.network.specs.Network.{Net}
 use Rattle.paths.specs.Graph.{graph, netWith}
 use Rattle.paths.specs.Reaching.{Path}
-use Rattle.paths.proofs.Lists.{blocked-net, path-net, bounds-without-heads, bounds-with-heads, small-without-heads}
-use Rattle.flows.proofs.Certified.{unmarked-more, top-more, blocked-more}
+use Rattle.paths.proofs.Lists.{path-net, bounds-without-heads, bounds-with-heads, small-without-heads}
+use Rattle.flows.proofs.Candidates.{no-more}
 use Rattle.flows.proofs.Detours.{path-room}
 use Rattle.flows.proofs.Following.{raise-no, raise-yes}
 use Rattle.flows.proofs.Minimising.{room-without-heads}
@@ -42,10 +43,10 @@ path-of : (d : tie.After-codes3) → Path (part (start d)) (start d .args .flow 
 path-of d = rw add-one at (told d .1)
 
 returns : tie.Need-returns
-returns c = let s = c .before .before .before .before .before .before .before .before in (s .pre .0 .bounds, λ _. refl, λ b d π ti. raise-no (whole s b d) π (s .args .tight .now) (s .args .flow .now) (s .args .a) (s .pre .1) ti (s .args .flow .now) (unmarked-more (whole s b d) (s .args .flow .now) (s .args .tight .now) (s .args .a) π ti (s .pre .1) (not-true _ (c .if1 .taken))))
+returns c = let s = c .before .before .before .before .before .before .before .before in (s .pre .0 .bounds, λ _. refl, λ b d π ti. raise-no (whole s b d) π (s .args .tight .now) (s .args .flow .now) (s .args .a) (s .pre .1) ti (s .args .flow .now) (no-more (s .args .tails .now) (s .args .heads .now) (s .args .lows .now) (s .args .ups .now) b d π (s .args .tight .now) (s .args .flow .now) ti (s .args .a) (s .pre .1) (inl (not-true _ (c .if1 .taken)))))
 
 returns-2 : tie.Need-returns-2
-returns-2 c = let s = c .before .before .before .before .before .before .before .before .before .before .before in (s .pre .0 .bounds, λ _. refl, λ b d π ti. raise-no (whole s b d) π (s .args .tight .now) (s .args .flow .now) (s .args .a) (s .pre .1) ti (s .args .flow .now) (top-more (whole s b d) (s .args .flow .now) (s .args .tight .now) (s .args .a) π ti (s .pre .1) (c .if2 .taken)))
+returns-2 c = let s = c .before .before .before .before .before .before .before .before .before .before .before in (s .pre .0 .bounds, λ _. refl, λ b d π ti. raise-no (whole s b d) π (s .args .tight .now) (s .args .flow .now) (s .args .a) (s .pre .1) ti (s .args .flow .now) (no-more (s .args .tails .now) (s .args .heads .now) (s .args .lows .now) (s .args .ups .now) b d π (s .args .tight .now) (s .args .flow .now) ti (s .args .a) (s .pre .1) (inr (inl (c .if2 .taken)))))
 
 cast-s : tie.Need-cast-s
 cast-s c = let s = c .before .before .before .before .before .before .before .before .before .before .before .before in omega (arith, s .pre .0 .searchable .tail-in (s .args .a) (s .pre .1))
@@ -61,7 +62,7 @@ returns-4 c = let s = c .before .before .before .before .before .before .before 
   s .pre .0 .bounds,
   λ _. refl,
   λ b d π ti. raise-no (whole s b d) π (s .args .tight .now) (s .args .flow .now) (s .args .a) (s .pre .1) ti (s .args .flow .now)
-      (blocked-more (whole s b d) (s .args .flow .now) (s .args .tight .now) (s .args .a) π ti (s .pre .1) (blocked-net (s .args .tails .now) (s .args .heads .now) (s .args .lows .now) (s .args .ups .now) (s .args .flow .now) b d (s .args .tight .now) (getD (s .args .heads .now) (s .args .a) 0) (getD (s .args .tails .now) (s .args .a) 0) (suc (s .args .a)) (rw add-one at (rw (c .enum-told .given .1) at (c .before .before .before .detour .ensures))))),
+      (no-more (s .args .tails .now) (s .args .heads .now) (s .args .lows .now) (s .args .ups .now) b d π (s .args .tight .now) (s .args .flow .now) ti (s .args .a) (s .pre .1) (inr (inr (rw add-one at (rw (c .enum-told .given .1) at (c .before .before .before .detour .ensures)))))),
 )
 
 put-on-requires : tie.Need-put-on-requires
