@@ -1,5 +1,5 @@
 -- From the price labels of a flow to its marks, and back to a potential.
-use mathlib.Core.Path.{_≡_, refl, ap}
+use mathlib.Core.Path.{_≡_, refl, ap, _∙_}
 use mathlib.Core.Bool.{Bool, true, false}
 use mathlib.Core.List.{List}
 use mathlib.Core.Option.{none, some}
@@ -52,18 +52,18 @@ module _ (b : List ℤ) (t h l u : List ℕ) (c : List ℤ) (f : List ℕ) where
   settled-whole s = record { potential = s .potential; quiet = record { low = s .quiet .low; reduced = s .quiet .reduced } }
 
   pub marked-by : WellFormed (netWith b t h l u c) → LeastCost (netWith b t h l u c) f → Relaxable (costGraph t h l u c) f → (d : List ℤ) → PriceLabels (costGraph t h l u c) f d
-      → (marks : List Bool) → MarkedBelow (endsAndCosts t h c) (λ v. getD d v (pos 0)) marks (length t) → (tight : List Bool) → length tight ≡ length t → Narrowed (graph t h l u) f marks tight → Marked (netWith b t h l u c) tight f
-  marked-by ok least rel d P marks m tight e n = record {
+      → (tight : List Bool) → length tight ≡ length t → MarkedBelow (endsAndCosts t h c) (λ v. getD d v (pos 0)) tight (length t) → Marked (netWith b t h l u c) tight f
+  marked-by ok least rel d P tight e m = record {
     potential = π;
     low = q .low;
     marks-len = e;
-    marks = narrowed t h l u b c π marks f (record {
+    marks = record {
       well-formed = ok;
       marked = m .marked;
-      unmarked = λ a p z g lg. off-tight (netWith b t h l u c) ok f g π (least .flow) optimal lg a p (m .unmarked a p z);
+      unmarked = λ a k z g lg. off-tight (netWith b t h l u c) ok f g π (least .flow) optimal lg a k (m .unmarked a k z);
       least = least;
       optimal = optimal;
-    }) tight n;
+    };
   }
     where
       π : ℕ → ℤ
@@ -74,6 +74,14 @@ module _ (b : List ℤ) (t h l u : List ℕ) (c : List ℤ) (f : List ℕ) where
 
       optimal : Optimal (netWith b t h l u c) f π
       optimal = quiet-optimal (netWith b t h l u c) f π (record { low = q .low; reduced = q .reduced })
+
+  pub marked-narrowed : (tight left : List Bool) → Marked (netWith b t h l u c) tight f → length left ≡ length tight → Narrowed (graph t h l u) f tight left → Marked (netWith b t h l u c) left f
+  marked-narrowed tight left m e n = record {
+    potential = m .potential;
+    low = m .low;
+    marks-len = e ∙ m .marks-len;
+    marks = narrowed t h l u b c (m .potential) tight f (m .marks) left n;
+  }
 
   -- a potential from the marks
   pub marked-settled : (tight : List Bool) → Marked (netWith b t h l u c) tight f → Settled (netWith b t h l u c) f 1

@@ -8,7 +8,7 @@ ghost use Rattle.paths.specs.Graph.{netWith};
 ghost use Rattle.least_cost.specs.Marked.{Marked};
 ghost use Rattle.least_cost.specs.Answers.{FirstFlow, Tested, MarkedIfLeast};
 
-// Marks the arcs on which least-cost flows may differ: those of reduced cost 0 under the prices of one, and of them those that can be moved.
+// Marks the arcs of reduced cost 0 under the prices of a least-cost flow.
 fn mark(
     tails: &[u8],
     heads: &[u8],
@@ -24,10 +24,9 @@ fn mark(
 {
     let prices = search::prices(tails, heads, lows, ups, costs, flow);
     costs::mark_tight(tails, heads, costs, &prices, tight);
-    closure::unmark_fixed(tails, heads, lows, ups, tight, flow);
 }
 
-// The first flow, and its marks; false if there is none.
+// The first flow, and its marks; false if there is none. A list begins here, so the marks are narrowed: a single step would not repay it.
 pub fn first_flow(
     tails: &[u8],
     heads: &[u8],
@@ -46,6 +45,7 @@ pub fn first_flow(
     }
     cancelling::cheapen(tails, heads, lows, ups, costs, flow);
     mark(tails, heads, lows, ups, costs, balances, flow, tight);
+    closure::unmark_fixed(tails, heads, lows, ups, tight, flow);
     flows::minimise(tails, heads, lows, ups, tight, flow, 0);
     true
 }

@@ -1,17 +1,16 @@
-use mathlib.Core.Path.{_≡_, sym, _∙_}
+use mathlib.Core.Path.{sym, _∙_}
+use mathlib.Core.Bool.{true≢false}
 use mathlib.Core.Logic.{inl, inr}
-use Prim.Native.Nat.{ℕ}
-use native.Mathlib.Omega.{arith}
 use borrow.Author.Needs.{needs}
 use borrow.Author.Tests.{not-true, not-false}
 use Rattle.closure.proofs.closes_cycle.Statement.{statement}
 use Rattle.closure.proofs.closes_cycle.Tie as tie
 
 returns : tie.Need-returns
-returns c = (λ e. absurd (let z : _≡_ {A = ℕ} 0 1 = cc in omega arith), λ _. inl (not-true _ (c .if1 .taken)))
+returns c = (λ e. absurd (true≢false (sym e)), λ _. inl (not-true _ (c .if1 .taken)))
 
 returns-2 : tie.Need-returns-2
-returns-2 c = (λ e. absurd (let z : _≡_ {A = ℕ} 0 1 = cc in omega arith), λ _. inr (inl (c .if2 .taken)))
+returns-2 c = (λ e. absurd (true≢false (sym e)), λ _. inr (inl (c .if2 .taken)))
 
 returns-3 : tie.Need-returns-3
 returns-3 c = (λ _. not-false _ (c .before .before .before .before .before .before .before .if1 .left), λ e. inr (inr (sym (c .has .ensures) ∙ e)))

@@ -1,6 +1,4 @@
-use mathlib.Core.Path.{_≡_}
-use Prim.Native.Nat.{ℕ}
-use native.Mathlib.Omega.{arith}
+use mathlib.Core.Bool.{true≢false}
 use Rattle.closure.proofs.on_cycle.Statement.{statement}
 use Rattle.closure.proofs.on_cycle.Tie as tie
 
@@ -8,7 +6,7 @@ closes-cycle-requires : tie.Need-closes-cycle-requires
 closes-cycle-requires c κs = c .before .before .before .before .before .before .before .pre .0
 
 returns : tie.Need-returns
-returns c = (λ _. c .before .closes-cycle .ensures .0 (c .if1 .taken), λ e. absurd (let z : _≡_ {A = ℕ} 0 1 = cc in omega arith))
+returns c = (λ _. c .before .closes-cycle .ensures .0 (c .if1 .taken), λ e. absurd (true≢false e))
 
 closes-cycle-requires-2 : tie.Need-closes-cycle-requires-2
 closes-cycle-requires-2 c κs = c .before .before .before .before .before .before .before .before .before .pre .1

@@ -2,20 +2,17 @@ use mathlib.Core.Path.{_∙_}
 use native.Mathlib.Omega.{arith}
 use borrow.Author.Needs.{needs}
 use Rattle.laws.specs.Range.{bounded-more}
-use Rattle.certificates.specs.Push.{InBounds, flow-bounds}
+use Rattle.certificates.specs.Push.{flow-bounds}
 use Rattle.search.specs.Labels.{costGraph, Relaxable}
 use Rattle.search.proofs.Potentials.{labels-small}
 use Rattle.paths.specs.Graph.{netWith}
-use Rattle.least_cost.proofs.Premises.{relaxable, cost-small, ready}
+use Rattle.least_cost.proofs.Premises.{relaxable, cost-small}
 use Rattle.least_cost.proofs.Marked.{settled-bare, marked-by}
 use Rattle.least_cost.proofs.mark.Statement.{statement}
 use Rattle.least_cost.proofs.mark.Tie as tie
 
-bounds : (s : tie.Start) → InBounds (netWith (s .args .balances .now) (s .args .tails .now) (s .args .heads .now) (s .args .lows .now) (s .args .ups .now) (s .args .costs .now)) (s .args .flow .now)
-bounds s = flow-bounds (netWith (s .args .balances .now) (s .args .tails .now) (s .args .heads .now) (s .args .lows .now) (s .args .ups .now) (s .args .costs .now)) (s .args .flow .now) (s .pre .1 .flow)
-
 can-relax : (s : tie.Start) → Relaxable (costGraph (s .args .tails .now) (s .args .heads .now) (s .args .lows .now) (s .args .ups .now) (s .args .costs .now)) (s .args .flow .now)
-can-relax s = relaxable (s .args .balances .now) (s .args .tails .now) (s .args .heads .now) (s .args .lows .now) (s .args .ups .now) (s .args .costs .now) (s .pre .0) (s .args .flow .now) (bounds s)
+can-relax s = relaxable (s .args .balances .now) (s .args .tails .now) (s .args .heads .now) (s .args .lows .now) (s .args .ups .now) (s .args .costs .now) (s .pre .0) (s .args .flow .now) (flow-bounds (netWith (s .args .balances .now) (s .args .tails .now) (s .args .heads .now) (s .args .lows .now) (s .args .ups .now) (s .args .costs .now)) (s .args .flow .now) (s .pre .1 .flow))
 
 prices-requires : tie.Need-prices-requires
 prices-requires c κs = let s = c .before .before .before .before .before .before in (can-relax s, settled-bare (s .args .balances .now) (s .args .tails .now) (s .args .heads .now) (s .args .lows .now) (s .args .ups .now) (s .args .costs .now) (s .args .flow .now) (s .pre .2))
@@ -38,24 +35,18 @@ mark-tight-requires c κs =
       price-small = λ v h. bounded-more (omega arith) (labels-small (costGraph (s .args .tails .now) (s .args .heads .now) (s .args .lows .now) (s .args .ups .now) (s .args .costs .now)) (s .args .flow .now) (can-relax s) (p .result) (p .ensures) v (omega (arith, p .ensures .len)));
     }
 
-unmark-fixed-requires : tie.Need-unmark-fixed-requires
-unmark-fixed-requires c κs =
-    let s = c .before .before .before .before .before .before .before .before .before .before .before .before .before in
-    ready (s .args .balances .now) (s .args .tails .now) (s .args .heads .now) (s .args .lows .now) (s .args .ups .now) (s .args .costs .now) (s .pre .0) (s .args .flow .now) (bounds s) _ (c .before .before .before .mark-tight .kept .1 .1 .1 .1 .0 ∙ s .pre .3) .searchable
-
 same-length : tie.Need-same-length
 same-length c = search needs
 
 returns : tie.Need-returns
 returns c =
-    let s = c .before .before .before .before .before .before .before .before .before .before .before .before .before .before .before .before in
-    let p = c .before .before .before .before .before .before .before .before .before .prices in
-    let m = c .before .before .before .before .before .before .mark-tight in
-    let n = c .before .before .unmark-fixed in
+    let s = c .before .before .before .before .before .before .before .before .before .before .before .before in
+    let p = c .before .before .before .before .before .prices in
+    let m = c .before .before .mark-tight in
     marked-by (s .args .balances .now) (s .args .tails .now) (s .args .heads .now) (s .args .lows .now) (s .args .ups .now) (s .args .costs .now) (s .args .flow .now) (s .pre .0 .well-formed) (s .pre .1) (can-relax s) (p .result) (p .ensures)
-    (m .last .1 .1 .1 .1 .0) (m .ensures) (n .last .1 .1 .1 .1 .0) (n .kept .1 .1 .1 .1 .0 ∙ m .kept .1 .1 .1 .1 .0 ∙ s .pre .3) (n .ensures)
+    (m .last .1 .1 .1 .1 .0) (m .kept .1 .1 .1 .1 .0 ∙ s .pre .3) (m .ensures)
 
 pub mark-spec : {M : Type 1} → statement M
 mark-spec =
     tie.close
-    (tie.spec prices-requires slice-aggregate-mark-tight mark-tight-requires unmark-fixed-requires same-length returns)
+    (tie.spec prices-requires slice-aggregate-mark-tight mark-tight-requires same-length returns)
