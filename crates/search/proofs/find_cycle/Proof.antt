@@ -11,7 +11,7 @@ use Rattle.search.specs.Labels.{costGraph, SmallGraph}
 use Rattle.search.specs.Predecessors.{Returns, WentBack, Labelled}
 use Rattle.search.specs.Search.{Searched, none}
 use Rattle.search.proofs.Rounds.{sized-more}
-use Rattle.search.proofs.Searching.{Searching, searching-start, zero-at, labelled′, quiet-of, fell, returns-of, searching-more, searched-found, went-any, returns-any, collected-any, graph-any}
+use Rattle.search.proofs.Searching.{Searching, searching-start, labelled′, quiet-of, fell, returns-of, searching-more, searched-found, went-any, returns-any, collected-any, graph-any}
 use Rattle.search.proofs.find_cycle.Statement.{statement}
 use Rattle.search.proofs.find_cycle.Tie as tie
 
