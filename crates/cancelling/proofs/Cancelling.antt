@@ -20,7 +20,7 @@ use Rattle.network.specs.Network.{Net, arcs, up, cost, on, netOut, costOf}
 use Rattle.network.specs.Residual.{codes, src, dst, stepCost, Walk, walkCost}
 use Rattle.certificates.specs.Push.{pushAll, Fits, roomOf, InBounds, room-fits, Trail, trailCost, all-bounds, all-netOut, all-cost}
 use Rattle.search.specs.Labels.{costGraph, Relaxable}
-use Rattle.search.specs.Search.{Settled, NegativeCycle, Searched, found, none}
+use Rattle.search.specs.Search.{QuietLabels, NegativeCycle, Searched, found, none}
 use Rattle.paths.specs.Graph.{graph}
 use Rattle.paths.specs.Pushing.{SmallBounds, roomAll, Pushable}
 use Rattle.paths.proofs.LeastRoom.{room-each, room-pos, way-codes, usable-room}
@@ -71,13 +71,13 @@ module _ (N : Net) (f : List ℕ) (b : InBounds N f) (δ : ℕ) (cs : List ℕ) 
       (subst (λ z. z <ℤ pos 0) (walk-cost N cs) (C .negative)) (simp lin (omega arith))
 
 -- ---- what the search found
-pub settled-of : (N : Net) (f : List ℕ) (δ : ℕ) (out : List ℕ) (r : ℕ) → Searched N f δ out r → r ≡ 0 → Settled N f δ
-settled-of N f δ out r (none _ π q) e = record { potential = π; quiet = q }
-settled-of N f δ out r (found _ C) e = absurd (let h : 0 < length (take 0 out) = subst (λ (k : ℕ). 0 < length (take k out)) e (C .cycle .some) in omega arith)
+pub labels-of : (N : Net) (f : List ℕ) (δ : ℕ) (d : List ℤ) (out : List ℕ) (r : ℕ) → Searched N f δ d out r → r ≡ 0 → QuietLabels N f δ d
+labels-of N f δ d out r (none _ q) e = q
+labels-of N f δ d out r (found _ C) e = absurd (let h : 0 < length (take 0 out) = subst (λ (k : ℕ). 0 < length (take k out)) e (C .cycle .some) in omega arith)
 
-pub cycle-of : (N : Net) (f : List ℕ) (δ : ℕ) (out : List ℕ) (r : ℕ) → Searched N f δ out r → r ≢ 0 → (r ≤ 64) × NegativeCycle N f δ (take r out)
-cycle-of N f δ out r (none e _ _) ne = absurd (ne e)
-cycle-of N f δ out r (found h C) ne = (h, C)
+pub cycle-of : (N : Net) (f : List ℕ) (δ : ℕ) (d : List ℤ) (out : List ℕ) (r : ℕ) → Searched N f δ d out r → r ≢ 0 → (r ≤ 64) × NegativeCycle N f δ (take r out)
+cycle-of N f δ d out r (none e _) ne = absurd (ne e)
+cycle-of N f δ d out r (found h C) ne = (h, C)
 
 -- ---- the same of the lists that the code holds
 module _ (t h l u : List ℕ) (k : List ℤ) (f : List ℕ) (ok : Relaxable (costGraph t h l u k) f) where
@@ -146,10 +146,10 @@ falls N f g ok h = go (costOf N g) (costOf N f) (cost-small N g ok) h
     go x y b h = plus-lt {x = x +ℤ pos 512000000000000} {y = y +ℤ pos 512000000000000} (given b (simp fits (omega arith))) (given h (simp lin (omega arith)))
 
 -- ---- what `cancel` answers
-pub one-less : (N : Net) (f g : List ℕ) (δ : ℕ) (r : Bool) → Cancels N f g δ r → r ≡ true → Rerouted N f g × (costOf N g <ℤ costOf N f)
-one-less N f g δ r h e = subst (λ (b : Bool). Cancels N f g δ b) e h
+pub one-less : (N : Net) (f g : List ℕ) (δ : ℕ) (d : List ℤ) (r : Bool) → Cancels N f g δ d r → r ≡ true → Rerouted N f g × (costOf N g <ℤ costOf N f)
+one-less N f g δ d r h e = subst (λ (b : Bool). Cancels N f g δ d b) e h
 
-pub none-left : (N : Net) (f₀ f g : List ℕ) (δ : ℕ) (r : Bool) → Rerouted N f₀ f → Cancels N f g δ r → r ≡ false → Rerouted N f₀ g × Settled N g δ
-none-left N f₀ f g δ r a h e =
-    let k : Cancels N f g δ false = subst (λ (b : Bool). Cancels N f g δ b) e h in
-    subst (λ (x : List ℕ). Rerouted N f₀ x × Settled N x δ) (sym (k .0)) (a, k .1)
+pub none-left : (N : Net) (f₀ f g : List ℕ) (δ : ℕ) (d : List ℤ) (r : Bool) → Rerouted N f₀ f → Cancels N f g δ d r → r ≡ false → Rerouted N f₀ g × QuietLabels N g δ d
+none-left N f₀ f g δ d r a h e =
+    let k : Cancels N f g δ d false = subst (λ (b : Bool). Cancels N f g δ d b) e h in
+    subst (λ (x : List ℕ). Rerouted N f₀ x × QuietLabels N x δ d) (sym (k .0)) (a, k .1)

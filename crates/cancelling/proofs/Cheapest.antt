@@ -5,7 +5,7 @@ use Prim.Native.Nat.{ℕ}
 use lib.IntN.{ℤ}
 use Rattle.network.specs.Network.{WellFormed, IsFlow, LeastCost}
 use Rattle.search.specs.Labels.{costGraph}
-use Rattle.search.specs.Search.{Settled}
+use Rattle.search.specs.Search.{Quiet}
 use Rattle.search.proofs.Pricing.{quiet-least}
 use Rattle.paths.specs.Graph.{netWith}
 use Rattle.cancelling.specs.Cancelling.{Rerouted}
@@ -20,5 +20,5 @@ module _ (b : List ℤ) (t h l u : List ℕ) (c : List ℤ) (f g : List ℕ) whe
     balanced = λ v k. R .same v ∙ F .balanced v k;
   }
 
-  pub cheapest : WellFormed (netWith b t h l u c) → IsFlow (netWith b t h l u c) f → Rerouted (costGraph t h l u c) f g → Settled (costGraph t h l u c) g 1 → LeastCost (netWith b t h l u c) g
-  cheapest ok F R S = quiet-least b t h l u c g ok (rerouted-flow F R) (S .potential) (S .quiet)
+  pub cheapest : WellFormed (netWith b t h l u c) → IsFlow (netWith b t h l u c) f → Rerouted (costGraph t h l u c) f g → (π : ℕ → ℤ) → Quiet (costGraph t h l u c) g 1 π → LeastCost (netWith b t h l u c) g
+  cheapest ok F R = quiet-least b t h l u c g ok (rerouted-flow F R)

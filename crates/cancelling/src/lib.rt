@@ -1,7 +1,9 @@
 // Cancelling negative cycles (Klein), those with much room first (capacity scaling), until there is none.
+ghost use mathlib.Core.Path.{_≡_};
 ghost use Prim.Native.Nat.{_≤_, _<_};
+ghost use lib.ListN.{length};
 ghost use Rattle.search.specs.Labels.{costGraph, Relaxable};
-ghost use Rattle.search.specs.Search.{Settled};
+ghost use Rattle.search.specs.Search.{QuietLabels};
 ghost use Rattle.cancelling.specs.Cancelling.{Rerouted, Cancels};
 
 // As much as there is room for, sent along a negative cycle that has room for `need`; false, and the same flow, if there is none.
@@ -13,12 +15,23 @@ fn cancel(
     costs: &[i32],
     flow: &mut [u32],
     need: u32,
+    labels: &mut [i64],
 ) -> bool
-    requires { ⌜ Relaxable (costGraph (now tails) (now heads) (now lows) (now ups) (now costs)) (now flow) × (0 < need) × (need ≤ 1000000) ⌝ }
-    ensures { λ r. ⌜ Cancels (costGraph (now (tails .entry)) (now (heads .entry)) (now (lows .entry)) (now (ups .entry)) (now (costs .entry))) (now (flow .entry)) (now (flow .exit)) need r ⌝ }
+    requires { ⌜ Relaxable (costGraph (now tails) (now heads) (now lows) (now ups) (now costs)) (now flow) × (0 < need) × (need ≤ 1000000) × (length (now labels) ≡ 64) ⌝ }
+    ensures { λ r. ⌜ Cancels (costGraph (now (tails .entry)) (now (heads .entry)) (now (lows .entry)) (now (ups .entry)) (now (costs .entry))) (now (flow .entry)) (now (flow .exit)) need (now (labels .exit)) r ⌝ }
 {
     let mut codes = [0usize; 64];
-    let len = search::find_cycle(tails, heads, lows, ups, costs, flow, need, &mut codes);
+    let len = search::find_cycle(
+        tails,
+        heads,
+        lows,
+        ups,
+        costs,
+        flow,
+        need,
+        labels,
+        &mut codes,
+    );
     if len == 0 {
         return false;
     }
@@ -36,12 +49,13 @@ fn cancel_all(
     costs: &[i32],
     flow: &mut [u32],
     need: u32,
+    labels: &mut [i64],
 )
-    requires { ⌜ Relaxable (costGraph (now tails) (now heads) (now lows) (now ups) (now costs)) (now flow) × (0 < need) × (need ≤ 1000000) ⌝ }
-    ensures { λ _. ⌜ Rerouted (costGraph (now (tails .entry)) (now (heads .entry)) (now (lows .entry)) (now (ups .entry)) (now (costs .entry))) (now (flow .entry)) (now (flow .exit)) × Settled (costGraph (now (tails .entry)) (now (heads .entry)) (now (lows .entry)) (now (ups .entry)) (now (costs .entry))) (now (flow .exit)) need ⌝ }
+    requires { ⌜ Relaxable (costGraph (now tails) (now heads) (now lows) (now ups) (now costs)) (now flow) × (0 < need) × (need ≤ 1000000) × (length (now labels) ≡ 64) ⌝ }
+    ensures { λ _. ⌜ Rerouted (costGraph (now (tails .entry)) (now (heads .entry)) (now (lows .entry)) (now (ups .entry)) (now (costs .entry))) (now (flow .entry)) (now (flow .exit)) × QuietLabels (costGraph (now (tails .entry)) (now (heads .entry)) (now (lows .entry)) (now (ups .entry)) (now (costs .entry))) (now (flow .exit)) need (now (labels .exit)) ⌝ }
 {
     loop {
-        if !cancel(tails, heads, lows, ups, costs, flow, need) {
+        if !cancel(tails, heads, lows, ups, costs, flow, need, labels) {
             return;
         }
     }
@@ -55,13 +69,14 @@ fn cancel_by_scaling(
     ups: &[u32],
     costs: &[i32],
     flow: &mut [u32],
+    labels: &mut [i64],
 )
-    requires { ⌜ Relaxable (costGraph (now tails) (now heads) (now lows) (now ups) (now costs)) (now flow) ⌝ }
-    ensures { λ _. ⌜ Rerouted (costGraph (now (tails .entry)) (now (heads .entry)) (now (lows .entry)) (now (ups .entry)) (now (costs .entry))) (now (flow .entry)) (now (flow .exit)) × Settled (costGraph (now (tails .entry)) (now (heads .entry)) (now (lows .entry)) (now (ups .entry)) (now (costs .entry))) (now (flow .exit)) 1 ⌝ }
+    requires { ⌜ Relaxable (costGraph (now tails) (now heads) (now lows) (now ups) (now costs)) (now flow) × (length (now labels) ≡ 64) ⌝ }
+    ensures { λ _. ⌜ Rerouted (costGraph (now (tails .entry)) (now (heads .entry)) (now (lows .entry)) (now (ups .entry)) (now (costs .entry))) (now (flow .entry)) (now (flow .exit)) × QuietLabels (costGraph (now (tails .entry)) (now (heads .entry)) (now (lows .entry)) (now (ups .entry)) (now (costs .entry))) (now (flow .exit)) 1 (now (labels .exit)) ⌝ }
 {
     let mut need: u32 = 524288;
     loop {
-        cancel_all(tails, heads, lows, ups, costs, flow, need);
+        cancel_all(tails, heads, lows, ups, costs, flow, need, labels);
         if need == 1 {
             return;
         }
@@ -77,12 +92,13 @@ pub fn cheapen(
     ups: &[u32],
     costs: &[i32],
     flow: &mut [u32],
+    labels: &mut [i64],
 )
-    requires { ⌜ Relaxable (costGraph (now tails) (now heads) (now lows) (now ups) (now costs)) (now flow) ⌝ }
-    ensures { λ _. ⌜ Rerouted (costGraph (now (tails .entry)) (now (heads .entry)) (now (lows .entry)) (now (ups .entry)) (now (costs .entry))) (now (flow .entry)) (now (flow .exit)) × Settled (costGraph (now (tails .entry)) (now (heads .entry)) (now (lows .entry)) (now (ups .entry)) (now (costs .entry))) (now (flow .exit)) 1 ⌝ }
+    requires { ⌜ Relaxable (costGraph (now tails) (now heads) (now lows) (now ups) (now costs)) (now flow) × (length (now labels) ≡ 64) ⌝ }
+    ensures { λ _. ⌜ Rerouted (costGraph (now (tails .entry)) (now (heads .entry)) (now (lows .entry)) (now (ups .entry)) (now (costs .entry))) (now (flow .entry)) (now (flow .exit)) × QuietLabels (costGraph (now (tails .entry)) (now (heads .entry)) (now (lows .entry)) (now (ups .entry)) (now (costs .entry))) (now (flow .exit)) 1 (now (labels .exit)) ⌝ }
 {
-    if !cancel(tails, heads, lows, ups, costs, flow, 1) {
+    if !cancel(tails, heads, lows, ups, costs, flow, 1, labels) {
         return;
     }
-    cancel_by_scaling(tails, heads, lows, ups, costs, flow);
+    cancel_by_scaling(tails, heads, lows, ups, costs, flow, labels);
 }

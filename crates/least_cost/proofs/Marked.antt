@@ -1,4 +1,4 @@
--- From the price labels of a flow to its marks, and back to a potential.
+-- From the labels of a flow to its marks, and back to a potential.
 use mathlib.Core.Path.{_≡_, refl, ap, _∙_}
 use mathlib.Core.Bool.{Bool, true, false}
 use mathlib.Core.List.{List}
@@ -18,12 +18,10 @@ use Rattle.laws.specs.Members.{first?}
 use Rattle.network.proofs.FullList.{none-iff}
 use Rattle.certificates.specs.Optimality.{Optimal, priced-optimal, off-tight, stepReduced}
 use Rattle.certificates.specs.Order.{first-line}
-use Rattle.search.specs.Labels.{costGraph, Relaxable}
-use Rattle.search.specs.Search.{Quiet, Settled}
-use Rattle.search.specs.Prices.{PriceLabels}
+use Rattle.search.specs.Labels.{costGraph}
+use Rattle.search.specs.Search.{Quiet, Settled, QuietLabels}
 use Rattle.search.proofs.Cycles.{roomy-usable}
 use Rattle.search.proofs.Pricing.{usable-roomy}
-use Rattle.search.proofs.Potentials.{labels-quiet}
 use Rattle.paths.specs.Graph.{graph, netWith}
 use Rattle.closure.specs.Candidates.{Narrowed}
 use Rattle.flows.specs.Minimising.{Minimised}
@@ -48,14 +46,14 @@ module _ (b : List ℤ) (t h l u : List ℕ) (c : List ℤ) (f : List ℕ) where
   pub settled-bare : Settled (netWith b t h l u c) f 1 → Settled (costGraph t h l u c) f 1
   settled-bare s = record { potential = s .potential; quiet = record { low = s .quiet .low; reduced = s .quiet .reduced } }
 
-  pub settled-whole : Settled (costGraph t h l u c) f 1 → Settled (netWith b t h l u c) f 1
-  settled-whole s = record { potential = s .potential; quiet = record { low = s .quiet .low; reduced = s .quiet .reduced } }
+  pub labels-whole : (d : List ℤ) → QuietLabels (costGraph t h l u c) f 1 d → QuietLabels (netWith b t h l u c) f 1 d
+  labels-whole d q = record { len = q .len; quiet = record { low = q .quiet .low; reduced = q .quiet .reduced }; small = q .small }
 
-  pub marked-by : WellFormed (netWith b t h l u c) → LeastCost (netWith b t h l u c) f → Relaxable (costGraph t h l u c) f → (d : List ℤ) → PriceLabels (costGraph t h l u c) f d
+  pub marked-by : WellFormed (netWith b t h l u c) → LeastCost (netWith b t h l u c) f → (d : List ℤ) → QuietLabels (netWith b t h l u c) f 1 d
       → (tight : List Bool) → length tight ≡ length t → MarkedBelow (endsAndCosts t h c) (λ v. getD d v (pos 0)) tight (length t) → Marked (netWith b t h l u c) tight f
-  marked-by ok least rel d P tight e m = record {
+  marked-by ok least d q tight e m = record {
     potential = π;
-    low = q .low;
+    low = q .quiet .low;
     marks-len = e;
     marks = record {
       well-formed = ok;
@@ -69,11 +67,8 @@ module _ (b : List ℤ) (t h l u : List ℕ) (c : List ℤ) (f : List ℕ) where
       π : ℕ → ℤ
       π v = getD d v (pos 0)
 
-      q : Quiet (costGraph t h l u c) f 1 π
-      q = labels-quiet (costGraph t h l u c) f rel d P
-
       optimal : Optimal (netWith b t h l u c) f π
-      optimal = quiet-optimal (netWith b t h l u c) f π (record { low = q .low; reduced = q .reduced })
+      optimal = quiet-optimal (netWith b t h l u c) f π (q .quiet)
 
   pub marked-narrowed : (tight left : List Bool) → Marked (netWith b t h l u c) tight f → length left ≡ length tight → Narrowed (graph t h l u) f tight left → Marked (netWith b t h l u c) left f
   marked-narrowed tight left m e n = record {

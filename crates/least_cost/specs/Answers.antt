@@ -4,9 +4,10 @@ use mathlib.Core.Bool.{Bool, true, false}
 use mathlib.Core.List.{List}
 use mathlib.Core.Option.{none, some}
 use Prim.Native.Nat.{ℕ}
+use lib.IntN.{ℤ}
 use Rattle.network.specs.Network.{Net, LeastCost}
 use Rattle.network.specs.FullList.{firstFlow}
-use Rattle.search.specs.Search.{Settled}
+use Rattle.search.specs.Search.{QuietLabels}
 use Rattle.least_cost.specs.Marked.{Marked}
 
 -- the first flow, marked; or there is none
@@ -14,10 +15,10 @@ abbrev pub FirstFlow : Net → List ℕ → List Bool → Bool → Type 0
 FirstFlow N f tight true = (firstFlow N ≡ some f) × Marked N tight f
 FirstFlow N f tight false = firstFlow N ≡ none
 
--- whether f is a least-cost flow; if so, no negative cycle has room for 1
-abbrev pub Tested : Net → List ℕ → Bool → Type 0
-Tested N f true = LeastCost N f × Settled N f 1
-Tested N f false = ¬ LeastCost N f
+-- whether f is a least-cost flow; if so, under labels d no negative cycle has room for 1
+abbrev pub Tested : Net → List ℕ → List ℤ → Bool → Type 0
+Tested N f d true = LeastCost N f × QuietLabels N f 1 d
+Tested N f d false = ¬ LeastCost N f
 
 -- question 8: "a least-cost flow of the network", marked; or it is none
 abbrev pub MarkedIfLeast : Net → List ℕ → List Bool → Bool → Type 0

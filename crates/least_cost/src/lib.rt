@@ -3,12 +3,12 @@ ghost use mathlib.Core.Path.{_≡_};
 ghost use lib.ListN.{length};
 ghost use Rattle.network.specs.Network.{LeastCost};
 ghost use Rattle.network.specs.Checked.{AcceptedNet};
-ghost use Rattle.search.specs.Search.{Settled};
+ghost use Rattle.search.specs.Search.{QuietLabels};
 ghost use Rattle.paths.specs.Graph.{netWith};
 ghost use Rattle.least_cost.specs.Marked.{Marked};
 ghost use Rattle.least_cost.specs.Answers.{FirstFlow, Tested, MarkedIfLeast};
 
-// Marks the arcs of reduced cost 0 under the prices of a least-cost flow.
+// Marks the arcs of reduced cost 0 under the labels of a least-cost flow.
 fn mark(
     tails: &[u8],
     heads: &[u8],
@@ -17,13 +17,13 @@ fn mark(
     costs: &[i32],
     balances: &[i32],
     flow: &[u32],
+    labels: &[i64],
     tight: &mut [bool],
 )
-    requires { ⌜ AcceptedNet (netWith (now balances) (now tails) (now heads) (now lows) (now ups) (now costs)) × LeastCost (netWith (now balances) (now tails) (now heads) (now lows) (now ups) (now costs)) (now flow) × Settled (netWith (now balances) (now tails) (now heads) (now lows) (now ups) (now costs)) (now flow) 1 × (length (now tight) ≡ length (now tails)) ⌝ }
+    requires { ⌜ AcceptedNet (netWith (now balances) (now tails) (now heads) (now lows) (now ups) (now costs)) × LeastCost (netWith (now balances) (now tails) (now heads) (now lows) (now ups) (now costs)) (now flow) × QuietLabels (netWith (now balances) (now tails) (now heads) (now lows) (now ups) (now costs)) (now flow) 1 (now labels) × (length (now tight) ≡ length (now tails)) ⌝ }
     ensures { λ _. ⌜ Marked (netWith (now (balances .entry)) (now (tails .entry)) (now (heads .entry)) (now (lows .entry)) (now (ups .entry)) (now (costs .entry))) (now (tight .exit)) (now (flow .entry)) ⌝ }
 {
-    let prices = search::prices(tails, heads, lows, ups, costs, flow);
-    costs::mark_tight(tails, heads, costs, &prices, tight);
+    costs::mark_tight(tails, heads, costs, labels, tight);
 }
 
 // The first flow, and its marks; false if there is none. A list begins here, so the marks are narrowed: a single step would not repay it.
@@ -43,14 +43,25 @@ pub fn first_flow(
     if !simplex::starting_flow(tails, heads, lows, ups, costs, balances, flow) {
         return false;
     }
-    cancelling::cheapen(tails, heads, lows, ups, costs, flow);
-    mark(tails, heads, lows, ups, costs, balances, flow, tight);
+    let mut labels = [0i64; 64];
+    cancelling::cheapen(tails, heads, lows, ups, costs, flow, &mut labels);
+    mark(
+        tails,
+        heads,
+        lows,
+        ups,
+        costs,
+        balances,
+        flow,
+        &labels,
+        tight,
+    );
     closure::unmark_fixed(tails, heads, lows, ups, tight, flow);
     flows::minimise(tails, heads, lows, ups, tight, flow, 0);
     true
 }
 
-// Question 8, of m numbers: whether they are a least-cost flow.
+// Question 8, of m numbers: whether they are a least-cost flow; if so, labels that show it.
 fn is_least_cost(
     tails: &[u8],
     heads: &[u8],
@@ -59,15 +70,16 @@ fn is_least_cost(
     costs: &[i32],
     balances: &[i32],
     flow: &[u32],
+    labels: &mut [i64],
 ) -> bool
-    requires { ⌜ AcceptedNet (netWith (now balances) (now tails) (now heads) (now lows) (now ups) (now costs)) × (length (now flow) ≡ length (now tails)) ⌝ }
-    ensures { λ r. ⌜ Tested (netWith (now (balances .entry)) (now (tails .entry)) (now (heads .entry)) (now (lows .entry)) (now (ups .entry)) (now (costs .entry))) (now (flow .entry)) r ⌝ }
+    requires { ⌜ AcceptedNet (netWith (now balances) (now tails) (now heads) (now lows) (now ups) (now costs)) × (length (now flow) ≡ length (now tails)) × (length (now labels) ≡ 64) ⌝ }
+    ensures { λ r. ⌜ Tested (netWith (now (balances .entry)) (now (tails .entry)) (now (heads .entry)) (now (lows .entry)) (now (ups .entry)) (now (costs .entry))) (now (flow .entry)) (now (labels .exit)) r ⌝ }
 {
     if !feasible::is_flow(tails, heads, lows, ups, balances, flow) {
         return false;
     }
     let mut codes = [0usize; 64];
-    search::find_cycle(tails, heads, lows, ups, costs, flow, 1, &mut codes) == 0
+    search::find_cycle(tails, heads, lows, ups, costs, flow, 1, labels, &mut codes) == 0
 }
 
 // Question 8, of m numbers: whether they are a least-cost flow; if so, its marks.
@@ -84,9 +96,20 @@ pub fn mark_if_least(
     requires { ⌜ AcceptedNet (netWith (now balances) (now tails) (now heads) (now lows) (now ups) (now costs)) × (length (now flow) ≡ length (now tails)) × (length (now tight) ≡ length (now tails)) ⌝ }
     ensures { λ r. ⌜ MarkedIfLeast (netWith (now (balances .entry)) (now (tails .entry)) (now (heads .entry)) (now (lows .entry)) (now (ups .entry)) (now (costs .entry))) (now (flow .entry)) (now (tight .exit)) r ⌝ }
 {
-    if !is_least_cost(tails, heads, lows, ups, costs, balances, flow) {
+    let mut labels = [0i64; 64];
+    if !is_least_cost(tails, heads, lows, ups, costs, balances, flow, &mut labels) {
         return false;
     }
-    mark(tails, heads, lows, ups, costs, balances, flow, tight);
+    mark(
+        tails,
+        heads,
+        lows,
+        ups,
+        costs,
+        balances,
+        flow,
+        &labels,
+        tight,
+    );
     true
 }

@@ -28,7 +28,7 @@ module _ (N : Net) (f : List ℕ) (ok : Relaxable N f) (d : List ℤ) (P : Price
       go (no h) = given (List·getD-eq-default d (pos 0) {n = v} (omega (arith, P .len))) (simp lin (omega arith))
 
   -- a walk to where a residual arc starts, and that arc, lead to where it ends
-  pub labels-quiet : Quiet N f 1 (λ v. getD d v (pos 0))
+  labels-quiet : Quiet N f 1 (λ v. getD d v (pos 0))
   labels-quiet = record {
     low = labels-low;
     reduced = λ c k r.

@@ -8,11 +8,12 @@ use lib.ListN.{length, getD, replicate}
 use lib.IntN.{ℤ, pos}
 use lib.Signed.{_<ℤ_}
 use Rattle.laws.specs.Linear.{lin}
+use Rattle.laws.specs.Range.{bounded-more}
 use Rattle.network.specs.Network.{Net}
 use Rattle.network.specs.Residual.{codes, src}
 use Rattle.search.specs.Labels.{costGraph, SmallGraph, Relaxable, State, state, pred, relaxedAll, Sized}
 use Rattle.search.specs.Predecessors.{back, Backs, Round, Returns, trail, Labelled, WentBack, ended, went, Collected}
-use Rattle.search.specs.Search.{Quiet, Searched, found}
+use Rattle.search.specs.Search.{QuietLabels, Searched, found}
 use Rattle.search.proofs.Rounds.{AtMost, Changed, quiet, noisy, all-labelled, round-at-most, round-changed, all-sized, sized-more}
 use Rattle.search.proofs.Cycles.{comes-round, period-cycle, period-room, period-negative, ends-late}
 
@@ -104,11 +105,15 @@ module _ (N : Net) (f : List ℕ) (ok : Relaxable N f) (δ : ℕ) where
     changed : Changed N f ok δ d (codes N) (state d′ p′ last)
     changed = subst (Changed N f ok δ d (codes N)) (sym e) (round-changed N f ok δ d p (S .labelled .labels-len) (codes N) (omega arith))
 
-    pub quiet-of : last ≡ 64 → Quiet N f δ (λ v. getD d v (pos 0))
+    pub quiet-of : last ≡ 64 → QuietLabels N f δ d′
     quiet-of q = go changed
       where
-        go : Changed N f ok δ d (codes N) (state d′ p′ last) → Quiet N f δ (λ v. getD d v (pos 0))
-        go (quiet a b c) = record { low = λ v. S .at-most v v [] (omega arith) refl; reduced = c }
+        go : Changed N f ok δ d (codes N) (state d′ p′ last) → QuietLabels N f δ d′
+        go (quiet a b c) = subst (QuietLabels N f δ) (sym b) (record {
+          len = S .labelled .labels-len;
+          quiet = record { low = λ v. S .at-most v v [] (omega arith) refl; reduced = c };
+          small = λ v h. bounded-more (omega (arith, S .early)) (S .sized .small v h);
+        })
         go (noisy a b) = absurd (omega arith)
 
     pub fell : ¬ (last ≡ 64) → (last < 64) × (getD d′ last (pos 0) <ℤ getD d last (pos 0))
@@ -132,7 +137,7 @@ module _ (N : Net) (f : List ℕ) (ok : Relaxable N f) (δ : ℕ) where
     searching-more x n (went q b) m = absurd (omega (arith, comes-round N p′ (ok .graph) last (fell n .0) b .round .node))
 
   -- the cycle's codes
-  pub searched-found : 0 < δ → (d : List ℤ) (p : List ℕ) → Labelled N f δ d p → (x : ℕ) (out : List ℕ) (r : ℕ) → Collected N p x out r → Searched N f δ out r
+  pub searched-found : 0 < δ → (d : List ℤ) (p : List ℕ) → Labelled N f δ d p → (x : ℕ) (out : List ℕ) (r : ℕ) → Collected N p x out r → Searched N f δ d out r
   searched-found h d p L x out r c = found (c .few) (rw (c .are) (record {
     cycle = period-cycle N f (ok .graph) δ d p L x r (c .period) h;
     room = period-room N f (ok .graph) δ d p L x r (c .period);

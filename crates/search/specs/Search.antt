@@ -3,10 +3,11 @@ use mathlib.Core.Path.{_≡_}
 use mathlib.Core.Bool.{true}
 use mathlib.Core.List.{List}
 use Prim.Native.Nat.{ℕ, _≤_, _<_}
-use lib.ListN.{take}
+use lib.ListN.{length, getD, take}
 use lib.IntN.{ℤ, pos, _+ℤ_}
 use lib.Signed.{_≤ℤ_, _<ℤ_}
 use Rattle.laws.specs.Members.{Every}
+use Rattle.laws.specs.Range.{Bounded}
 use Rattle.network.specs.Network.{Net, low}
 use Rattle.network.specs.Residual.{codes, src, dst, stepCost, walkCost, Cycle}
 use Rattle.search.specs.Labels.{roomy}
@@ -21,13 +22,19 @@ pub record Settled (N : Net) (f : List ℕ) (δ : ℕ) : Type 0 where
   pub potential : ℕ → ℤ
   pub quiet : Quiet N f δ potential
 
+-- under labels of 64 nodes, at most 10¹² either way
+pub record QuietLabels (N : Net) (f : List ℕ) (δ : ℕ) (d : List ℤ) : Type 0 where
+  pub len : length d ≡ 64
+  pub quiet : Quiet N f δ (λ v. getD d v (pos 0))
+  pub small : (v : ℕ) → v < 64 → Bounded 1000000000000 (getD d v (pos 0))
+
 -- a residual cycle of cost below 0, each of its arcs with room for δ
 pub record NegativeCycle (N : Net) (f : List ℕ) (δ : ℕ) (cs : List ℕ) : Type 0 where
   pub cycle : Cycle N f cs
   pub room : Every (λ c. roomy N f δ c ≡ true) cs
   pub negative : walkCost N cs <ℤ pos 0
 
--- what the search ends with: the count of a negative cycle's codes; or 0, and there is none
-pub data Searched (N : Net) (f : List ℕ) (δ : ℕ) (out : List ℕ) (r : ℕ) : Type 0 where
-  found : r ≤ 64 → NegativeCycle N f δ (take r out) → Searched N f δ out r
-  none : r ≡ 0 → (π : ℕ → ℤ) → Quiet N f δ π → Searched N f δ out r
+-- what the search ends with: the count of a negative cycle's codes; or 0, and labels d under which there is none
+pub data Searched (N : Net) (f : List ℕ) (δ : ℕ) (d : List ℤ) (out : List ℕ) (r : ℕ) : Type 0 where
+  found : r ≤ 64 → NegativeCycle N f δ (take r out) → Searched N f δ d out r
+  none : r ≡ 0 → QuietLabels N f δ d → Searched N f δ d out r

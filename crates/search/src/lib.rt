@@ -1,7 +1,7 @@
 // The search for a negative cycle in the residual network of a flow: labels corrected in rounds over the arcs (Bellman and Ford).
 ghost use mathlib.Core.Path.{_≡_};
 ghost use mathlib.Core.Bool.{_&&_};
-ghost use Prim.Native.Nat.{suc, _+_, _≤_, _<_};
+ghost use Prim.Native.Nat.{ℕ, suc, _+_, _≤_, _<_};
 ghost use lib.ListN.{length, getD};
 ghost use lib.IntN.{pos, _+ℤ_};
 ghost use lib.Signed.{ltZ};
@@ -138,7 +138,18 @@ fn collect(tails: &[u8], heads: &[u8], preds: &[u16], x: usize, out: &mut [usize
     }
 }
 
-// A residual cycle of negative cost, each of its arcs with room for `need` more: its codes, the last first, and how many; or 0.
+// 0 at every node.
+fn clear(labels: &mut [i64])
+    ensures { λ _. ⌜ ((v : ℕ) → getD (now (labels .exit)) v (pos 0) ≡ pos 0) ⌝ }
+{
+    let mut i = 0;
+    while i < labels.len() {
+        labels[i] = 0;
+        i += 1;
+    }
+}
+
+// A residual cycle of negative cost, each of its arcs with room for `need` more: its codes, the last first, and how many; or 0, and labels that show there is none.
 pub fn find_cycle(
     tails: &[u8],
     heads: &[u8],
@@ -147,12 +158,13 @@ pub fn find_cycle(
     costs: &[i32],
     flow: &[u32],
     need: u32,
+    labels: &mut [i64],
     out: &mut [usize],
 ) -> usize
-    requires { ⌜ Relaxable (costGraph (now tails) (now heads) (now lows) (now ups) (now costs)) (now flow) × (0 < need) × (need ≤ 1000000) × (length (now out) ≡ 64) ⌝ }
-    ensures { λ r. ⌜ Searched (costGraph (now (tails .entry)) (now (heads .entry)) (now (lows .entry)) (now (ups .entry)) (now (costs .entry))) (now (flow .entry)) need (now (out .exit)) r ⌝ }
+    requires { ⌜ Relaxable (costGraph (now tails) (now heads) (now lows) (now ups) (now costs)) (now flow) × (0 < need) × (need ≤ 1000000) × (length (now labels) ≡ 64) × (length (now out) ≡ 64) ⌝ }
+    ensures { λ r. ⌜ Searched (costGraph (now (tails .entry)) (now (heads .entry)) (now (lows .entry)) (now (ups .entry)) (now (costs .entry))) (now (flow .entry)) need (now (labels .exit)) (now (out .exit)) r ⌝ }
 {
-    let mut labels = [0i64; 64];
+    clear(labels);
     let mut preds = [65535u16; 64];
     let mut k: usize = 0;
     let node = 'rounds: loop {
@@ -164,7 +176,7 @@ pub fn find_cycle(
             costs,
             flow,
             need,
-            &mut labels,
+            labels,
             &mut preds,
         );
         if last == 64 {

@@ -1,5 +1,9 @@
-use mathlib.Core.Path.{_∙_}
+use mathlib.Core.Path.{sym, _∙_}
+use mathlib.Core.List.{List}
+use Prim.Native.Nat.{ℕ}
 use native.Mathlib.Omega.{arith}
+use lib.ListN.{getD, length-replicate}
+use lib.IntN.{ℤ, pos}
 use borrow.Author.Needs.{needs}
 use borrow.Author.Tests.{not-true, not-false}
 use Rattle.network.specs.Network.{Net, IsFlow, LeastCost}
@@ -8,7 +12,7 @@ use Rattle.paths.specs.Graph.{netWith}
 use Rattle.cancelling.proofs.Cheapest.{cheapest}
 use Rattle.least_cost.specs.Marked.{Marked}
 use Rattle.least_cost.proofs.Premises.{given, relaxable, ready}
-use Rattle.least_cost.proofs.Marked.{settled-whole, marked-narrowed, first-marked, no-first}
+use Rattle.least_cost.proofs.Marked.{labels-whole, marked-narrowed, first-marked, no-first}
 use Rattle.least_cost.proofs.first_flow.Statement.{statement}
 use Rattle.least_cost.proofs.first_flow.Tie as tie
 
@@ -28,38 +32,57 @@ returns c = let s = c .before .before .before .before .before .before .before .b
 flow-of : (c : tie.Else1) → IsFlow (whole (c .before .before .before .before .before .before .before .before .before .before .before)) (c .before .before .before .starting-flow .last .1 .1 .1 .1 .1 .1 .0)
 flow-of c = let s = c .before .before .before .before .before .before .before .before .before .before .before in c .before .before .before .starting-flow .ensures .found (not-false _ (c .if1 .left)) (s .args .costs .now) (s .pre .0 .well-formed .costs-len)
 
-cheapen-requires : tie.Need-cheapen-requires
-cheapen-requires c κs = let s = c .before .before .before .before .before .before .before .before .before .before .before .before in relaxable (s .args .balances .now) (s .args .tails .now) (s .args .heads .now) (s .args .lows .now) (s .args .ups .now) (s .args .costs .now) (s .pre .0) (c .before .before .before .before .starting-flow .last .1 .1 .1 .1 .1 .1 .0) (flow-bounds (whole s) (c .before .before .before .before .starting-flow .last .1 .1 .1 .1 .1 .1 .0) (flow-of (c .before)))
+slice-aggregate-cheapen : tie.Need-slice-aggregate-cheapen
+slice-aggregate-cheapen c = search needs
 
-least-of : (c : tie.After-cheapen) → LeastCost (whole (c .before .before .before .before .before .before .before .before .before .before .before .before .before)) (c .cheapen .last .1 .1 .1 .1 .1 .0)
-least-of c = let s = c .before .before .before .before .before .before .before .before .before .before .before .before .before in
-    cheapest (s .args .balances .now) (s .args .tails .now) (s .args .heads .now) (s .args .lows .now) (s .args .ups .now) (s .args .costs .now) (c .before .before .before .before .before .starting-flow .last .1 .1 .1 .1 .1 .1 .0) (c .cheapen .last .1 .1 .1 .1 .1 .0) (s .pre .0 .well-formed) (flow-of (c .before .before)) (c .cheapen .ensures .0) (c .cheapen .ensures .1)
+cheapen-requires : tie.Need-cheapen-requires
+cheapen-requires c κs = let e = c .before .before in let s = e .before .before .before .before .before .before .before .before .before .before .before in let f = e .before .before .before .starting-flow .last .1 .1 .1 .1 .1 .1 .0 in
+    (relaxable (s .args .balances .now) (s .args .tails .now) (s .args .heads .now) (s .args .lows .now) (s .args .ups .now) (s .args .costs .now) (s .pre .0) f (flow-bounds (whole s) f (flow-of e)), length-replicate {A = ℤ} 64 (pos 0))
+
+-- after `cheapen`
+module _ (k : tie.After-cheapen) where
+  abbrev start : tie.Start
+  start = k .before .before .before .before .before .before .before .before .before .before .before .before .before .before
+
+  abbrev flow : List ℕ
+  flow = k .cheapen .last .1 .1 .1 .1 .1 .0
+
+  abbrev labels : List ℤ
+  labels = k .cheapen .last .1 .1 .1 .1 .1 .1 .0
+
+  least : LeastCost (whole start) flow
+  least =
+      cheapest (start .args .balances .now) (start .args .tails .now) (start .args .heads .now) (start .args .lows .now) (start .args .ups .now) (start .args .costs .now) (k .before .before .before .before .before .before .starting-flow .last .1 .1 .1 .1 .1 .1 .0) flow (start .pre .0 .well-formed) (flow-of (k .before .before .before)) (k .cheapen .ensures .0)
+      (λ v. getD labels v (pos 0)) (k .cheapen .ensures .1 .quiet)
+
+slice-aggregate-mark : tie.Need-slice-aggregate-mark
+slice-aggregate-mark c = sym (c .before .before .before .before .before .cheapen .ensures .1 .len)
 
 mark-requires : tie.Need-mark-requires
-mark-requires c κs = let s = c .before .before .before .before .before .before .before .before .before .before .before .before .before .before .before .before .before in let k = c .before .before .before .before in
-    (s .pre .0, least-of k, settled-whole (s .args .balances .now) (s .args .tails .now) (s .args .heads .now) (s .args .lows .now) (s .args .ups .now) (s .args .costs .now) (k .cheapen .last .1 .1 .1 .1 .1 .0) (k .cheapen .ensures .1), s .pre .2)
+mark-requires c κs = let k = c .before .before .before .before .before .before in let s = start k in
+    (s .pre .0, least k, labels-whole (s .args .balances .now) (s .args .tails .now) (s .args .heads .now) (s .args .lows .now) (s .args .ups .now) (s .args .costs .now) (flow k) (labels k) (k .cheapen .ensures .1), s .pre .2)
 
 unmark-fixed-requires : tie.Need-unmark-fixed-requires
-unmark-fixed-requires c κs = let s = c .before .before .before .before .before .before .before .before .before .before .before .before .before .before .before .before .before .before .before .before .before .before in let k = c .before .before .before .before .before .before .before .before .before in let m = c .before .before .before .before .mark in
-    ready (s .args .balances .now) (s .args .tails .now) (s .args .heads .now) (s .args .lows .now) (s .args .ups .now) (s .args .costs .now) (s .pre .0) (k .cheapen .last .1 .1 .1 .1 .1 .0) (flow-bounds (whole s) (k .cheapen .last .1 .1 .1 .1 .1 .0) (least-of k .flow)) (m .last .1 .1 .1 .1 .1 .1 .1 .0) (m .ensures .marks-len) .searchable
+unmark-fixed-requires c κs = let k = c .before .before .before .before .before .before .before .before .before .before .before in let s = start k in let m = c .before .before .before .before .mark in
+    ready (s .args .balances .now) (s .args .tails .now) (s .args .heads .now) (s .args .lows .now) (s .args .ups .now) (s .args .costs .now) (s .pre .0) (flow k) (flow-bounds (whole s) (flow k) (least k .flow)) (m .last .1 .1 .1 .1 .1 .1 .1 .1 .0) (m .ensures .marks-len) .searchable
 
-marked-of : (c : tie.After-unmark-fixed) → Marked (whole (c .before .before .before .before .before .before .before .before .before .before .before .before .before .before .before .before .before .before .before .before .before .before .before)) (c .unmark-fixed .last .1 .1 .1 .1 .0) (c .before .before .before .before .before .before .before .before .before .before .cheapen .last .1 .1 .1 .1 .1 .0)
-marked-of c = let s = c .before .before .before .before .before .before .before .before .before .before .before .before .before .before .before .before .before .before .before .before .before .before .before in let m = c .before .before .before .before .before .mark in let n = c .unmark-fixed in
-    marked-narrowed (s .args .balances .now) (s .args .tails .now) (s .args .heads .now) (s .args .lows .now) (s .args .ups .now) (s .args .costs .now) (c .before .before .before .before .before .before .before .before .before .before .cheapen .last .1 .1 .1 .1 .1 .0) (m .last .1 .1 .1 .1 .1 .1 .1 .0) (n .last .1 .1 .1 .1 .0) (m .ensures) (n .kept .1 .1 .1 .1 .0) (n .ensures)
+marked-of : (c : tie.After-unmark-fixed) → Marked (whole (start (c .before .before .before .before .before .before .before .before .before .before .before .before))) (c .unmark-fixed .last .1 .1 .1 .1 .0) (flow (c .before .before .before .before .before .before .before .before .before .before .before .before))
+marked-of c = let k = c .before .before .before .before .before .before .before .before .before .before .before .before in let s = start k in let m = c .before .before .before .before .before .mark in let n = c .unmark-fixed in
+    marked-narrowed (s .args .balances .now) (s .args .tails .now) (s .args .heads .now) (s .args .lows .now) (s .args .ups .now) (s .args .costs .now) (flow k) (m .last .1 .1 .1 .1 .1 .1 .1 .1 .0) (n .last .1 .1 .1 .1 .0) (m .ensures) (n .kept .1 .1 .1 .1 .0) (n .ensures)
 
 minimise-requires : tie.Need-minimise-requires
-minimise-requires c κs = let s = c .before .before .before .before .before .before .before .before .before .before .before .before .before .before .before .before .before .before .before .before .before .before .before .before .before .before .before in let k = c .before .before .before .before .before .before .before .before .before .before .before .before .before .before in let n = c .before .before .before .before in
-    (ready (s .args .balances .now) (s .args .tails .now) (s .args .heads .now) (s .args .lows .now) (s .args .ups .now) (s .args .costs .now) (s .pre .0) (k .cheapen .last .1 .1 .1 .1 .1 .0) (flow-bounds (whole s) (k .cheapen .last .1 .1 .1 .1 .1 .0) (least-of k .flow)) (n .unmark-fixed .last .1 .1 .1 .1 .0) (marked-of n .marks-len), omega arith)
+minimise-requires c κs = let k = c .before .before .before .before .before .before .before .before .before .before .before .before .before .before .before .before in let s = start k in let n = c .before .before .before .before in
+    (ready (s .args .balances .now) (s .args .tails .now) (s .args .heads .now) (s .args .lows .now) (s .args .ups .now) (s .args .costs .now) (s .pre .0) (flow k) (flow-bounds (whole s) (flow k) (least k .flow)) (n .unmark-fixed .last .1 .1 .1 .1 .0) (marked-of n .marks-len), omega arith)
 
 same-length-2 : tie.Need-same-length-2
-same-length-2 c = c .before .before .minimise .kept .1 .1 .1 .1 .1 .0 ∙ c .before .before .before .before .before .before .before .before .before .before .before .before .before .before .before .before .before .cheapen .kept .1 .1 .1 .1 .1 .0 ∙ c .before .before .before .before .before .before .before .before .before .before .before .before .before .before .before .before .before .before .before .before .before .before .starting-flow .kept .1 .1 .1 .1 .1 .1 .0
+same-length-2 c = c .before .before .minimise .kept .1 .1 .1 .1 .1 .0 ∙ c .before .before .before .before .before .before .before .before .before .before .before .before .before .before .before .before .before .before .before .cheapen .kept .1 .1 .1 .1 .1 .0 ∙ c .before .before .before .before .before .before .before .before .before .before .before .before .before .before .before .before .before .before .before .before .before .before .before .before .before .starting-flow .kept .1 .1 .1 .1 .1 .1 .0
 
 same-length-3 : tie.Need-same-length-3
 same-length-3 c = search needs
 
 returns-2 : tie.Need-returns-2
-returns-2 c = let s = c .before .before .before .before .before .before .before .before .before .before .before .before .before .before .before .before .before .before .before .before .before .before .before .before .before .before .before .before .before .before in let k = c .before .before .before .before .before .before .before .before .before .before .before .before .before .before .before .before .before in let n = c .before .before .before .before .before .before .before in let d = c .before .before .minimise in
-    first-marked (whole s) (n .unmark-fixed .last .1 .1 .1 .1 .0) (k .cheapen .last .1 .1 .1 .1 .1 .0) (d .last .1 .1 .1 .1 .1 .0) (marked-of n)
+returns-2 c = let k = c .before .before .before .before .before .before .before .before .before .before .before .before .before .before .before .before .before .before .before in let s = start k in let n = c .before .before .before .before .before .before .before in let d = c .before .before .minimise in
+    first-marked (whole s) (n .unmark-fixed .last .1 .1 .1 .1 .0) (flow k) (d .last .1 .1 .1 .1 .1 .0) (marked-of n)
     (d .ensures .1 (s .args .balances .now) (s .args .costs .now) (marked-of n .potential) (marked-of n .marks))
 
 pub first-flow-spec : {M : Type 1} → statement M
@@ -69,7 +92,9 @@ first-flow-spec =
     starting-flow-requires
     same-length
     returns
+    slice-aggregate-cheapen
     cheapen-requires
+    slice-aggregate-mark
     mark-requires
     unmark-fixed-requires
     minimise-requires

@@ -29,11 +29,14 @@ slice-aggregate-find-cycle : tie.Need-slice-aggregate-find-cycle
 slice-aggregate-find-cycle c = search needs
 
 find-cycle-requires : tie.Need-find-cycle-requires
-find-cycle-requires c κs = (can-relax (c .before), omega arith, omega arith, length-replicate {A = ℕ} 64 0)
+find-cycle-requires c κs = let e = c .before .before in (can-relax e, omega arith, omega arith, e .before .before .before .before .before .before .before .pre .2, length-replicate {A = ℕ} 64 0)
+
+same-length : tie.Need-same-length
+same-length c = search needs
 
 returns-2 : tie.Need-returns-2
-returns-2 c = let s = c .before .before .before .before .before .before .before .before .before .before in let k = c .before .find-cycle in
-    tested (s .args .balances .now) (s .args .tails .now) (s .args .heads .now) (s .args .lows .now) (s .args .ups .now) (s .args .costs .now) (s .args .flow .now) (s .pre .0 .well-formed) (can-relax (c .before .before .before)) (flow-of (c .before .before .before)) (k .last .1 .1 .1 .1 .1 .1 .1 .0) (k .result) (k .ensures)
+returns-2 c = let k = c .before .before .find-cycle in let e = c .before .before .before .before .before in let s = e .before .before .before .before .before .before .before in
+    tested (s .args .balances .now) (s .args .tails .now) (s .args .heads .now) (s .args .lows .now) (s .args .ups .now) (s .args .costs .now) (s .args .flow .now) (s .pre .0 .well-formed) (can-relax e) (flow-of e) (k .last .1 .1 .1 .1 .1 .1 .1 .0) (k .last .1 .1 .1 .1 .1 .1 .1 .1 .0) (k .result) (k .ensures)
 
 pub is-least-cost-spec : {M : Type 1} → statement M
 is-least-cost-spec =
@@ -43,4 +46,5 @@ is-least-cost-spec =
     returns
     slice-aggregate-find-cycle
     find-cycle-requires
+    same-length
     returns-2)

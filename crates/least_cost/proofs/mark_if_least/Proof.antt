@@ -1,21 +1,46 @@
+use mathlib.Core.Path.{sym}
+use mathlib.Core.List.{List}
+use lib.IntN.{ℤ, pos}
+use lib.ListN.{length-replicate}
 use borrow.Author.Needs.{needs}
 use borrow.Author.Tests.{not-true, not-false}
+use Rattle.network.specs.Network.{Net, LeastCost}
+use Rattle.search.specs.Search.{QuietLabels}
 use Rattle.paths.specs.Graph.{netWith}
 use Rattle.least_cost.proofs.Question8.{tested-yes, tested-no}
 use Rattle.least_cost.proofs.mark_if_least.Statement.{statement}
 use Rattle.least_cost.proofs.mark_if_least.Tie as tie
 
+abbrev whole : tie.Start → Net
+whole s = netWith (s .args .balances .now) (s .args .tails .now) (s .args .heads .now) (s .args .lows .now) (s .args .ups .now) (s .args .costs .now)
+
+-- after the test
+module _ (k : tie.After-is-least-cost) where
+  abbrev start : tie.Start
+  start = k .before .before .before .before .before .before .before .before
+
+  abbrev labels : List ℤ
+  labels = k .is-least-cost .last .1 .1 .1 .1 .1 .1 .1 .0
+
+slice-aggregate-is-least-cost : tie.Need-slice-aggregate-is-least-cost
+slice-aggregate-is-least-cost c = search needs
+
 is-least-cost-requires : tie.Need-is-least-cost-requires
-is-least-cost-requires c κs = search needs
+is-least-cost-requires c κs = let s = c .before .before .before .before .before .before .before in (s .pre .0, s .pre .1, length-replicate {A = ℤ} 64 (pos 0))
 
 returns : tie.Need-returns
-returns c = let s = c .before .before .before .before .before .before .before .before in let k = c .before .is-least-cost in
-    tested-no (netWith (s .args .balances .now) (s .args .tails .now) (s .args .heads .now) (s .args .lows .now) (s .args .ups .now) (s .args .costs .now)) (s .args .flow .now) (k .result) (k .ensures) (not-true (k .result) (c .if1 .taken))
+returns c = let k = c .before .before in
+    tested-no (whole (start k)) (start k .args .flow .now) (labels k) (k .is-least-cost .result) (k .is-least-cost .ensures) (not-true (k .is-least-cost .result) (c .if1 .taken))
+
+-- a least-cost flow
+yes-of : (c : tie.Else1) → let k = c .before .before in LeastCost (whole (start k)) (start k .args .flow .now) × QuietLabels (whole (start k)) (start k .args .flow .now) 1 (labels k)
+yes-of c = let k = c .before .before in tested-yes (whole (start k)) (start k .args .flow .now) (labels k) (k .is-least-cost .result) (k .is-least-cost .ensures) (not-false (k .is-least-cost .result) (c .if1 .left))
+
+slice-aggregate-mark : tie.Need-slice-aggregate-mark
+slice-aggregate-mark c = sym (yes-of (c .before) .1 .len)
 
 mark-requires : tie.Need-mark-requires
-mark-requires c κs = let s = c .before .before .before .before .before .before .before .before .before in let k = c .before .before .is-least-cost in
-    let (least, settled) = tested-yes (netWith (s .args .balances .now) (s .args .tails .now) (s .args .heads .now) (s .args .lows .now) (s .args .ups .now) (s .args .costs .now)) (s .args .flow .now) (k .result) (k .ensures) (not-false (k .result) (c .before .if1 .left)) in
-    (s .pre .0, least, settled, s .pre .2)
+mark-requires c κs = let e = c .before .before in let s = start (e .before .before) in (s .pre .0, yes-of e .0, yes-of e .1, s .pre .2)
 
 same-length : tie.Need-same-length
 same-length c = search needs
@@ -25,4 +50,4 @@ returns-2 c = search needs
 
 pub mark-if-least-spec : {M : Type 1} → statement M
 mark-if-least-spec =
-    tie.close (tie.spec is-least-cost-requires returns mark-requires same-length returns-2)
+    tie.close (tie.spec slice-aggregate-is-least-cost is-least-cost-requires returns slice-aggregate-mark mark-requires same-length returns-2)

@@ -5,26 +5,27 @@ use Prim.Native.Nat.{ℕ, _+_, _-_, _<_}
 use native.Mathlib.Omega.{arith}
 use lib.ListN.{getD-replicate}
 use lib.IntN.{ℤ}
+use borrow.Author.Needs.{needs}
 use Rattle.network.specs.Network.{Net}
 use Rattle.search.specs.Labels.{costGraph, SmallGraph}
 use Rattle.search.specs.Predecessors.{Returns, WentBack, Labelled}
 use Rattle.search.specs.Search.{Searched, none}
 use Rattle.search.proofs.Rounds.{sized-more}
-use Rattle.search.proofs.Searching.{Searching, searching-start, zero-at, labelled′, quiet-of, fell, returns-of, searching-more, searched-found, went-any, returns-any, collected-any, graph-any}
+use Rattle.search.proofs.Searching.{Searching, searching-start, labelled′, quiet-of, fell, returns-of, searching-more, searched-found, went-any, returns-any, collected-any, graph-any}
 use Rattle.search.proofs.find_cycle.Statement.{statement}
 use Rattle.search.proofs.find_cycle.Tie as tie
 
 abbrev Inv-rounds : tie.InvT-rounds
-Inv-rounds tails heads lows ups costs flow need out labels₀ preds₀ k₀ labels preds k = Searching (costGraph tails heads lows ups costs) flow need labels preds k
+Inv-rounds tails heads lows ups costs flow need labels₀ out preds₀ k₀ labels preds k = Searching (costGraph tails heads lows ups costs) flow need labels preds k
 
 abbrev μ-rounds : tie.MeasureT-rounds
-μ-rounds tails heads lows ups costs flow need out labels₀ preds₀ k₀ labels preds k = 64 - k
+μ-rounds tails heads lows ups costs flow need labels₀ out preds₀ k₀ labels preds k = 64 - k
 
 abbrev net : tie.Start Inv-rounds μ-rounds → Net
 net s = costGraph (s .args .tails .now) (s .args .heads .now) (s .args .lows .now) (s .args .ups .now) (s .args .costs .now)
 
 abbrev entry : tie.At-rounds Inv-rounds μ-rounds → tie.Start Inv-rounds μ-rounds
-entry l = l .before .before .before .before .before .before .before
+entry l = l .before .before .before .before .before .before .before .before .before .before
 
 -- after a round
 module _ (r : tie.After-round Inv-rounds μ-rounds) where
@@ -43,8 +44,8 @@ module _ (r : tie.After-round Inv-rounds μ-rounds) where
   labelled : Labelled (net start) (start .args .flow .now) (start .args .need) labels preds
   labelled = labelled′ (net start) (start .args .flow .now) (start .pre .0) (start .args .need) (before .rounds .labels) (before .rounds .preds) (before .rounds .k) (before .rounds .inv) labels preds (r .round .result) (r .round .ensures)
 
-  quiet-here : r .round .result ≡ 64 → Searched (net start) (start .args .flow .now) (start .args .need) (start .args .out .now) 0
-  quiet-here e = none refl _ (quiet-of (net start) (start .args .flow .now) (start .pre .0) (start .args .need) (before .rounds .labels) (before .rounds .preds) (before .rounds .k) (before .rounds .inv) labels preds (r .round .result) (r .round .ensures) e)
+  quiet-here : r .round .result ≡ 64 → Searched (net start) (start .args .flow .now) (start .args .need) labels (start .args .out .now) 0
+  quiet-here e = none refl (quiet-of (net start) (start .args .flow .now) (start .pre .0) (start .args .need) (before .rounds .labels) (before .rounds .preds) (before .rounds .k) (before .rounds .inv) labels preds (r .round .result) (r .round .ensures) e)
 
   fell-in : ¬ (r .round .result ≡ 64) → r .round .result < 64
   fell-in n = fell (net start) (start .args .flow .now) (start .pre .0) (start .args .need) (before .rounds .labels) (before .rounds .preds) (before .rounds .k) (before .rounds .inv) labels preds (r .round .result) (r .round .ensures) n .0
@@ -70,7 +71,7 @@ module _ (c : tie.Joined1 Inv-rounds μ-rounds) where
   abbrev ran : tie.After-round Inv-rounds μ-rounds
   ran = c .before .before .before
 
-  out-quiet : c .if1 .node ≡ 64 → Searched (net (start ran)) (start ran .args .flow .now) (start ran .args .need) (start ran .args .out .now) 0
+  out-quiet : c .if1 .node ≡ 64 → Searched (net (start ran)) (start ran .args .flow .now) (start ran .args .need) (labels ran) (start ran .args .out .now) 0
   out-quiet e = ⊎-elim (λ w. quiet-here ran (w .0 .taken)) (λ w. absurd (w .3 .taken (sym (w .4) ∙ e))) (c .if1 .came)
 
   out-cycle : ¬ (c .if1 .node ≡ 64) → Returns (costGraph (start ran .args .tails .now) (start ran .args .heads .now) [] [] []) (preds ran) (c .if1 .node)
@@ -80,13 +81,10 @@ module _ (c : tie.Joined1 Inv-rounds μ-rounds) where
       (c .if1 .came)
 
 rounds-holds : tie.Need-rounds-holds Inv-rounds μ-rounds
-rounds-holds c = let s = c .before .before .before .before .before .before in searching-start (net s) (s .args .flow .now) (s .pre .0) (s .args .need) _ _ refl refl (zero-at 64) (λ v h. omega (arith, getD-replicate {A = ℕ} 64 v 65535 0 h))
+rounds-holds c = let s = c .before .before .before .before .before .before .before .before .before in searching-start (net s) (s .args .flow .now) (s .pre .0) (s .args .need) _ _ (c .before .clear .kept .0 ∙ s .pre .3) refl (c .before .clear .ensures) (λ v h. omega (arith, getD-replicate {A = ℕ} 64 v 65535 0 h))
 
 slice-aggregate-round : tie.Need-slice-aggregate-round Inv-rounds μ-rounds
-slice-aggregate-round c = sym (c .before .rounds .inv .labelled .labels-len)
-
-slice-aggregate-round-2 : tie.Need-slice-aggregate-round-2 Inv-rounds μ-rounds
-slice-aggregate-round-2 c = sym (c .before .before .rounds .inv .labelled .preds-len)
+slice-aggregate-round c = sym (c .before .before .rounds .inv .labelled .preds-len)
 
 round-requires : tie.Need-round-requires Inv-rounds μ-rounds
 round-requires c κs = let l = c .before .before in (entry l .pre .0, sized-more (omega (arith, l .rounds .inv .early)) (l .rounds .inv .sized), entry l .pre .2)
@@ -106,6 +104,9 @@ rounds-less c = omega (arith, c .before .before .before .before .before .before 
 rounds-again : tie.Need-rounds-again Inv-rounds μ-rounds
 rounds-again c = more (c .before .before .before .before .before .before) (c .before .go-back .result) (c .before .before .before .if1 .left) (c .before .go-back .ensures) (c .if2 .left)
 
+same-length : tie.Need-same-length Inv-rounds μ-rounds
+same-length c = let r = ran (c .before) in labelled r .labels-len ∙ sym (start r .pre .3)
+
 returns : tie.Need-returns Inv-rounds μ-rounds
 returns c = out-quiet (c .before) (c .if3 .taken)
 
@@ -113,10 +114,13 @@ slice-aggregate-collect : tie.Need-slice-aggregate-collect Inv-rounds μ-rounds
 slice-aggregate-collect c = sym (labelled (c .before .before .before .before .before) .preds-len)
 
 collect-requires : tie.Need-collect-requires Inv-rounds μ-rounds
-collect-requires c κs = let j = c .before .before .before in (bare (ran j), labelled (ran j) .preds-len, start (ran j) .pre .3, out-cycle j (c .before .before .if3 .left))
+collect-requires c κs = let j = c .before .before .before in (bare (ran j), labelled (ran j) .preds-len, start (ran j) .pre .4, out-cycle j (c .before .before .if3 .left))
 
-same-length : tie.Need-same-length Inv-rounds μ-rounds
-same-length c = c .before .before .collect .kept .1 .1 .1 .1 .0
+same-length-2 : tie.Need-same-length-2 Inv-rounds μ-rounds
+same-length-2 c = let r = ran (c .before .before .before .before .before .before) in labelled r .labels-len ∙ sym (start r .pre .3)
+
+same-length-3 : tie.Need-same-length-3 Inv-rounds μ-rounds
+same-length-3 c = c .before .before .collect .kept .1 .1 .1 .1 .0
 
 returns-2 : tie.Need-returns-2 Inv-rounds μ-rounds
 returns-2 c =
@@ -128,5 +132,5 @@ returns-2 c =
 pub find-cycle-spec : {M : Type 1} → statement M
 find-cycle-spec =
     tie.close
-    (tie.spec Inv-rounds μ-rounds rounds-holds slice-aggregate-round slice-aggregate-round-2 round-requires slice-aggregate-go-back go-back-requires
-    add-k rounds-less rounds-again returns slice-aggregate-collect collect-requires same-length returns-2)
+    (tie.spec Inv-rounds μ-rounds (λ c κs. search needs) rounds-holds slice-aggregate-round round-requires slice-aggregate-go-back go-back-requires
+    add-k rounds-less rounds-again same-length returns slice-aggregate-collect collect-requires same-length-2 same-length-3 returns-2)
