@@ -26,6 +26,9 @@ module _ (a : tie.After-find-cycle) where
   abbrev codes : List ℕ
   codes = a .find-cycle .last .1 .1 .1 .1 .1 .1 .1 .1 .0
 
+returns : tie.Need-returns
+returns c = let a = c .before .before .before in let s = start a in (refl, labels-of (net s) (s .args .flow .now) (s .args .need) (labels a) (codes a) (a .find-cycle .result) (a .find-cycle .ensures) (c .if1 .taken))
+
 -- a cycle was found
 module _ (c : tie.Else1) where
   abbrev ran : tie.After-find-cycle
@@ -33,9 +36,6 @@ module _ (c : tie.Else1) where
 
   cycle : (ran .find-cycle .result ≤ 64) × NegativeCycle (net (start ran)) (start ran .args .flow .now) (start ran .args .need) (take (ran .find-cycle .result) (codes ran))
   cycle = cycle-of (net (start ran)) (start ran .args .flow .now) (start ran .args .need) (labels ran) (codes ran) (ran .find-cycle .result) (ran .find-cycle .ensures) (c .if1 .left)
-
-returns : tie.Need-returns
-returns c = let a = c .before .before .before in let s = start a in (refl, labels-of (net s) (s .args .flow .now) (s .args .need) (labels a) (codes a) (a .find-cycle .result) (a .find-cycle .ensures) (c .if1 .taken))
 
 room-requires : tie.Need-room-requires
 room-requires c κs = let e = c .before .before in let a = ran e in let s = start a in
