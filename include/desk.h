@@ -97,7 +97,8 @@ desk_reply desk_count(const uint8_t *book, size_t book_len, uint16_t cap);
  * the front of a list that has room for all of it, and the bytes after it keep what they held; a shorter list does not change. */
 size_t desk_listing(const uint8_t *book, size_t book_len, uint8_t *text, size_t text_len);
 
-/* Where the name of an entry, from 1 to E, lies in the book; start is counted from 0. (0, 0) if it is refused, and no name is empty. */
+/* Where the name of an entry, from 1 to E, lies in the book; start is counted from 0. (0, 0) if it is refused, and no name is empty: of an
+ * accepted book, E + 1 is the first entry whose name has length 0. */
 desk_span desk_name(const uint8_t *book, size_t book_len, uint32_t entry);
 
 /* The number of the question that refuses that name, 11 to 16 or 19, or 0. */
