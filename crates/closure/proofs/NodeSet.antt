@@ -22,7 +22,7 @@ or-digit (suc (suc p)) q hp hq = absurd (omega arith)
 or-low : (x y : ℕ) → bitOr x y % 2 ≡ max (x % 2) (y % 2)
 or-low x y = omega (arith, or-step x y)
 
-union-has : (s t w : ℕ) → has (bitOr s t) w ≡ (has s w || has t w)
+pub union-has : (s t w : ℕ) → has (bitOr s t) w ≡ (has s w || has t w)
 union-has s t w = rw (or-shr s t w, or-low (s / 2 ^ w) (t / 2 ^ w)) (or-digit (s / 2 ^ w % 2) (t / 2 ^ w % 2) (omega arith) (omega arith))
 
 -- t joins s if p is in s

@@ -26,7 +26,7 @@ pub record HasStep (near far lowers uppers : List ℕ) (free : List Bool) (rows 
   pub free-has : a < length free
   pub near-in : getD near a 0 < 64
   pub far-in : getD far a 0 < 64
-  pub rows-len : length rows ≡ 64
+  pub rows-len : length rows ≡ 65
 
 -- the arc is not free, or has no room, or its far end does not lead to its near end
 abbrev pub ClosesNone : List ℕ → List ℕ → List ℕ → List ℕ → List Bool → List ℕ → ℕ → Type 0

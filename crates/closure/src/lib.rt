@@ -1,6 +1,6 @@
 // Which arcs may be raised or lowered, by one walk over the arcs from the last down.
-// The walk keeps the transitive closure of the residual steps of the free arcs passed: a row of 64 bits for each node.
-// The closure of all of them shows which arcs may be neither.
+// The walk keeps the transitive closure of the residual steps of the free arcs passed: a row of 64 bits for each node, and row 64 with the
+// nodes that another node leads to, as most steps start where none leads. The closure of all of them shows which arcs may be neither.
 ghost use mathlib.Core.Path.{_≡_};
 ghost use mathlib.Core.Bool.{true, false, _&&_, _||_};
 ghost use Prim.Native.Nat.{ℕ, suc, _≤_, _<_};
@@ -9,7 +9,7 @@ ghost use lib.ListN.{length, getD};
 ghost use Rattle.paths.specs.Graph.{graph};
 ghost use Rattle.paths.specs.Reaching.{Searchable};
 ghost use Rattle.closure.specs.NodeSet.{has};
-ghost use Rattle.closure.specs.Closure.{Preorder, Extended, Closure};
+ghost use Rattle.closure.specs.Closure.{Preorder, JoinedRows, Extended, Closure};
 ghost use Rattle.closure.specs.Candidates.{HasStep, ClosesNone, NoneRaisable, NoneLowerable, Narrowed};
 
 // Whether v is in s.
@@ -41,13 +41,27 @@ fn joined(s: u64, t: u64, p: usize) -> u64
 
 // Each node leads to itself alone.
 fn clear(rows: &mut [u64])
-    requires { ⌜ length (now rows) ≡ 64 ⌝ }
+    requires { ⌜ length (now rows) ≡ 65 ⌝ }
     ensures { λ _. ⌜ Preorder (now (rows .exit)) ⌝ }
 {
+    rows[64] = 0;
     let mut v = 0;
-    while v < rows.len() {
+    while v < 64 {
         rows[v] = only(v);
         v += 1;
+    }
+}
+
+// All of t, in each row that has p.
+fn join_rows(rows: &mut [u64], t: u64, p: usize)
+    requires { ⌜ (length (now rows) ≡ 65) × (p < 64) ⌝ }
+    ensures { λ _. ⌜ JoinedRows (now (rows .entry)) (now (rows .exit)) t p 65 ⌝ }
+{
+    let mut u = 0;
+    while u < rows.len() {
+        let row = rows[u];
+        rows[u] = joined(row, t, p);
+        u += 1;
     }
 }
 
@@ -64,12 +78,13 @@ fn add(rows: &mut [u64], on: bool, p: usize, q: usize)
         return;
     }
     let all = rows[q];
-    let mut u = 0;
-    while u < rows.len() {
-        let row = rows[u];
-        rows[u] = joined(row, all, p);
-        u += 1;
+    let met = rows[64];
+    if has(met, p) {
+        join_rows(rows, all, p);
+        return;
     }
+    rows[p] = from | all;
+    rows[64] = met | all;
 }
 
 // The steps of arc a.
@@ -137,7 +152,7 @@ pub fn after_last_raisable(
     requires { ⌜ Searchable 64 (graph (now tails) (now heads) (now lows) (now ups)) (now flow) (now free) ⌝ }
     ensures { λ r. ⌜ NoneRaisable (graph (now (tails .entry)) (now (heads .entry)) (now (lows .entry)) (now (ups .entry))) (now (flow .entry)) (now (free .entry)) r ⌝ }
 {
-    let mut rows = [0u64; 64];
+    let mut rows = [0u64; 65];
     clear(&mut rows);
     let mut a = tails.len();
     while 0 < a {
@@ -163,7 +178,7 @@ pub fn first_lowerable(
     requires { ⌜ Searchable 64 (graph (now tails) (now heads) (now lows) (now ups)) (now flow) (now free) × (from ≤ length (now tails)) ⌝ }
     ensures { λ r. ⌜ NoneLowerable (graph (now (tails .entry)) (now (heads .entry)) (now (lows .entry)) (now (ups .entry))) (now (flow .entry)) (now (free .entry)) from r ⌝ }
 {
-    let mut rows = [0u64; 64];
+    let mut rows = [0u64; 65];
     clear(&mut rows);
     let mut a = tails.len();
     let mut first = a;
@@ -229,7 +244,7 @@ pub fn unmark_fixed(
     requires { ⌜ Searchable 64 (graph (now tails) (now heads) (now lows) (now ups)) (now flow) (now free) ⌝ }
     ensures { λ _. ⌜ Narrowed (graph (now (tails .entry)) (now (heads .entry)) (now (lows .entry)) (now (ups .entry))) (now (flow .entry)) (now (free .entry)) (now (free .exit)) ⌝ }
 {
-    let mut rows = [0u64; 64];
+    let mut rows = [0u64; 65];
     clear(&mut rows);
     add_arcs(tails, heads, lows, ups, free, flow, &mut rows);
     let mut a = 0;
