@@ -50,9 +50,6 @@ state d p l = record { labels = d; preds = p; last = l }
 abbrev pub label : State → ℕ → ℤ
 label s v = getD (s .labels) v (pos 0)
 
-abbrev pub pred : List ℕ → ℕ → ℕ
-pred p v = getD p v 0
-
 -- the label that code c offers to the node where it ends, and whether it is better
 abbrev pub offer : Net → ℕ → State → ℤ
 offer N c s = label s (src N c) +ℤ stepCost N c
