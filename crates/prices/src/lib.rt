@@ -1,4 +1,4 @@
-// The price search: the labels of the nodes corrected in rounds until they are the prices, in at most 64.
+// The price search: labels corrected in at most 64 rounds over the arcs, until they are the prices.
 ghost use Rattle.relaxation.specs.Labels.{costGraph, Relaxable};
 ghost use Rattle.relaxation.specs.Potentials.{Settled};
 ghost use Rattle.prices.specs.Prices.{PriceLabels};

@@ -173,7 +173,7 @@ module _ (N : Net) (f : List ℕ) (ok : Relaxable N f) (δ : ℕ) (d : List ℤ)
       elsewhere a b s e g h q k = given3 h q k (simp lin (omega arith))
 
 -- one code tried
-pub labelled-relaxed : (N : Net) (f : List ℕ) → Relaxable N f → (δ : ℕ) (s : State) → Labelled N f δ (s .labels) (s .preds) → (c : ℕ) → c < codes N
+labelled-relaxed : (N : Net) (f : List ℕ) → Relaxable N f → (δ : ℕ) (s : State) → Labelled N f δ (s .labels) (s .preds) → (c : ℕ) → c < codes N
     → Labelled N f δ (relaxed N f δ c s .labels) (relaxed N f δ c s .preds)
 labelled-relaxed N f ok δ s L c h = go (better N f δ c s) refl
   where

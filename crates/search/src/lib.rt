@@ -1,4 +1,4 @@
-// The search for a negative cycle in the residual network of a flow: rounds over the arcs until none changes a label, or until the predecessors of a node lead round a cycle.
+// The search for a negative cycle in the residual network of a flow: rounds over the arcs until one changes no label, or predecessors come to a cycle.
 ghost use mathlib.Core.Path.{_≡_};
 ghost use mathlib.Core.List.{[]};
 ghost use Prim.Native.Nat.{ℕ, _≤_, _<_};
