@@ -19,7 +19,7 @@ use Rattle.laws.specs.Sum.{sum-within}
 use Rattle.network.specs.Network.{Net, arcs, up, cost, on, netOut, costOf}
 use Rattle.network.specs.Residual.{codes, src, dst, stepCost, Walk, walkCost}
 use Rattle.certificates.specs.Push.{pushAll, Fits, roomOf, InBounds, room-fits, Trail, trailCost, all-bounds, all-netOut, all-cost}
-use Rattle.search.specs.Labels.{costGraph, Relaxable}
+use Rattle.relaxation.specs.Labels.{costGraph, Relaxable}
 use Rattle.search.specs.Search.{QuietLabels, NegativeCycle, Searched, found, none}
 use Rattle.paths.specs.Graph.{graph}
 use Rattle.paths.specs.Pushing.{SmallBounds, roomAll, Pushable}

@@ -7,10 +7,10 @@ use lib.IntN.{ℤ, pos}
 use Rattle.network.specs.Network.{Net, nodes}
 use Rattle.network.specs.Residual.{Price}
 use Rattle.certificates.specs.Push.{InBounds, flow-bounds}
-use Rattle.search.specs.Labels.{costGraph, Relaxable}
-use Rattle.search.specs.Search.{Settled}
-use Rattle.search.specs.Prices.{PriceLabels}
-use Rattle.search.proofs.Pricing.{labels-price}
+use Rattle.relaxation.specs.Labels.{costGraph, Relaxable}
+use Rattle.relaxation.specs.Potentials.{Settled}
+use Rattle.prices.specs.Prices.{PriceLabels}
+use Rattle.prices.proofs.Pricing.{labels-price}
 use Rattle.paths.specs.Graph.{graph}
 use Rattle.paths.specs.Pushing.{Ready}
 use Rattle.least_cost.proofs.Premises.{relaxable, ready}

@@ -200,7 +200,7 @@ impl Enumerator {
         let ups = net.ups;
         let costs = net.costs;
         let flow = self.flow;
-        narrow(search::prices(
+        narrow(prices::prices(
             &tails[..m],
             &heads[..m],
             &lows[..m],

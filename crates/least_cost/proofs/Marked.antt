@@ -18,10 +18,10 @@ use Rattle.laws.specs.Members.{first?}
 use Rattle.network.proofs.FullList.{none-iff}
 use Rattle.certificates.specs.Optimality.{Optimal, priced-optimal, off-tight, stepReduced}
 use Rattle.certificates.specs.Order.{first-line}
-use Rattle.search.specs.Labels.{costGraph}
-use Rattle.search.specs.Search.{Quiet, Settled, QuietLabels}
-use Rattle.search.proofs.Cycles.{roomy-usable}
-use Rattle.search.proofs.Pricing.{usable-roomy}
+use Rattle.relaxation.specs.Labels.{costGraph}
+use Rattle.relaxation.specs.Potentials.{Quiet, Settled}
+use Rattle.relaxation.proofs.Trips.{roomy-usable, usable-roomy}
+use Rattle.search.specs.Search.{QuietLabels}
 use Rattle.paths.specs.Graph.{graph, netWith}
 use Rattle.closure.specs.Candidates.{Narrowed}
 use Rattle.flows.specs.Minimising.{Minimised}

@@ -10,7 +10,7 @@ use lib.IntN.{ℤ, pos}
 use Rattle.laws.specs.Range.{Bounded, bounded-iff, bounded-more, bounded-zero}
 use Rattle.network.specs.Checked.{AcceptedNet}
 use Rattle.certificates.specs.Push.{InBounds}
-use Rattle.search.specs.Labels.{costGraph, Relaxable}
+use Rattle.relaxation.specs.Labels.{costGraph, Relaxable}
 use Rattle.paths.specs.Graph.{graph, netWith}
 use Rattle.paths.specs.Pushing.{Ready, SmallBounds}
 use Rattle.feasible.specs.Answer.{Given}

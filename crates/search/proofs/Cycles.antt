@@ -1,25 +1,24 @@
 -- Ways back along predecessors: one of 64 steps comes to a cycle, and a cycle's codes are a residual cycle of negative cost.
 use mathlib.Core.Path.{_≡_, refl, sym, ap, subst, _∙_}
 use mathlib.Core.Logic.{inl, inr, _≢_}
-use mathlib.Core.Bool.{Bool, true, false}
+use mathlib.Core.Bool.{true}
 use mathlib.Core.List.{List, [], _∷_, _++_, map}
-use Prim.Native.Nat.{ℕ, zero, suc, _+_, _-_, _/_, _%_, _≤_, _<_}
+use Prim.Native.Nat.{ℕ, zero, suc, _+_, _-_, _≤_, _<_}
 use native.Mathlib.Omega.{arith}
-use lib.Dec.{eqb}
 use lib.ListN.{length, getD}
 use lib.IntN.{ℤ, pos, _+ℤ_}
 use lib.Signed.{_≤ℤ_, _<ℤ_}
-use borrow.Author.Tests.{leb-true, lt-ltb}
 use Rattle.laws.specs.Linear.{lin, given, given2, given3}
 use Rattle.laws.specs.Members.{_∈_, Every, member-every}
 use Rattle.laws.specs.Ascending.{Distinct}
 use Rattle.laws.specs.Pigeonhole.{Twice, pigeon}
-use Rattle.network.specs.Network.{Net, low, up}
-use Rattle.network.specs.Residual.{codes, usable, src, dst, stepCost, Walk, walkCost, Cycle}
-use Rattle.search.specs.Labels.{SmallGraph, roomy, pred}
-use Rattle.search.specs.Predecessors.{back, backCost, Backs, Returns, Ends, Period, trail, Labelled}
+use Rattle.network.specs.Network.{Net}
+use Rattle.network.specs.Residual.{codes, src, dst, stepCost, walkCost, Cycle}
+use Rattle.relaxation.specs.Labels.{SmallGraph, roomy}
+use Rattle.relaxation.proofs.Trips.{Trip, trip-walk}
+use Rattle.relaxation.proofs.Rounds.{AtMost}
+use Rattle.search.specs.Predecessors.{pred, back, backCost, Backs, Returns, Ends, Period, trail, Labelled}
 use Rattle.search.proofs.Relaxing.{back-in, slope}
-use Rattle.search.proofs.Rounds.{Trip, AtMost}
 
 module _ (N : Net) (p : List ℕ) where
   pub back-add : (s t x : ℕ) → back N p (s + t) x ≡ back N p s (back N p t x)
@@ -105,14 +104,6 @@ module _ (N : Net) (p : List ℕ) where
       let (i, l, e) = trail-node t (src N (pred p x)) y m ends (λ i l. subst (λ z. z < 64) (back-first i x) (inside (suc i) (omega arith))) (backs-first t x b) in
       (suc i, omega arith, e ∙ sym (back-first i x))
 
--- δ more is room for one more
-pub roomy-usable : (N : Net) (f : List ℕ) (δ c : ℕ) → 0 < δ → roomy N f δ c ≡ true → usable N f c ≡ true
-roomy-usable N f δ c h e = go (eqb (c % 2) 0) refl
-  where
-    go : (t : Bool) → eqb (c % 2) 0 ≡ t → usable N f c ≡ true
-    go true q = rw q (lt-ltb (getD f (c / 2) 0) (up N (c / 2)) (omega (arith, leb-true (getD f (c / 2) 0 + δ) (up N (c / 2)) (rw q at e))))
-    go false q = rw q (lt-ltb (low N (c / 2)) (getD f (c / 2) 0) (omega (arith, leb-true (low N (c / 2) + δ) (getD f (c / 2) 0) (rw q at e))))
-
 module _ (N : Net) (f : List ℕ) (ok : SmallGraph N) (δ : ℕ) (d : List ℤ) (p : List ℕ) (L : Labelled N f δ d p) where
   inside : (x t : ℕ) → x < 64 → Backs N p t x → (i : ℕ) → i < t → back N p i x < 64
   inside x t h b i l = back-in N ok p x t h b i (omega arith)
@@ -128,10 +119,6 @@ module _ (N : Net) (f : List ℕ) (ok : SmallGraph N) (δ : ℕ) (d : List ℤ) 
         subst (λ y. Trip N f δ y (src N (pred p x)) (trail N p t (src N (pred p x)))) (sym (back-first N p t x))
             (trail-trip t (src N (pred p x)) (subst (λ z. z < 64) (back-first N p 0 x) (back-in N ok p x (suc t) h b 1 (omega arith))) (backs-first N p t x b)),
       )
-
-  trip-walk : 0 < δ → (u v : ℕ) (cs : List ℕ) → Trip N f δ u v cs → Walk N f u v cs
-  trip-walk h u v [] w = w
-  trip-walk h u v (c ∷ cs) (a, b, e, w) = (a, roomy-usable N f δ c h b, e, trip-walk h u (src N c) cs w)
 
   trip-room : (u v : ℕ) (cs : List ℕ) → Trip N f δ u v cs → Every (λ c. roomy N f δ c ≡ true) cs
   trip-room u v [] w = tt
@@ -167,7 +154,7 @@ module _ (N : Net) (f : List ℕ) (ok : SmallGraph N) (δ : ℕ) (d : List ℤ) 
     unfolding back
     period-cycle h = record {
       node = x;
-      closed = trip-walk h x x (trail N p t x) (subst (λ y. Trip N f δ y x (trail N p t x)) (P .round .closes) (trail-trip t x (P .round .node) (P .round .steps)));
+      closed = trip-walk N f δ h x x (trail N p t x) (subst (λ y. Trip N f δ y x (trail N p t x)) (P .round .closes) (trail-trip t x (P .round .node) (P .round .steps)));
       some = omega (arith, trail-length N p t x, P .round .some);
       simple = distinct-from 0 t (omega arith);
     }

@@ -1,11 +1,4 @@
-pub mod Codes
-mod Sums
-mod Arcs
-pub mod Relaxing
-pub mod Rounds
-pub mod Cycles
+mod Relaxing
+mod Cycles
 mod Ways
 mod Searching
-pub mod Pricing
-pub mod Shorten
-pub mod Potentials

@@ -1,4 +1,4 @@
--- One residual arc relaxed: labels stay labels, and a way back to itself stays negative.
+-- Residual arcs relaxed: labels stay labels, and a way back to itself stays negative.
 use mathlib.Core.Path.{_≡_, refl, sym, ap, ap₂, subst, _∙_}
 use mathlib.Core.Logic.{_⊎_, inl, inr, _≢_}
 use mathlib.Core.Bool.{Bool, true, false, cond}
@@ -17,9 +17,9 @@ use Rattle.laws.specs.Store.{set-cases}
 use Rattle.laws.specs.Pigeonhole.{Found, find}
 use Rattle.network.specs.Network.{Net}
 use Rattle.network.specs.Residual.{codes, src, dst, stepCost}
-use Rattle.search.specs.Labels.{SmallGraph, Relaxable, roomy, State, label, pred, offer, better, relaxed}
-use Rattle.search.specs.Predecessors.{back, backCost, Backs, Round, Labelled}
-use Rattle.search.proofs.Codes.{src-in, dst-in}
+use Rattle.relaxation.specs.Labels.{SmallGraph, Relaxable, roomy, State, label, offer, better, relaxed, relaxedAll}
+use Rattle.relaxation.proofs.Codes.{src-in, dst-in}
+use Rattle.search.specs.Predecessors.{pred, back, backCost, Backs, Round, Labelled}
 
 -- a way back along codes stays among the nodes
 pub back-in : (N : Net) → SmallGraph N → (p : List ℕ) (x t : ℕ) → x < 64 → Backs N p t x → (j : ℕ) → j ≤ t → back N p j x < 64
@@ -173,7 +173,7 @@ module _ (N : Net) (f : List ℕ) (ok : Relaxable N f) (δ : ℕ) (d : List ℤ)
       elsewhere a b s e g h q k = given3 h q k (simp lin (omega arith))
 
 -- one code tried
-pub labelled-relaxed : (N : Net) (f : List ℕ) → Relaxable N f → (δ : ℕ) (s : State) → Labelled N f δ (s .labels) (s .preds) → (c : ℕ) → c < codes N
+labelled-relaxed : (N : Net) (f : List ℕ) → Relaxable N f → (δ : ℕ) (s : State) → Labelled N f δ (s .labels) (s .preds) → (c : ℕ) → c < codes N
     → Labelled N f δ (relaxed N f δ c s .labels) (relaxed N f δ c s .preds)
 labelled-relaxed N f ok δ s L c h = go (better N f δ c s) refl
   where
@@ -182,3 +182,10 @@ labelled-relaxed N f ok δ s L c h = go (better N f δ c s) refl
         let (r, l) = and-true (roomy N f δ c) (ltZ (offer N c s) (label s (dst N c))) e in
         labelled-hit N f ok δ (s .labels) (s .preds) L c h r (ltZ-true (offer N c s) (label s (dst N c)) l)
     go false e = L
+
+-- the first r codes tried
+pub all-labelled : (N : Net) (f : List ℕ) → Relaxable N f → (δ : ℕ) (s : State) → Labelled N f δ (s .labels) (s .preds) → (r : ℕ) → r ≤ codes N
+    → Labelled N f δ (relaxedAll N f δ r s .labels) (relaxedAll N f δ r s .preds)
+unfolding relaxedAll
+all-labelled N f ok δ s L zero h = L
+all-labelled N f ok δ s L (suc r) h = labelled-relaxed N f ok δ (relaxedAll N f δ r s) (all-labelled N f ok δ s L r (omega arith)) r h

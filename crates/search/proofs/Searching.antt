@@ -1,20 +1,20 @@
 -- The rounds of the search: what holds before each, and what each way out shows.
 use mathlib.Core.Path.{_≡_, refl, sym, ap, subst, _∙_}
-use mathlib.Core.List.{List, [], _∷_}
+use mathlib.Core.List.{List, _∷_}
 use Prim.Native.Nat.{ℕ, zero, suc, _+_, _*_, _≤_, _<_}
 use native.Mathlib.Omega.{arith}
 use native.Mathlib.Numerals.{add-one}
-use lib.ListN.{length, getD, replicate}
+use lib.ListN.{length, getD}
 use lib.IntN.{ℤ, pos}
 use lib.Signed.{_<ℤ_}
-use Rattle.laws.specs.Linear.{lin}
 use Rattle.laws.specs.Range.{bounded-more}
 use Rattle.network.specs.Network.{Net}
 use Rattle.network.specs.Residual.{codes, src}
-use Rattle.search.specs.Labels.{costGraph, SmallGraph, Relaxable, State, state, pred, relaxedAll, Sized}
-use Rattle.search.specs.Predecessors.{back, Backs, Round, Returns, trail, Labelled, WentBack, ended, went, Collected}
+use Rattle.relaxation.specs.Labels.{costGraph, SmallGraph, Relaxable, State, state, relaxedAll, Sized}
+use Rattle.relaxation.proofs.Rounds.{AtMost, zeros-at-most, zeros-sized, left-at-most, left-sized, left-quiet, left-fell}
+use Rattle.search.specs.Predecessors.{pred, back, Backs, Round, Returns, trail, Labelled, WentBack, ended, went, Collected}
 use Rattle.search.specs.Search.{QuietLabels, Searched, found}
-use Rattle.search.proofs.Rounds.{AtMost, Changed, quiet, noisy, all-labelled, round-at-most, round-changed, all-sized, sized-more}
+use Rattle.search.proofs.Relaxing.{all-labelled}
 use Rattle.search.proofs.Cycles.{comes-round, period-cycle, period-room, period-negative, ends-late}
 
 pub record Searching (N : Net) (f : List ℕ) (δ : ℕ) (d : List ℤ) (p : List ℕ) (k : ℕ) : Type 0 where
@@ -57,11 +57,6 @@ module _ (t h l u l′ u′ : List ℕ) (c c′ : List ℤ) (p : List ℕ) where
 pub graph-any : (t h l u l′ u′ : List ℕ) (c c′ : List ℤ) → SmallGraph (costGraph t h l u c) → SmallGraph (costGraph t h l′ u′ c′)
 graph-any t h l u l′ u′ c c′ g = record { few = g .few; heads-len = g .heads-len; tail-in = g .tail-in; head-in = g .head-in }
 
-pub zero-at : (n v : ℕ) → getD (replicate n (pos 0)) v (pos 0) ≡ pos 0
-zero-at zero v = refl
-zero-at (suc n) zero = refl
-zero-at (suc n) (suc v) = zero-at n v
-
 module _ (N : Net) (f : List ℕ) (ok : Relaxable N f) (δ : ℕ) where
   -- no labels yet
   pub searching-start : (d : List ℤ) (p : List ℕ) → length d ≡ 64 → length p ≡ 64 → ((v : ℕ) → getD d v (pos 0) ≡ pos 0) → ((v : ℕ) → v < 64 → 1024 ≤ pred p v) → Searching N f δ d p 0
@@ -77,51 +72,30 @@ module _ (N : Net) (f : List ℕ) (ok : Relaxable N f) (δ : ℕ) where
       offers = λ v h k. absurd (rootless v h k);
       negative = λ x t r. absurd (rootless x (r .node) (r .steps 0 (r .some)));
     };
-    at-most = start-most;
-    sized = record { labels-len = dl; preds-len = pl; small = λ v h. rw (zeros v) (omega arith) };
+    at-most = zeros-at-most d zeros N f δ;
+    sized = zeros-sized d zeros p dl pl;
   }
     where
       rootless : (v : ℕ) → v < 64 → ¬ (pred p v < codes N)
       rootless v h l = omega (arith, none v h, ok .graph .few)
 
-      start-most : AtMost N f δ 0 d
-      start-most u v [] h w = rw (zeros v) (simp lin (omega arith))
-      start-most u v (c ∷ cs) h w = absurd (omega arith)
-
   -- a round from d and p, which left d′, p′ and last
   module _ (d : List ℤ) (p : List ℕ) (k : ℕ) (S : Searching N f δ d p k) (d′ : List ℤ) (p′ : List ℕ) (last : ℕ)
       (e : state d′ p′ last ≡ relaxedAll N f δ (codes N) (state d p 64)) where
     pub labelled′ : Labelled N f δ d′ p′
-    labelled′ = subst (λ (s : State). Labelled N f δ (s .labels) (s .preds)) (sym e) (all-labelled N f ok δ (state d p 64) (S .labelled .labels-len) (S .labelled) (codes N) (omega arith))
-
-    at-most′ : AtMost N f δ (suc k) d′
-    at-most′ = subst (λ (s : State). AtMost N f δ (suc k) (s .labels)) (sym e) (round-at-most N f ok δ (state d p 64) (S .labelled .labels-len) k (S .at-most))
-
-    sized′ : Sized (1024000000 * suc k) d′ p′
-    sized′ =
-        subst (λ (s : State). Sized (1024000000 * suc k) (s .labels) (s .preds)) (sym e)
-        (sized-more (omega (arith, ok .graph .few)) (all-sized N f ok δ (1024000000 * k) (state d p 64) (codes N) (omega arith) (S .sized)))
-
-    changed : Changed N f ok δ d (codes N) (state d′ p′ last)
-    changed = subst (Changed N f ok δ d (codes N)) (sym e) (round-changed N f ok δ d p (S .labelled .labels-len) (codes N) (omega arith))
+    labelled′ = subst (λ (s : State). Labelled N f δ (s .labels) (s .preds)) (sym e) (all-labelled N f ok δ (state d p 64) (S .labelled) (codes N) (omega arith))
 
     pub quiet-of : last ≡ 64 → QuietLabels N f δ d′
-    quiet-of q = go changed
-      where
-        go : Changed N f ok δ d (codes N) (state d′ p′ last) → QuietLabels N f δ d′
-        go (quiet a b c) = subst (QuietLabels N f δ) (sym b) (record {
+    quiet-of q =
+        let (b, c) = left-quiet N f ok δ d p (S .labelled .labels-len) d′ p′ last e q k (S .at-most) in
+        subst (QuietLabels N f δ) (sym b) (record {
           len = S .labelled .labels-len;
-          quiet = record { low = λ v. S .at-most v v [] (omega arith) refl; reduced = c };
+          quiet = c;
           small = λ v h. bounded-more (omega (arith, S .early)) (S .sized .small v h);
         })
-        go (noisy a b) = absurd (omega arith)
 
     pub fell : ¬ (last ≡ 64) → (last < 64) × (getD d′ last (pos 0) <ℤ getD d last (pos 0))
-    fell n = go changed
-      where
-        go : Changed N f ok δ d (codes N) (state d′ p′ last) → (last < 64) × (getD d′ last (pos 0) <ℤ getD d last (pos 0))
-        go (quiet a b c) = absurd (n a)
-        go (noisy a b) = (a, b)
+    fell n = left-fell N f ok δ d p (S .labelled .labels-len) d′ p′ last e n
 
     pub returns-of : (x : ℕ) → ¬ (last ≡ 64) → WentBack N p′ last x → ¬ (x ≡ 64) → Returns N p′ x
     returns-of x n (ended q t w) m = absurd (m q)
@@ -131,8 +105,8 @@ module _ (N : Net) (f : List ℕ) (ok : Relaxable N f) (δ : ℕ) where
     searching-more x n (ended q t w) m = rw add-one (record {
       early = omega (arith, w .few, ends-late N f (ok .graph) δ d′ p′ labelled′ last t k (fell n .0) w d (S .at-most) (fell n .1));
       labelled = labelled′;
-      at-most = at-most′;
-      sized = sized′;
+      at-most = left-at-most N f ok δ d p (S .labelled .labels-len) d′ p′ last e k (S .at-most);
+      sized = left-sized N f ok δ d p (S .labelled .labels-len) d′ p′ last e k (S .sized);
     })
     searching-more x n (went q b) m = absurd (omega (arith, comes-round N p′ (ok .graph) last (fell n .0) b .round .node))
 

@@ -9,9 +9,9 @@ use lib.ListN.{length, take, set, length-set}
 use lib.Seq.{take-suc-set}
 use Rattle.network.specs.Network.{Net, arcs}
 use Rattle.network.specs.Residual.{codes, src}
-use Rattle.search.specs.Labels.{SmallGraph, pred}
-use Rattle.search.specs.Predecessors.{back, Backs, Returns, Ends, trail, Collected}
-use Rattle.search.proofs.Codes.{src-in}
+use Rattle.relaxation.specs.Labels.{SmallGraph}
+use Rattle.relaxation.proofs.Codes.{src-in}
+use Rattle.search.specs.Predecessors.{pred, back, Backs, Returns, Ends, trail, Collected}
 use Rattle.search.proofs.Relaxing.{back-in}
 use Rattle.search.proofs.Cycles.{trail-more}
 

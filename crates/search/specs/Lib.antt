@@ -1,4 +1,2 @@
-pub mod Labels
 pub mod Predecessors
 pub mod Search
-pub mod Prices

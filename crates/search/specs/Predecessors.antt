@@ -8,7 +8,11 @@ use lib.IntN.{ℤ, pos, _+ℤ_}
 use lib.Signed.{_≤ℤ_, _<ℤ_}
 use Rattle.network.specs.Network.{Net}
 use Rattle.network.specs.Residual.{codes, src, dst, stepCost}
-use Rattle.search.specs.Labels.{roomy, pred}
+use Rattle.relaxation.specs.Labels.{roomy}
+
+-- the code that gave node v its label
+abbrev pub pred : List ℕ → ℕ → ℕ
+pred p v = getD p v 0
 
 -- the node t steps back from x, and the cost of these steps
 unfoldable pub back : Net → List ℕ → ℕ → ℕ → ℕ

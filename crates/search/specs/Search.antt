@@ -4,25 +4,16 @@ use mathlib.Core.Bool.{true}
 use mathlib.Core.List.{List}
 use Prim.Native.Nat.{ℕ, _≤_, _<_}
 use lib.ListN.{length, getD, take}
-use lib.IntN.{ℤ, pos, _+ℤ_}
-use lib.Signed.{_≤ℤ_, _<ℤ_}
+use lib.IntN.{ℤ, pos}
+use lib.Signed.{_<ℤ_}
 use Rattle.laws.specs.Members.{Every}
 use Rattle.laws.specs.Range.{Bounded}
-use Rattle.network.specs.Network.{Net, low}
-use Rattle.network.specs.Residual.{codes, src, dst, stepCost, walkCost, Cycle}
-use Rattle.search.specs.Labels.{roomy}
+use Rattle.network.specs.Network.{Net}
+use Rattle.network.specs.Residual.{walkCost, Cycle}
+use Rattle.relaxation.specs.Labels.{roomy}
+use Rattle.relaxation.specs.Potentials.{Quiet}
 
--- no residual arc with room for δ has a reduced cost below 0
-pub record Quiet (N : Net) (f : List ℕ) (δ : ℕ) (π : ℕ → ℤ) : Type 0 where
-  pub low : (v : ℕ) → π v ≤ℤ pos 0
-  pub reduced : (c : ℕ) → c < codes N → roomy N f δ c ≡ true → π (dst N c) ≤ℤ (π (src N c) +ℤ stepCost N c)
-
--- under some potential: no negative cycle has room for δ
-pub record Settled (N : Net) (f : List ℕ) (δ : ℕ) : Type 0 where
-  pub potential : ℕ → ℤ
-  pub quiet : Quiet N f δ potential
-
--- under labels of 64 nodes, at most 10¹² either way
+-- no negative cycle has room for δ, under labels of 64 nodes, at most 10¹² either way
 pub record QuietLabels (N : Net) (f : List ℕ) (δ : ℕ) (d : List ℤ) : Type 0 where
   pub len : length d ≡ 64
   pub quiet : Quiet N f δ (λ v. getD d v (pos 0))

@@ -1,107 +1,12 @@
-// The search for a negative cycle in the residual network of a flow: labels corrected in rounds over the arcs (Bellman and Ford).
+// The search for a negative cycle in the residual network of a flow: rounds over the arcs until one changes no label, or predecessors come to a cycle.
 ghost use mathlib.Core.Path.{_≡_};
-ghost use mathlib.Core.Bool.{_&&_};
-ghost use Prim.Native.Nat.{ℕ, suc, _+_, _≤_, _<_};
-ghost use lib.ListN.{length, getD};
-ghost use lib.IntN.{pos, _+ℤ_};
-ghost use lib.Signed.{ltZ};
-ghost use mir.Syntax.{w64};
-ghost use mir.Val.{SFits};
 ghost use mathlib.Core.List.{[]};
-ghost use Rattle.network.specs.Residual.{codes};
-ghost use Rattle.search.specs.Labels.{costGraph, SmallGraph, Relaxable, state, setIf, relaxed, relaxedAll, Sized};
+ghost use Prim.Native.Nat.{ℕ, _≤_, _<_};
+ghost use lib.ListN.{length, getD};
+ghost use lib.IntN.{pos};
+ghost use Rattle.relaxation.specs.Labels.{costGraph, SmallGraph, Relaxable};
 ghost use Rattle.search.specs.Predecessors.{Returns, WentBack, Collected};
-ghost use Rattle.search.specs.Search.{Searched, Settled};
-ghost use Rattle.search.specs.Prices.{PriceLabels};
-
-// The residual arc `code` from u to v, if it is on: a better label for v, or nothing. The node whose label fell last.
-fn relax(
-    labels: &mut [i64],
-    preds: &mut [u16],
-    on: bool,
-    u: usize,
-    v: usize,
-    c: i64,
-    code: u16,
-    last: usize,
-) -> usize
-    requires { ⌜ (u < length (now labels)) × (v < length (now labels)) × (v < length (now preds)) × SFits w64 (getD (now labels) u (pos 0) +ℤ c) ⌝ }
-    ensures { λ r. ⌜ state (now (labels .exit)) (now (preds .exit)) r ≡ setIf (on && ltZ (getD (now (labels .entry)) u (pos 0) +ℤ c) (getD (now (labels .entry)) v (pos 0))) v (getD (now (labels .entry)) u (pos 0) +ℤ c) code (state (now (labels .entry)) (now (preds .entry)) last) ⌝ }
-{
-    if !on {
-        return last;
-    }
-    let a = labels[u];
-    let b = labels[v];
-    let x = a + c;
-    if x < b {
-        labels[v] = x;
-        preds[v] = code;
-        return v;
-    }
-    last
-}
-
-// Both residual arcs of arc a, where `need` more can go.
-fn relax_arc(
-    tails: &[u8],
-    heads: &[u8],
-    lows: &[u32],
-    ups: &[u32],
-    costs: &[i32],
-    flow: &[u32],
-    need: u32,
-    labels: &mut [i64],
-    preds: &mut [u16],
-    a: usize,
-    last: usize,
-) -> usize
-    requires { ⌜ Relaxable (costGraph (now tails) (now heads) (now lows) (now ups) (now costs)) (now flow) × Sized 90000000000 (now labels) (now preds) × (a < length (now tails)) × (need ≤ 1000000) ⌝ }
-    ensures { λ r. ⌜ state (now (labels .exit)) (now (preds .exit)) r ≡ relaxed (costGraph (now (tails .entry)) (now (heads .entry)) (now (lows .entry)) (now (ups .entry)) (now (costs .entry))) (now (flow .entry)) need (suc (a + a)) (relaxed (costGraph (now (tails .entry)) (now (heads .entry)) (now (lows .entry)) (now (ups .entry)) (now (costs .entry))) (now (flow .entry)) need (a + a) (state (now (labels .entry)) (now (preds .entry)) last)) ⌝ }
-{
-    let t = tails[a] as usize;
-    let h = heads[a] as usize;
-    let c = bytes32::to_i64(costs[a]);
-    let f = flow[a];
-    let forward = f + need <= ups[a];
-    let next = relax(labels, preds, forward, t, h, c, (a + a) as u16, last);
-    let backward = lows[a] + need <= f;
-    relax(labels, preds, backward, h, t, -c, (a + a + 1) as u16, next)
-}
-
-// One round over the arcs. The node whose label fell last, or 64 where none did.
-fn round(
-    tails: &[u8],
-    heads: &[u8],
-    lows: &[u32],
-    ups: &[u32],
-    costs: &[i32],
-    flow: &[u32],
-    need: u32,
-    labels: &mut [i64],
-    preds: &mut [u16],
-) -> usize
-    requires { ⌜ Relaxable (costGraph (now tails) (now heads) (now lows) (now ups) (now costs)) (now flow) × Sized 80000000000 (now labels) (now preds) × (need ≤ 1000000) ⌝ }
-    ensures { λ r. ⌜ state (now (labels .exit)) (now (preds .exit)) r ≡ relaxedAll (costGraph (now (tails .entry)) (now (heads .entry)) (now (lows .entry)) (now (ups .entry)) (now (costs .entry))) (now (flow .entry)) need (codes (costGraph (now (tails .entry)) (now (heads .entry)) (now (lows .entry)) (now (ups .entry)) (now (costs .entry)))) (state (now (labels .entry)) (now (preds .entry)) 64) ⌝ }
-{
-    let mut last = 64;
-    for a in 0..tails.len() {
-        last = relax_arc(
-            tails,
-            heads,
-            lows,
-            ups,
-            costs,
-            flow,
-            need,
-            labels,
-            preds,
-            a,
-            last,
-        );
-    }
-    last
-}
+ghost use Rattle.search.specs.Search.{Searched};
 
 // 64 predecessors back from v, or 64 where a node without one is met.
 fn go_back(tails: &[u8], heads: &[u8], preds: &[u16], v: usize) -> usize
@@ -168,7 +73,7 @@ pub fn find_cycle(
     let mut preds = [65535u16; 64];
     let mut k: usize = 0;
     let node = 'rounds: loop {
-        let last = round(
+        let last = relaxation::round(
             tails,
             heads,
             lows,
@@ -192,37 +97,4 @@ pub fn find_cycle(
         return 0;
     }
     collect(tails, heads, &preds, node, out)
-}
-
-// The price of each node, for a flow without a negative cycle: the least cost of a residual walk that ends there.
-pub fn prices(
-    tails: &[u8],
-    heads: &[u8],
-    lows: &[u32],
-    ups: &[u32],
-    costs: &[i32],
-    flow: &[u32],
-) -> [i64; 64]
-    requires { ⌜ Relaxable (costGraph (now tails) (now heads) (now lows) (now ups) (now costs)) (now flow) × Settled (costGraph (now tails) (now heads) (now lows) (now ups) (now costs)) (now flow) 1 ⌝ }
-    ensures { λ r. ⌜ PriceLabels (costGraph (now (tails .entry)) (now (heads .entry)) (now (lows .entry)) (now (ups .entry)) (now (costs .entry))) (now (flow .entry)) r ⌝ }
-{
-    let mut least = [0i64; 64];
-    let mut preds = [65535u16; 64];
-    for _k in 0..64usize {
-        let last = round(
-            tails,
-            heads,
-            lows,
-            ups,
-            costs,
-            flow,
-            1,
-            &mut least,
-            &mut preds,
-        );
-        if last == 64 {
-            return least;
-        }
-    }
-    least
 }

@@ -7,7 +7,7 @@ use lib.IntN.{ℤ}
 use lib.Signed.{_<ℤ_}
 use borrow.Author.Tests.{not-true, not-false}
 use Rattle.network.specs.Network.{Net, costOf}
-use Rattle.search.specs.Labels.{costGraph, Relaxable}
+use Rattle.relaxation.specs.Labels.{costGraph, Relaxable}
 use Rattle.cancelling.specs.Cancelling.{Rerouted}
 use Rattle.cancelling.proofs.Cancelling.{none-left, one-less, left, falls, same-flow, further, relaxable-again}
 use Rattle.cancelling.proofs.cancel_all.Statement.{statement}

@@ -5,7 +5,7 @@ use native.Mathlib.Omega.{arith}
 use lib.ListN.{length}
 use lib.IntN.{ℤ}
 use Rattle.network.specs.Network.{Net}
-use Rattle.search.specs.Labels.{costGraph, Relaxable}
+use Rattle.relaxation.specs.Labels.{costGraph, Relaxable}
 use Rattle.search.specs.Search.{QuietLabels}
 use Rattle.cancelling.specs.Cancelling.{Rerouted}
 use Rattle.cancelling.proofs.Cancelling.{same-flow, further, relaxable-again}

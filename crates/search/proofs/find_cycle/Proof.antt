@@ -7,10 +7,10 @@ use lib.ListN.{getD-replicate}
 use lib.IntN.{ℤ}
 use borrow.Author.Needs.{needs}
 use Rattle.network.specs.Network.{Net}
-use Rattle.search.specs.Labels.{costGraph, SmallGraph}
+use Rattle.relaxation.specs.Labels.{costGraph, SmallGraph}
+use Rattle.relaxation.proofs.Rounds.{sized-more}
 use Rattle.search.specs.Predecessors.{Returns, WentBack, Labelled}
 use Rattle.search.specs.Search.{Searched, none}
-use Rattle.search.proofs.Rounds.{sized-more}
 use Rattle.search.proofs.Searching.{Searching, searching-start, labelled′, quiet-of, fell, returns-of, searching-more, searched-found, went-any, returns-any, collected-any, graph-any}
 use Rattle.search.proofs.find_cycle.Statement.{statement}
 use Rattle.search.proofs.find_cycle.Tie as tie

@@ -8,7 +8,7 @@ use lib.Seq.{length-take-le}
 use lib.IntN.{ℤ, pos}
 use Rattle.network.specs.Network.{nodes}
 use Rattle.network.specs.Residual.{Price}
-use Rattle.search.proofs.Potentials.{labels-small}
+use Rattle.prices.proofs.Potentials.{labels-small}
 use Rattle.enumerator.specs.Enumerator.{netOf, flowIn}
 use Rattle.enumerator.proofs.Held.{few, in-tails, in-heads, in-lows, in-ups, in-costs}
 use Rattle.enumerator.proofs.Standing.{bareOf, relaxable-on, settled-on, prices-on}

@@ -16,19 +16,23 @@ use Rattle.laws.specs.Range.{Bounded, bounded-add, bounded-more}
 use Rattle.laws.specs.Store.{set-cases}
 use Rattle.network.specs.Network.{Net}
 use Rattle.network.specs.Residual.{codes, src, dst, stepCost, walkCost}
-use Rattle.search.specs.Labels.{Relaxable, roomy, State, state, label, offer, better, relaxed, relaxedAll, Sized}
-use Rattle.search.specs.Predecessors.{Labelled}
-use Rattle.search.proofs.Codes.{src-in, dst-in, step-small}
-use Rattle.search.proofs.Relaxing.{labelled-relaxed}
-
--- a walk of codes that have room, the last one first
-abbrev pub Trip : Net → List ℕ → ℕ → ℕ → ℕ → List ℕ → Type 0
-Trip N f δ u v [] = u ≡ v
-Trip N f δ u v (c ∷ cs) = (c < codes N) × (roomy N f δ c ≡ true) × (dst N c ≡ v) × Trip N f δ u (src N c) cs
+use Rattle.relaxation.specs.Labels.{Relaxable, roomy, State, state, label, offer, better, relaxed, relaxedAll, Sized}
+use Rattle.relaxation.specs.Potentials.{Quiet}
+use Rattle.relaxation.proofs.Codes.{src-in, dst-in, step-small}
+use Rattle.relaxation.proofs.Trips.{Trip}
 
 -- no walk of at most k codes costs less than the label where it ends
 abbrev pub AtMost : Net → List ℕ → ℕ → ℕ → List ℤ → Type 0
 AtMost N f δ k d = (u v : ℕ) (cs : List ℕ) → length cs ≤ k → Trip N f δ u v cs → getD d v (pos 0) ≤ℤ walkCost N cs
+
+-- labels that are all 0
+module _ (d : List ℤ) (zeros : (v : ℕ) → getD d v (pos 0) ≡ pos 0) where
+  pub zeros-at-most : (N : Net) (f : List ℕ) (δ : ℕ) → AtMost N f δ 0 d
+  zeros-at-most N f δ u v [] h w = rw (zeros v) (simp lin (omega arith))
+  zeros-at-most N f δ u v (c ∷ cs) h w = absurd (omega arith)
+
+  pub zeros-sized : (p : List ℕ) → length d ≡ 64 → length p ≡ 64 → Sized 0 d p
+  zeros-sized p dl pl = record { labels-len = dl; preds-len = pl; small = λ v h. rw (zeros v) (omega arith) }
 
 pub sized-more : {B C : ℕ} {d : List ℤ} {p : List ℕ} → B ≤ C → Sized B d p → Sized C d p
 sized-more h z = record { labels-len = z .labels-len; preds-len = z .preds-len; small = λ v l. bounded-more h (z .small v l) }
@@ -72,13 +76,13 @@ module _ (N : Net) (f : List ℕ) (ok : Relaxable N f) (δ : ℕ) where
     all-length zero h = len
     all-length (suc r) h = one-length (after r) r h (all-length r (omega arith))
 
-    pub all-falls : (r : ℕ) → r ≤ codes N → (w : ℕ) → label (after r) w ≤ℤ label s w
+    all-falls : (r : ℕ) → r ≤ codes N → (w : ℕ) → label (after r) w ≤ℤ label s w
     unfolding relaxedAll
     all-falls zero h w = simp lin (omega arith)
     all-falls (suc r) h w = given2 (one-falls (after r) r h (all-length r (omega arith)) w) (all-falls r (omega arith) w) (simp lin (omega arith))
 
     -- each code has made its offer
-    pub all-offers : (r : ℕ) → r ≤ codes N → (c : ℕ) → c < r → roomy N f δ c ≡ true → label (after r) (dst N c) ≤ℤ (label s (src N c) +ℤ stepCost N c)
+    all-offers : (r : ℕ) → r ≤ codes N → (c : ℕ) → c < r → roomy N f δ c ≡ true → label (after r) (dst N c) ≤ℤ (label s (src N c) +ℤ stepCost N c)
     unfolding relaxedAll
     all-offers zero h c k e = absurd (omega arith)
     all-offers (suc r) h c k e = go (ℕ-discrete c r) (all-offers r (omega arith) c)
@@ -93,20 +97,15 @@ module _ (N : Net) (f : List ℕ) (ok : Relaxable N f) (δ : ℕ) where
             (one-offer (after r) r h (all-length r (omega arith)) (subst (λ k. roomy N f δ k ≡ true) q e)) refl (all-falls r (omega arith) (src N r)))
         go (no q) deep = given2 (one-falls (after r) r h (all-length r (omega arith)) (dst N c)) (deep (omega arith) e) (simp lin (omega arith))
 
-    pub all-labelled : Labelled N f δ (s .labels) (s .preds) → (r : ℕ) → r ≤ codes N → Labelled N f δ (after r .labels) (after r .preds)
-    unfolding relaxedAll
-    all-labelled L zero h = L
-    all-labelled L (suc r) h = labelled-relaxed N f ok δ (after r) (all-labelled L r (omega arith)) r h
-
     -- walks may be one code longer
-    pub round-at-most : (k : ℕ) → AtMost N f δ k (s .labels) → AtMost N f δ (suc k) (after (codes N) .labels)
+    round-at-most : (k : ℕ) → AtMost N f δ k (s .labels) → AtMost N f δ (suc k) (after (codes N) .labels)
     round-at-most k m u v [] h e = given2 (all-falls (codes N) (omega arith) v) (m u v [] (omega arith) e) (simp lin (omega arith))
     round-at-most k m u v (c ∷ cs) h (a, b, e, w) =
         subst (λ x. label (after (codes N)) x ≤ℤ (stepCost N c +ℤ walkCost N cs)) e
         (given2 (all-offers (codes N) (omega arith) c a b) (m u (src N c) cs (omega arith) w) (simp lin (omega arith)))
 
   -- whether anything changed, from a start with last = 64
-  pub data Changed (d₀ : List ℤ) (r : ℕ) (s : State) : Type 0 where
+  data Changed (d₀ : List ℤ) (r : ℕ) (s : State) : Type 0 where
     quiet : s .last ≡ 64 → s .labels ≡ d₀ → ((c : ℕ) → c < r → roomy N f δ c ≡ true → getD d₀ (dst N c) (pos 0) ≤ℤ (getD d₀ (src N c) (pos 0) +ℤ stepCost N c)) → Changed d₀ r s
     noisy : s .last < 64 → label s (s .last) <ℤ getD d₀ (s .last) (pos 0) → Changed d₀ r s
 
@@ -134,7 +133,7 @@ module _ (N : Net) (f : List ℕ) (ok : Relaxable N f) (δ : ℕ) where
           (given2 (ltZ-true (offer N r s) (label s (dst N r)) (and-true (roomy N f δ r) _ e .1)) (falls (dst N r)) (simp lin (omega arith))))
       go false e = still e ch
 
-  pub round-changed : (d : List ℤ) (p : List ℕ) → length d ≡ 64 → (r : ℕ) → r ≤ codes N → Changed d r (relaxedAll N f δ r (state d p 64))
+  round-changed : (d : List ℤ) (p : List ℕ) → length d ≡ 64 → (r : ℕ) → r ≤ codes N → Changed d r (relaxedAll N f δ r (state d p 64))
   unfolding relaxedAll
   round-changed d p len zero h = quiet refl refl (λ c k. absurd (omega arith))
   round-changed d p len (suc r) h =
@@ -157,3 +156,32 @@ module _ (N : Net) (f : List ℕ) (ok : Relaxable N f) (δ : ℕ) where
   unfolding relaxedAll
   all-sized B s zero h z = sized-more (omega arith) z
   all-sized B s (suc r) h z = sized-more (omega arith) (one-sized (B + 1000000 * r) (relaxedAll N f δ r s) r h (all-sized B s r (omega arith) z))
+
+  -- a round from d and p, which left d′, p′ and last
+  module _ (d : List ℤ) (p : List ℕ) (len : length d ≡ 64) (d′ : List ℤ) (p′ : List ℕ) (last : ℕ) (e : state d′ p′ last ≡ relaxedAll N f δ (codes N) (state d p 64)) where
+    pub left-at-most : (k : ℕ) → AtMost N f δ k d → AtMost N f δ (suc k) d′
+    left-at-most k m = subst (λ (s : State). AtMost N f δ (suc k) (s .labels)) (sym e) (round-at-most (state d p 64) len k m)
+
+    pub left-sized : (k : ℕ) → Sized (1024000000 * k) d p → Sized (1024000000 * suc k) d′ p′
+    left-sized k z =
+        subst (λ (s : State). Sized (1024000000 * suc k) (s .labels) (s .preds)) (sym e)
+        (sized-more (omega (arith, ok .graph .few)) (all-sized (1024000000 * k) (state d p 64) (codes N) (omega arith) z))
+
+    changed : Changed d (codes N) (state d′ p′ last)
+    changed = subst (Changed d (codes N)) (sym e) (round-changed d p len (codes N) (omega arith))
+
+    -- no label changed: the labels are a potential
+    pub left-quiet : last ≡ 64 → (k : ℕ) → AtMost N f δ k d → (d′ ≡ d) × Quiet N f δ (λ v. getD d v (pos 0))
+    left-quiet q k m = go changed
+      where
+        go : Changed d (codes N) (state d′ p′ last) → (d′ ≡ d) × Quiet N f δ (λ v. getD d v (pos 0))
+        go (quiet a b c) = (b, record { low = λ v. m v v [] (omega arith) refl; reduced = c })
+        go (noisy a b) = absurd (omega arith)
+
+    -- or that of `last` fell
+    pub left-fell : ¬ (last ≡ 64) → (last < 64) × (getD d′ last (pos 0) <ℤ getD d last (pos 0))
+    left-fell n = go changed
+      where
+        go : Changed d (codes N) (state d′ p′ last) → (last < 64) × (getD d′ last (pos 0) <ℤ getD d last (pos 0))
+        go (quiet a b c) = absurd (n a)
+        go (noisy a b) = (a, b)

@@ -11,13 +11,14 @@ use Rattle.laws.specs.Linear.{lin, given, given2}
 use Rattle.laws.specs.Range.{Bounded, bounded-add, bounded-more, bounded-zero, fits}
 use Rattle.network.specs.Network.{Net}
 use Rattle.network.specs.Residual.{src, dst, stepCost, Walk, walkCost}
-use Rattle.search.specs.Labels.{Relaxable}
-use Rattle.search.specs.Search.{Quiet}
-use Rattle.search.specs.Prices.{PriceLabels}
-use Rattle.search.proofs.Codes.{src-in, dst-in, step-small}
-use Rattle.search.proofs.Cycles.{roomy-usable}
-use Rattle.search.proofs.Shorten.{shorten}
-use Rattle.search.proofs.Pricing.{walk-trip, trip-walk}
+use Rattle.relaxation.specs.Labels.{Relaxable}
+use Rattle.relaxation.specs.Potentials.{Quiet}
+use Rattle.relaxation.proofs.Codes.{src-in, dst-in, step-small}
+use Rattle.relaxation.proofs.Trips.{trip-walk}
+use Rattle.prices.specs.Prices.{PriceLabels}
+use Rattle.prices.proofs.Shorten.{shorten}
+use Rattle.prices.proofs.Pricing.{walk-trip}
+use Rattle.relaxation.proofs.Trips.{roomy-usable, trip-walk}
 
 module _ (N : Net) (f : List ℕ) (ok : Relaxable N f) (d : List ℤ) (P : PriceLabels N f d) where
   labels-low : (v : ℕ) → getD d v (pos 0) ≤ℤ pos 0
@@ -45,7 +46,7 @@ module _ (N : Net) (f : List ℕ) (ok : Relaxable N f) (d : List ℤ) (P : Price
   labels-small v h =
       let (u, cs, w, e) = P .walked v h in
       let s = shorten N f 1 (ok .graph) (λ v. getD d v (pos 0)) labels-quiet u v cs h (walk-trip N f u v cs w) in
-      let x = trip-walk N f u v (s .walk) (s .leads) in
+      let x = trip-walk N f 1 (omega arith) u v (s .walk) (s .leads) in
       same (getD d v (pos 0)) (walkCost N (s .walk)) (walkCost N cs) e (s .costs) (P .least u v (s .walk) h x)
       (bounded-more (omega (arith, s .few)) (walk-small u v (s .walk) x))
     where

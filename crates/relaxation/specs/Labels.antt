@@ -1,4 +1,4 @@
--- A label-correcting search (Bellman and Ford) over the residual arcs that have room for a given amount.
+-- Labels corrected over the residual arcs that have room for a given amount (Bellman and Ford).
 use mathlib.Core.Path.{_≡_}
 use mathlib.Core.Bool.{Bool, cond, _&&_}
 use mathlib.Core.List.{List, []}
@@ -11,7 +11,7 @@ use Rattle.laws.specs.Range.{Bounded}
 use Rattle.network.specs.Network.{Net, arcs, tail, head, low, up, cost}
 use Rattle.network.specs.Residual.{either, src, dst, stepCost}
 
--- the network of the lists that the search reads; it reads no balances
+-- the network of the lists that a round reads; it reads no balances
 abbrev pub costGraph : List ℕ → List ℕ → List ℕ → List ℕ → List ℤ → Net
 costGraph t h l u c = record { balances = []; tails = t; heads = h; lows = l; ups = u; costs = c }
 
@@ -49,9 +49,6 @@ state d p l = record { labels = d; preds = p; last = l }
 
 abbrev pub label : State → ℕ → ℤ
 label s v = getD (s .labels) v (pos 0)
-
-abbrev pub pred : List ℕ → ℕ → ℕ
-pred p v = getD p v 0
 
 -- the label that code c offers to the node where it ends, and whether it is better
 abbrev pub offer : Net → ℕ → State → ℤ

@@ -13,11 +13,11 @@ use mir.Facts.{toZ-ofZ}
 use Rattle.laws.specs.Linear.{lin}
 use Rattle.laws.specs.Range.{Bounded, bounded-add, bounded-neg, bounded-fits}
 use Rattle.network.specs.Network.{Net}
-use Rattle.search.specs.Labels.{costGraph, Relaxable, State, state, label, setIf, relaxed, Sized}
-use Rattle.search.proofs.Rounds.{one-sized}
-use Rattle.search.proofs.Arcs.{forward, backward}
-use Rattle.search.proofs.relax_arc.Statement.{statement}
-use Rattle.search.proofs.relax_arc.Tie as tie
+use Rattle.relaxation.specs.Labels.{costGraph, Relaxable, State, state, label, setIf, relaxed, Sized}
+use Rattle.relaxation.proofs.Rounds.{one-sized}
+use Rattle.relaxation.proofs.Arcs.{forward, backward}
+use Rattle.relaxation.proofs.relax_arc.Statement.{statement}
+use Rattle.relaxation.proofs.relax_arc.Tie as tie
 
 -- the lists that the function reads, and what it is told of them
 module _ (s : tie.Start) where

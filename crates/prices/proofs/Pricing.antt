@@ -2,43 +2,29 @@
 use mathlib.Core.Path.{_≡_, refl, sym, ap, subst, _∙_}
 use mathlib.Core.Bool.{Bool, true, false, cond}
 use mathlib.Core.List.{List, [], _∷_}
-use Prim.Native.Nat.{ℕ, zero, suc, _+_, _*_, _/_, _%_, _≤_, _<_}
+use Prim.Native.Nat.{ℕ, zero, suc, _+_, _*_, _/_, _≤_, _<_}
 use native.Mathlib.Omega.{arith}
 use native.Mathlib.Numerals.{add-one}
-use lib.Dec.{eqb}
-use lib.ListN.{length, getD, set}
+use lib.ListN.{length, getD, set, replicate}
 use lib.IntN.{ℤ, pos, _+ℤ_}
 use lib.Signed.{_≤ℤ_}
-use borrow.Author.Tests.{ltb-true, le-leb}
 use Rattle.laws.specs.Linear.{lin, given, given2}
 use Rattle.laws.specs.Tests.{and-true}
 use Rattle.laws.specs.Store.{set-cases}
-use Rattle.certificates.specs.Optimality.{priced-least}
-use Rattle.network.specs.Network.{Net, WellFormed, IsFlow, LeastCost, nodes, low, up}
-use Rattle.network.specs.Residual.{codes, usable, src, dst, stepCost, Walk, walkCost, Price}
-use Rattle.search.specs.Labels.{costGraph, Relaxable, roomy, State, state, label, offer, better, relaxed, relaxedAll, Sized}
-use Rattle.search.specs.Search.{Quiet, Settled}
-use Rattle.search.specs.Prices.{PriceLabels}
+use Rattle.network.specs.Network.{Net, WellFormed, nodes}
+use Rattle.network.specs.Residual.{codes, src, dst, stepCost, Walk, walkCost, Price}
 use Rattle.certificates.specs.Codes.{either-is}
-use Rattle.search.proofs.Codes.{src-in, dst-in}
-use Rattle.search.proofs.Rounds.{Trip, AtMost, Changed, quiet, noisy, all-length, round-at-most, round-changed, all-sized, sized-more}
-use Rattle.search.proofs.Cycles.{roomy-usable}
-use Rattle.search.proofs.Shorten.{rise, shorten}
-
-pub usable-roomy : (N : Net) (f : List ℕ) (c : ℕ) → usable N f c ≡ true → roomy N f 1 c ≡ true
-usable-roomy N f c e = go (eqb (c % 2) 0) refl
-  where
-    go : (t : Bool) → eqb (c % 2) 0 ≡ t → roomy N f 1 c ≡ true
-    go true q = rw q (le-leb (getD f (c / 2) 0 + 1) (up N (c / 2)) (omega (arith, ltb-true (getD f (c / 2) 0) (up N (c / 2)) (rw q at e))))
-    go false q = rw q (le-leb (low N (c / 2) + 1) (getD f (c / 2) 0) (omega (arith, ltb-true (low N (c / 2)) (getD f (c / 2) 0) (rw q at e))))
+use Rattle.relaxation.specs.Labels.{costGraph, Relaxable, roomy, State, state, label, offer, better, relaxed, relaxedAll, Sized}
+use Rattle.relaxation.specs.Potentials.{Settled}
+use Rattle.relaxation.proofs.Codes.{src-in, dst-in}
+use Rattle.relaxation.proofs.Trips.{usable-roomy, Trip, trip-walk}
+use Rattle.relaxation.proofs.Rounds.{AtMost, all-length, zeros-at-most, zeros-sized, left-at-most, left-sized, left-quiet}
+use Rattle.prices.specs.Prices.{PriceLabels}
+use Rattle.prices.proofs.Shorten.{rise, shorten}
 
 pub walk-trip : (N : Net) (f : List ℕ) (u v : ℕ) (cs : List ℕ) → Walk N f u v cs → Trip N f 1 u v cs
 walk-trip N f u v [] w = w
 walk-trip N f u v (c ∷ cs) (a, b, e, w) = (a, usable-roomy N f c b, e, walk-trip N f u (src N c) cs w)
-
-pub trip-walk : (N : Net) (f : List ℕ) (u v : ℕ) (cs : List ℕ) → Trip N f 1 u v cs → Walk N f u v cs
-trip-walk N f u v [] w = w
-trip-walk N f u v (c ∷ cs) (a, b, e, w) = (a, roomy-usable N f 1 c (omega arith) b, e, trip-walk N f u (src N c) cs w)
 
 -- each label is the cost of a walk
 abbrev Walked : Net → List ℕ → List ℤ → Type 0
@@ -49,6 +35,12 @@ pub record Pricing (N : Net) (f : List ℕ) (d : List ℤ) (p : List ℕ) (k : �
   pub sized : Sized (1024000000 * k) d p
   pub at-most : AtMost N f 1 k d
   pub walked : Walked N f d
+
+-- labels that are 0 at every node
+pub zero-at : (n v : ℕ) → getD (replicate n (pos 0)) v (pos 0) ≡ pos 0
+zero-at zero v = refl
+zero-at (suc n) zero = refl
+zero-at (suc n) (suc v) = zero-at n v
 
 module _ (N : Net) (f : List ℕ) (ok : Relaxable N f) where
   one-walked : (s : State) (c : ℕ) → c < codes N → length (s .labels) ≡ 64 → Walked N f (s .labels) → Walked N f (relaxed N f 1 c s .labels)
@@ -72,47 +64,37 @@ module _ (N : Net) (f : List ℕ) (ok : Relaxable N f) where
   pub pricing-start : (d : List ℤ) (p : List ℕ) → length d ≡ 64 → length p ≡ 64 → ((v : ℕ) → getD d v (pos 0) ≡ pos 0) → Pricing N f d p 0
   pricing-start d p dl pl zeros = record {
     upto = omega arith;
-    sized = record { labels-len = dl; preds-len = pl; small = λ v h. rw (zeros v) (omega arith) };
-    at-most = most;
+    sized = zeros-sized d zeros p dl pl;
+    at-most = zeros-at-most d zeros N f 1;
     walked = λ v h. (v, [], refl, sym (zeros v));
   }
-    where
-      most : AtMost N f 1 0 d
-      most u v [] h w = rw (zeros v) (simp lin (omega arith))
-      most u v (c ∷ cs) h w = absurd (omega arith)
 
   module _ (d : List ℤ) (p : List ℕ) (k : ℕ) (S : Pricing N f d p k) (d′ : List ℤ) (p′ : List ℕ) (last : ℕ)
       (e : state d′ p′ last ≡ relaxedAll N f 1 (codes N) (state d p 64)) where
     pub pricing-more : k < 64 → Pricing N f d′ p′ (k + 1)
     pricing-more h = rw add-one (record {
       upto = h;
-      sized = subst (λ (s : State). Sized (1024000000 * suc k) (s .labels) (s .preds)) (sym e)
-          (sized-more (omega (arith, ok .graph .few)) (all-sized N f ok 1 (1024000000 * k) (state d p 64) (codes N) (omega arith) (S .sized)));
-      at-most = subst (λ (s : State). AtMost N f 1 (suc k) (s .labels)) (sym e) (round-at-most N f ok 1 (state d p 64) (S .sized .labels-len) k (S .at-most));
+      sized = left-sized N f ok 1 d p (S .sized .labels-len) d′ p′ last e k (S .sized);
+      at-most = left-at-most N f ok 1 d p (S .sized .labels-len) d′ p′ last e k (S .at-most);
       walked = subst (λ (s : State). Walked N f (s .labels)) (sym e) (all-walked (state d p 64) (S .sized .labels-len) (S .walked) (codes N) (omega arith));
     })
 
     -- a round that changed nothing: no walk costs less
     pub prices-quiet : last ≡ 64 → PriceLabels N f d′
-    prices-quiet q = go (subst (Changed N f ok 1 d (codes N)) (sym e) (round-changed N f ok 1 d p (S .sized .labels-len) (codes N) (omega arith)))
-      where
-        settled : ((c : ℕ) → c < codes N → roomy N f 1 c ≡ true → getD d (dst N c) (pos 0) ≤ℤ (getD d (src N c) (pos 0) +ℤ stepCost N c)) → Quiet N f 1 (λ v. getD d v (pos 0))
-        settled c = record { low = λ v. S .at-most v v [] (omega arith) refl; reduced = c }
-
-        go : Changed N f ok 1 d (codes N) (state d′ p′ last) → PriceLabels N f d′
-        go (quiet a b c) = subst (PriceLabels N f) (sym b) (record {
+    prices-quiet q =
+        let (b, c) = left-quiet N f ok 1 d p (S .sized .labels-len) d′ p′ last e q k (S .at-most) in
+        subst (PriceLabels N f) (sym b) (record {
           len = S .sized .labels-len;
-          walked = λ v h. (let (u, cs, t, e) = S .walked v h in (u, cs, trip-walk N f u v cs t, e));
+          walked = λ v h. (let (u, cs, t, e) = S .walked v h in (u, cs, trip-walk N f 1 (omega arith) u v cs t, e));
           least = λ u v cs h w.
-              given2 (rise N f 1 (ok .graph) (λ v. getD d v (pos 0)) (settled c) u v cs (walk-trip N f u v cs w)) (S .at-most u u [] (omega arith) refl) (simp lin (omega arith));
+              given2 (rise N f 1 (ok .graph) (λ v. getD d v (pos 0)) c u v cs (walk-trip N f u v cs w)) (S .at-most u u [] (omega arith) refl) (simp lin (omega arith));
         })
-        go (noisy a b) = absurd (omega arith)
 
   -- after 64 rounds no walk costs less, however long
   pub prices-all : (d : List ℤ) (p : List ℕ) → Pricing N f d p 64 → Settled N f 1 → PriceLabels N f d
   prices-all d p S q = record {
     len = S .sized .labels-len;
-    walked = λ v h. (let (u, cs, t, e) = S .walked v h in (u, cs, trip-walk N f u v cs t, e));
+    walked = λ v h. (let (u, cs, t, e) = S .walked v h in (u, cs, trip-walk N f 1 (omega arith) u v cs t, e));
     least = λ u v cs h w. (let r = shorten N f 1 (ok .graph) (q .potential) (q .quiet) u v cs h (walk-trip N f u v cs w) in
         given2 (S .at-most u v (r .walk) (omega (arith, r .few)) (r .leads)) (r .costs) (simp lin (omega arith)));
   }
@@ -154,7 +136,3 @@ module _ (b : List ℤ) (t h l u : List ℕ) (c : List ℤ) (f : List ℕ) where
         costs = sym (cost-whole cs) ∙ e;
         least = λ y es _ w′. subst (λ z. getD d v (pos 0) ≤ℤ z) (cost-whole es) (P .least y v es (omega arith) (walk-bare y v es w′));
       }
-
-  -- no negative cycle found: the flow is least-cost
-  pub quiet-least : WellFormed whole → IsFlow whole f → (π : ℕ → ℤ) → Quiet (costGraph t h l u c) f 1 π → LeastCost whole f
-  quiet-least ok flow π q = priced-least whole ok f π flow (λ e k r. given (q .reduced e k (usable-roomy (costGraph t h l u c) f e r)) (simp lin (omega arith)))

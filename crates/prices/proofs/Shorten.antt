@@ -12,10 +12,10 @@ use Rattle.laws.specs.Linear.{lin, given, given2, given3}
 use Rattle.laws.specs.Pigeonhole.{Twice, pigeon}
 use Rattle.network.specs.Network.{Net}
 use Rattle.network.specs.Residual.{src, dst, stepCost, walkCost}
-use Rattle.search.specs.Labels.{SmallGraph}
-use Rattle.search.specs.Search.{Quiet}
-use Rattle.search.proofs.Codes.{src-in}
-use Rattle.search.proofs.Rounds.{Trip}
+use Rattle.relaxation.specs.Labels.{SmallGraph}
+use Rattle.relaxation.specs.Potentials.{Quiet}
+use Rattle.relaxation.proofs.Codes.{src-in}
+use Rattle.relaxation.proofs.Trips.{Trip}
 
 module _ (N : Net) (f : List ℕ) (δ : ℕ) where
   -- walks joined and split

@@ -9,7 +9,7 @@ use lib.IntN.{ℤ, negℤ, _+ℤ_}
 use lib.Signed.{ltZ}
 use Rattle.certificates.specs.Codes.{even-code, even-arc, odd-code, odd-arc}
 use Rattle.network.specs.Network.{Net, tail, head, low, up, cost}
-use Rattle.search.specs.Labels.{State, label, setIf, relaxed}
+use Rattle.relaxation.specs.Labels.{State, label, setIf, relaxed}
 
 module _ (N : Net) (f : List ℕ) (δ a : ℕ) (s : State) where
   pub forward : (x : ℤ) → x ≡ cost N a

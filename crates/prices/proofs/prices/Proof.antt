@@ -2,12 +2,11 @@ use mathlib.Core.Path.{_≡_, refl, sym, subst}
 use Prim.Native.Nat.{_-_}
 use native.Mathlib.Omega.{arith}
 use Rattle.network.specs.Network.{Net}
-use Rattle.search.specs.Labels.{costGraph}
-use Rattle.search.proofs.Rounds.{sized-more}
-use Rattle.search.proofs.Searching.{zero-at}
-use Rattle.search.proofs.Pricing.{Pricing, pricing-start, pricing-more, prices-quiet, prices-all}
-use Rattle.search.proofs.prices.Statement.{statement}
-use Rattle.search.proofs.prices.Tie as tie
+use Rattle.relaxation.specs.Labels.{costGraph}
+use Rattle.relaxation.proofs.Rounds.{sized-more}
+use Rattle.prices.proofs.Pricing.{zero-at, Pricing, pricing-start, pricing-more, prices-quiet, prices-all}
+use Rattle.prices.proofs.prices.Statement.{statement}
+use Rattle.prices.proofs.prices.Tie as tie
 
 abbrev Inv-loop : tie.InvT-loop
 Inv-loop tails heads lows ups costs flow least₀ preds₀ -k₀ least preds -k = Pricing (costGraph tails heads lows ups costs) flow least preds -k

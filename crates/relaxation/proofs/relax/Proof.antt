@@ -8,9 +8,9 @@ use mir.Syntax.{w64}
 use mir.Val.{toZ, ofZ}
 use mir.Facts.{toZ-ofZ}
 use borrow.Author.Tests.{not-true, not-false}
-use Rattle.search.proofs.Sums.{sum-fits, sum-is}
-use Rattle.search.proofs.relax.Statement.{statement}
-use Rattle.search.proofs.relax.Tie as tie
+use Rattle.relaxation.proofs.Sums.{sum-fits, sum-is}
+use Rattle.relaxation.proofs.relax.Statement.{statement}
+use Rattle.relaxation.proofs.relax.Tie as tie
 
 -- what was read: the arc is on, the sum, and the test of it
 module _ (c : tie.After-b) where

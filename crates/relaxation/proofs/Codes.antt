@@ -6,7 +6,7 @@ use Rattle.laws.specs.Range.{Bounded, bounded-neg}
 use Rattle.network.specs.Network.{Net, cost}
 use Rattle.network.specs.Residual.{codes, src, dst, stepCost}
 use Rattle.certificates.specs.Codes.{either-is, arc-in, src-below, dst-below}
-use Rattle.search.specs.Labels.{SmallGraph, Relaxable}
+use Rattle.relaxation.specs.Labels.{SmallGraph, Relaxable}
 
 module _ (N : Net) (ok : SmallGraph N) (c : ℕ) (h : c < codes N) where
   pub src-in : src N c < 64

@@ -3,10 +3,10 @@ use Prim.Native.Nat.{suc, _+_, _-_, _≤_}
 use native.Mathlib.Omega.{arith}
 use lib.ListN.{length}
 use Rattle.network.specs.Network.{Net}
-use Rattle.search.specs.Labels.{costGraph, State, state, relaxed, relaxedAll, Sized}
-use Rattle.search.proofs.Rounds.{all-sized, sized-more}
-use Rattle.search.proofs.round.Statement.{statement}
-use Rattle.search.proofs.round.Tie as tie
+use Rattle.relaxation.specs.Labels.{costGraph, State, state, relaxed, relaxedAll, Sized}
+use Rattle.relaxation.proofs.Rounds.{all-sized, sized-more}
+use Rattle.relaxation.proofs.round.Statement.{statement}
+use Rattle.relaxation.proofs.round.Tie as tie
 
 abbrev Inv-loop : tie.InvT-loop
 Inv-loop tails heads lows ups costs flow need labels₀ preds₀ last₀ a₀ a-end labels preds last a = (a ≤ length tails) × (state labels preds last ≡ relaxedAll (costGraph tails heads lows ups costs) flow need (a + a) (state labels₀ preds₀ 64))

@@ -1,0 +1,3 @@
+mod Shorten
+pub mod Pricing
+pub mod Potentials
