@@ -10,7 +10,7 @@ use lib.IntN.{pos, negℤ}
 use lib.Signed.{_≤ℤ_}
 use Rattle.laws.specs.Linear.{lin}
 use Rattle.network.specs.Network.{low, up, balance}
-use Rattle.network.specs.Checked.{AcceptedNet}
+use Rattle.network.specs.Accepted.{AcceptedNet}
 use Rattle.lines.specs.declared.moves.Move.{Move}
 use Rattle.lines.specs.Questions.{moveOf}
 use Rattle.book.specs.Book.{Book}

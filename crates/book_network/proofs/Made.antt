@@ -9,8 +9,8 @@ use lib.Dec.{leb}
 use lib.ListN.{length}
 use Rattle.laws.specs.Tests.{ask}
 use Rattle.network.specs.declared.Network.{Network}
-use Rattle.network.specs.Checked.{netIn, Sound}
-use Rattle.network.proofs.Accepted.{struct-of, struct-sound}
+use Rattle.network.specs.Struct.{netIn, Sound}
+use Rattle.network.proofs.Struct.{struct-of, struct-sound}
 use Rattle.book.specs.Book.{Book, parse}
 use Rattle.book.specs.Questions.{refusal}
 use Rattle.book.specs.Checked.{checkedBook}

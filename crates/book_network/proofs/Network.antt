@@ -7,7 +7,7 @@ use lib.ListN.{length, length-drop, replicate}
 use lib.IntN.{ℤ, pos, negℤ}
 use Rattle.laws.specs.Padded.{padded, filled-all}
 use Rattle.network.specs.declared.Network.{Network}
-use Rattle.network.specs.Checked.{structOf}
+use Rattle.network.specs.Struct.{structOf}
 use Rattle.book.specs.Book.{Book}
 use Rattle.book.specs.declared.CheckedBook.{CheckedBook}
 use Rattle.allocation.specs.Follow.{size}

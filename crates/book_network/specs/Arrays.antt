@@ -7,7 +7,7 @@ use lib.ListN.{length, set, drop, replicate}
 use lib.IntN.{ℤ, pos}
 use Rattle.laws.specs.Padded.{filled}
 use Rattle.laws.specs.Within.{from}
-use Rattle.network.specs.Checked.{structOf}
+use Rattle.network.specs.Struct.{structOf}
 use Rattle.network.specs.declared.Network.{Network}
 use Rattle.book.specs.Book.{Book}
 use Rattle.book.specs.declared.CheckedBook.{CheckedBook}

@@ -3,7 +3,7 @@ ghost use mathlib.Core.Path.{_≡_};
 ghost use mathlib.Core.Option.{none, some};
 ghost use Rattle.laws.specs.Run.{first, next};
 ghost use Rattle.network.specs.FullList.{countFlows};
-ghost use Rattle.network.specs.Questions.{refusal};
+ghost use Rattle.network_questions.specs.Questions.{refusal};
 ghost use Rattle.book.specs.Name.{nameRefusal};
 ghost use Rattle.calls.specs.Replies.{sees, countUnless};
 ghost use Rattle.flow_bytes.specs.NetworkBytes.{net};

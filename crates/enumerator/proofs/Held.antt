@@ -5,7 +5,7 @@ use Prim.Native.Nat.{ℕ, _≤_}
 use native.Mathlib.Omega.{arith}
 use lib.ListN.{length, take, length-take}
 use Rattle.network.specs.Network.{arcs, IsFlow}
-use Rattle.network.specs.Checked.{netIn, Sound}
+use Rattle.network.specs.Struct.{netIn, Sound}
 use Rattle.network.specs.declared.Network.{Network}
 use Rattle.costs.specs.Costs.{SmallCosts}
 use Rattle.least_cost.proofs.Premises.{cost-small}

@@ -14,7 +14,7 @@ use Rattle.laws.specs.Members.{first?, none-some}
 use Rattle.laws.specs.Count.{counted}
 use Rattle.network.specs.Network.{Net, WellFormed, LeastCost, costOf}
 use Rattle.network.specs.FullList.{fullList, firstFlow, countFlows}
-use Rattle.network.specs.Checked.{netIn, Sound}
+use Rattle.network.specs.Struct.{netIn, Sound}
 use Rattle.network.specs.declared.Network.{Network}
 use Rattle.costs.specs.Costs.{term}
 use Rattle.least_cost.specs.Marked.{Marked}

@@ -8,7 +8,7 @@ use lib.ListN.{take}
 use lib.IntN.{ℤ, pos}
 use Rattle.network.specs.Network.{Net, LeastCost, costOf}
 use Rattle.network.specs.FullList.{nextFlow}
-use Rattle.network.specs.Checked.{netIn, Sound}
+use Rattle.network.specs.Struct.{netIn, Sound}
 use Rattle.least_cost.specs.Marked.{Marked}
 use Rattle.enumerator.specs.declared.Enumerator.{Enumerator}
 use Rattle.enumerator.specs.declared.Place.{Place}

@@ -9,7 +9,7 @@ ghost use Rattle.laws.specs.Count.{counted};
 ghost use Rattle.network.specs.Network.{nodes};
 ghost use Rattle.network.specs.Residual.{Price};
 ghost use Rattle.network.specs.FullList.{firstFlow, nextFlow, countFlows};
-ghost use Rattle.network.specs.Checked.{netIn, Sound};
+ghost use Rattle.network.specs.Struct.{netIn, Sound};
 ghost use Rattle.enumerator.specs.Enumerator.{netOf, flowIn, lineOf, wordAfter, following, Stands, Steps, Resumes};
 
 // Where a walk stands: on no line yet, on a line, or on none, for there is no line ("none") or no further one ("end").

@@ -5,11 +5,11 @@ use mathlib.Core.List.{List}
 use Prim.Native.Nat.{ℕ}
 use Rattle.laws.specs.Tests.{ask}
 use Rattle.network.specs.Network.{arcs}
-use Rattle.network.specs.Questions.{refusal, numberOf}
-use Rattle.network.specs.Checked.{Checks}
 use Rattle.network.specs.declared.Network.{Network}
-use Rattle.network.specs.declared.Checked.{Checked}
-use Rattle.network.proofs.Accepted.{checked-net, checked-sound}
+use Rattle.network_questions.specs.Questions.{refusal, numberOf}
+use Rattle.network_check.specs.Checked.{Checks}
+use Rattle.network_check.specs.declared.Checked.{Checked}
+use Rattle.network_check.proofs.Accepted.{checked-net, checked-sound}
 use Rattle.calls.specs.ByteLists.{room}
 use Rattle.calls.proofs.Turns.{fails-first}
 use Rattle.flow_bytes.specs.NetworkBytes.{net, Ready, Begins}

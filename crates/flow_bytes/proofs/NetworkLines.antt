@@ -10,7 +10,7 @@ use Rattle.laws.specs.Members.{Every}
 use Rattle.bytes32.specs.Words.{words}
 use Rattle.network.specs.Network.{Net, arcs, LeastCost}
 use Rattle.network.specs.FullList.{fullList}
-use Rattle.network.specs.Checked.{AcceptedNet}
+use Rattle.network.specs.Accepted.{AcceptedNet}
 use Rattle.network.proofs.FullList.{full-member, full-ascending}
 use Rattle.calls.specs.ByteLists.{listed}
 use Rattle.calls.proofs.Lines.{every-at, FullOf, listed-line, line-listed}

@@ -5,9 +5,10 @@ use Prim.Native.Nat.{ℕ}
 use Rattle.laws.specs.Tests.{ask}
 use Rattle.bytes32.specs.Words.{ints}
 use Rattle.network.specs.Network.{Net, arcs}
-use Rattle.network.specs.Questions.{netOf, refusal}
-use Rattle.network.specs.Checked.{Sound, netIn}
+use Rattle.network.specs.Input.{netOf}
+use Rattle.network.specs.Struct.{Sound, netIn}
 use Rattle.network.specs.declared.Network.{Network}
+use Rattle.network_questions.specs.Questions.{refusal}
 use Rattle.calls.specs.Replies.{orElse}
 use Rattle.calls.specs.ByteLists.{room}
 use Rattle.flow_bytes.specs.declared.Begun.{Begun}

@@ -6,8 +6,8 @@ ghost use lib.ListN.{length};
 ghost use Rattle.bytes32.specs.Words.{words};
 ghost use Rattle.network.specs.Network.{costOf};
 ghost use Rattle.network.specs.FullList.{fullList};
-ghost use Rattle.network.specs.Questions.{numberOf};
-ghost use Rattle.network.specs.Checked.{Sound, netIn};
+ghost use Rattle.network.specs.Struct.{Sound, netIn};
+ghost use Rattle.network_questions.specs.Questions.{numberOf};
 ghost use Rattle.enumerator.specs.Enumerator.{Stands, lineOf};
 ghost use Rattle.calls.specs.Replies.{HandedOut};
 ghost use Rattle.calls.specs.ByteLists.{room, listed};
@@ -16,7 +16,7 @@ ghost use Rattle.flow_bytes.specs.Prices.{PricesOut};
 use calls::Reply;
 use enumerator::Enumerator;
 use network::Network;
-use network::Verdict;
+use network_questions::Verdict;
 
 pub fn number_of(verdict: Verdict) -> u32
     ensures { λ r. ⌜ r ≡ numberOf verdict ⌝ }
@@ -41,7 +41,7 @@ pub struct Begun {
 pub fn begin(balances: &[u8], arcs: &[u8], bytes: usize) -> Begun
     ensures { λ r. ⌜ Begins (now (balances .entry)) (now (arcs .entry)) bytes r ⌝ }
 {
-    let checked = network::check(balances, arcs);
+    let checked = network_check::check(balances, arcs);
     let verdict = checked.verdict;
     let number = number_of(verdict);
     let net = checked.net;

@@ -8,7 +8,7 @@ use native.Mathlib.Decide.{decLt}
 use lib.ListN.{length, getD, List·getD-eq-default}
 use lib.IntN.{ℤ, pos}
 use Rattle.laws.specs.Range.{Bounded, bounded-iff, bounded-more, bounded-zero}
-use Rattle.network.specs.Checked.{AcceptedNet}
+use Rattle.network.specs.Accepted.{AcceptedNet}
 use Rattle.certificates.specs.Push.{InBounds}
 use Rattle.relaxation.specs.Labels.{costGraph, Relaxable}
 use Rattle.paths.specs.Graph.{graph, netWith}

@@ -2,7 +2,7 @@
 ghost use mathlib.Core.Path.{_≡_};
 ghost use lib.ListN.{length};
 ghost use Rattle.network.specs.Network.{LeastCost};
-ghost use Rattle.network.specs.Checked.{AcceptedNet};
+ghost use Rattle.network.specs.Accepted.{AcceptedNet};
 ghost use Rattle.search.specs.Search.{QuietLabels};
 ghost use Rattle.paths.specs.Graph.{netWith};
 ghost use Rattle.least_cost.specs.Marked.{Marked};

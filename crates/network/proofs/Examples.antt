@@ -15,7 +15,7 @@ use Rattle.laws.specs.Members.{_∈_, first?}
 use Rattle.network.specs.Network.{Net, nodes, costOf}
 use Rattle.network.specs.Residual.{Price}
 use Rattle.network.specs.FullList.{flowList, fullList}
-use Rattle.network.specs.Questions.{netOf}
+use Rattle.network.specs.Input.{netOf}
 use Rattle.network.proofs.Prices.{certifies, prices}
 
 -- a network, its full list, the cost of each line, the prices beside the first line, and of each price a walk that costs as much

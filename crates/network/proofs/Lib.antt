@@ -1,6 +1,4 @@
 pub mod FullList
 pub mod Prices
 pub mod Examples
-pub mod Rows
-mod Columns
-pub mod Accepted
+pub mod Struct

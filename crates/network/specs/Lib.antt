@@ -1,6 +1,6 @@
 pub mod Network
 pub mod Residual
+pub mod Input
+pub mod Accepted
 pub mod FullList
-pub mod Questions
-pub mod Checked
-pub mod Columns
+pub mod Struct

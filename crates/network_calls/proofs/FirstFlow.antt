@@ -9,9 +9,9 @@ use Rattle.laws.specs.Run.{first, nothing, shown}
 use Rattle.laws.specs.Seen.{Seen}
 use Rattle.network.specs.Network.{IsFlow, LeastCost}
 use Rattle.network.specs.FullList.{fullList, firstFlow}
-use Rattle.network.specs.Questions.{refusal}
 use Rattle.network.proofs.FullList.{full-member, full-ascending, none-iff}
-use Rattle.network.proofs.Accepted.{accepted-net}
+use Rattle.network_questions.specs.Questions.{refusal}
+use Rattle.network_questions.proofs.Accepted.{accepted-net}
 use Rattle.flow_bytes.specs.NetworkBytes.{net}
 use Rattle.network_calls.specs.NetworkCalls.{Lent, refuses}
 use Rattle.network_calls.specs.FirstFlow.{Finds, FindsNone}

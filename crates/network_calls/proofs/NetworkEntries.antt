@@ -11,11 +11,12 @@ use Rattle.laws.specs.Count.{Count, counted}
 use Rattle.bytes32.specs.Words.{words}
 use Rattle.network.specs.Network.{Net, nodes, arcs, costOf}
 use Rattle.network.specs.FullList.{fullList, firstFlow, nextFlow, countFlows}
-use Rattle.network.specs.Questions.{refusal, numberOf}
-use Rattle.network.specs.Checked.{Checks, netIn}
+use Rattle.network.specs.Struct.{netIn}
 use Rattle.network.specs.declared.Network.{Network}
-use Rattle.network.specs.declared.Checked.{Checked}
-use Rattle.network.proofs.Accepted.{accepted-net}
+use Rattle.network_questions.specs.Questions.{refusal, numberOf}
+use Rattle.network_questions.proofs.Accepted.{accepted-net}
+use Rattle.network_check.specs.Checked.{Checks}
+use Rattle.network_check.specs.declared.Checked.{Checked}
 use Rattle.flow_bytes.specs.declared.Begun.{Begun}
 use Rattle.calls.specs.declared.Reply.{Reply}
 use Rattle.calls.specs.Replies.{orElse, codeOf, sees, word, HandedOut, countReply, countUnless}

@@ -15,8 +15,8 @@ use Rattle.laws.specs.Count.{count, count-is}
 use Rattle.bytes32.specs.Words.{encodeWords}
 use Rattle.network.specs.Network.{arcs}
 use Rattle.network.specs.FullList.{fullList, countFlows}
-use Rattle.network.specs.Questions.{refusal}
-use Rattle.network.proofs.Accepted.{accepted-net}
+use Rattle.network_questions.specs.Questions.{refusal}
+use Rattle.network_questions.proofs.Accepted.{accepted-net}
 use Rattle.calls.specs.declared.Reply.{Reply}
 use Rattle.calls.specs.Replies.{sees}
 use Rattle.flow_bytes.specs.NetworkBytes.{net}

@@ -10,7 +10,7 @@ use Rattle.laws.specs.Run.{Call, first, next}
 use Rattle.bytes32.specs.Words.{encodeWords, over}
 use Rattle.network.specs.Network.{Net, nodes, arcs}
 use Rattle.network.specs.FullList.{fullList}
-use Rattle.network.specs.Questions.{refusal}
+use Rattle.network_questions.specs.Questions.{refusal}
 use Rattle.calls.specs.Replies.{failed, orElse}
 use Rattle.calls.specs.ByteLists.{room, fairGiven}
 use Rattle.flow_bytes.specs.NetworkBytes.{net}

@@ -3,7 +3,7 @@ ghost use mathlib.Core.Path.{_≡_};
 ghost use mathlib.Core.Option.{none, some};
 ghost use Rattle.laws.specs.Run.{first, next};
 ghost use Rattle.network.specs.FullList.{countFlows};
-ghost use Rattle.network.specs.Questions.{refusal};
+ghost use Rattle.network_questions.specs.Questions.{refusal};
 ghost use Rattle.calls.specs.Replies.{sees, countUnless};
 ghost use Rattle.flow_bytes.specs.NetworkBytes.{net};
 ghost use Rattle.network_calls.specs.NetworkCalls.{lends};
@@ -67,7 +67,7 @@ pub fn next(balances: &[u8], arcs: &[u8], given: &[u8], flows: &mut [u8]) -> Rep
 pub fn count(balances: &[u8], arcs: &[u8], cap: u16) -> Reply
     ensures { λ r. ⌜ r ≡ countUnless (refusal (now (balances .entry)) (now (arcs .entry))) (countFlows (net (now (balances .entry)) (now (arcs .entry))) cap) ⌝ }
 {
-    let checked = network::check(balances, arcs);
+    let checked = network_check::check(balances, arcs);
     let verdict = checked.verdict;
     let number = flow_bytes::number_of(verdict);
     if number != 0 {

@@ -10,7 +10,7 @@ use Rattle.laws.specs.Padded.{padded}
 use Rattle.laws.specs.Members.{none-some}
 use Rattle.laws.specs.Image.{mapOption}
 use Rattle.network.specs.Network.{LeastCost, costOf}
-use Rattle.network.specs.Checked.{netIn, Sound}
+use Rattle.network.specs.Struct.{netIn, Sound}
 use Rattle.network.specs.declared.Network.{Network}
 use Rattle.enumerator.specs.declared.Place.{Place}
 use Rattle.enumerator.specs.declared.Place.the-variants.{Start, Line, None, End}

@@ -7,7 +7,7 @@ use lib.ListN.{length, take}
 use Rattle.laws.specs.Padded.{padded, take-padded}
 use Rattle.network.specs.declared.Network.{Network}
 use Rattle.network.specs.Network.{Net, IsFlow, LeastCost}
-use Rattle.network.specs.Checked.{netIn}
+use Rattle.network.specs.Struct.{netIn}
 use Rattle.book.specs.Book.{Book}
 use Rattle.book.proofs.Accepted.{Accepted}
 use Rattle.allocation.specs.Follow.{size}

@@ -8,7 +8,7 @@ use lib.ListN.{length, take, drop, replicate}
 use lib.Seq.{length-take-le}
 use mir.Facts.{toZ-ofZ}
 use borrow.Author.Tests.{not-true, not-false}
-use Rattle.network.specs.Checked.{netIn}
+use Rattle.network.specs.Struct.{netIn}
 use Rattle.least_cost.specs.Marked.{Marked}
 use Rattle.laws.specs.Padded.{part-written}
 use Rattle.enumerator.proofs.Held.{few, in-tails, in-heads, in-lows, in-ups, in-costs, in-balances, as-many, small-costs}

@@ -7,7 +7,7 @@ use Rattle.laws.specs.Padded.{padded}
 use Rattle.bytes32.specs.Words.{words}
 use Rattle.network.specs.Network.{arcs}
 use Rattle.network.specs.FullList.{fullList}
-use Rattle.network.specs.Checked.{netIn}
+use Rattle.network.specs.Struct.{netIn}
 use Rattle.calls.specs.ByteLists.{listed}
 use Rattle.network.proofs.FullList.{full-member}
 use Rattle.enumerator.specs.Enumerator.{lineAt, lineOf, flowIn}

@@ -4,7 +4,7 @@ use mir.Syntax.{w64}
 use mir.Facts.{toZ-ofZ}
 use borrow.Author.Tests.{not-true, not-false}
 use Rattle.network.specs.Network.{costOf}
-use Rattle.network.specs.Checked.{netIn}
+use Rattle.network.specs.Struct.{netIn}
 use Rattle.enumerator.specs.Enumerator.{lineOf, flowIn}
 use Rattle.calls.specs.Replies.{HandedOut}
 use Rattle.calls.proofs.Places.{no-line, a-line}

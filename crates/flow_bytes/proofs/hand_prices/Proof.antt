@@ -4,7 +4,7 @@ use native.Mathlib.Omega.{arith}
 use lib.ListN.{length, take}
 use borrow.Author.Tests.{not-true, not-false}
 use Rattle.bytes32.specs.Words.{encodeInts, over}
-use Rattle.network.specs.Checked.{netIn}
+use Rattle.network.specs.Struct.{netIn}
 use Rattle.enumerator.specs.Enumerator.{lineOf, flowIn}
 use Rattle.calls.proofs.Places.{no-line, is-line, a-line}
 use Rattle.calls.proofs.Room.{room-fits}

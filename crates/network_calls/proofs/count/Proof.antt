@@ -1,7 +1,7 @@
 use mathlib.Core.Path.{_≡_, sym, ap, _∙_}
 use Rattle.laws.specs.Count.{counted}
 use Rattle.network.specs.FullList.{countFlows}
-use Rattle.network.specs.Checked.{netIn}
+use Rattle.network.specs.Struct.{netIn}
 use Rattle.flow_bytes.specs.NetworkBytes.{net, Ready}
 use Rattle.network_calls.proofs.NetworkEntries.{counts-refused, counts}
 use Rattle.flow_bytes.proofs.NetworkBytes.{ready}

@@ -5,7 +5,7 @@ use lib.ListN.{length}
 use borrow.Author.Tests.{not-true, not-false}
 use Rattle.laws.specs.Run.{first}
 use Rattle.network.specs.FullList.{firstFlow}
-use Rattle.network.specs.Checked.{netIn}
+use Rattle.network.specs.Struct.{netIn}
 use Rattle.calls.specs.ByteLists.{room}
 use Rattle.network_calls.specs.NetworkCalls.{lends}
 use Rattle.enumerator.specs.Enumerator.{lineOf}

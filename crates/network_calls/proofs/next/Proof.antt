@@ -6,7 +6,7 @@ use borrow.Author.Tests.{not-true, not-false}
 use Rattle.laws.specs.Run.{next}
 use Rattle.bytes32.specs.Words.{words}
 use Rattle.network.specs.FullList.{fullList, nextFlow}
-use Rattle.network.specs.Checked.{netIn}
+use Rattle.network.specs.Struct.{netIn}
 use Rattle.calls.specs.ByteLists.{room, listed}
 use Rattle.flow_bytes.specs.NetworkBytes.{net, Ready}
 use Rattle.enumerator.specs.Enumerator.{lineOf, flowIn, following}

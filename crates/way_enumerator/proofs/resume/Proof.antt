@@ -1,5 +1,5 @@
 use mathlib.Core.Path.{sym}
-use Rattle.network.specs.Checked.{Sound}
+use Rattle.network.specs.Struct.{Sound}
 use Rattle.way_enumerator.proofs.Walking.{net-sound, net-ends, resumes, in-tails, in-heads}
 use lib.Seq.{length-take-le}
 use borrow.Author.Needs.{needs}

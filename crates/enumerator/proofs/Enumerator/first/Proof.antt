@@ -8,7 +8,7 @@ use borrow.Author.Needs.{needs}
 use borrow.Author.Tests.{not-true, not-false}
 use Prim.Native.Nat.{_≤_}
 use native.Mathlib.Omega.{arith}
-use Rattle.network.specs.Checked.{netIn}
+use Rattle.network.specs.Struct.{netIn}
 use Rattle.least_cost.specs.Marked.{Marked}
 use Rattle.least_cost.specs.Answers.{FirstFlow}
 use Rattle.laws.specs.Padded.{part-written}

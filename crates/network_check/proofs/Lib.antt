@@ -1,0 +1,3 @@
+mod Columns
+mod Limits
+pub mod Accepted

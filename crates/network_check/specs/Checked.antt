@@ -1,0 +1,20 @@
+-- The checked network: what the check of two lists of bytes answers.
+use mathlib.Core.Path.{_≡_}
+use mathlib.Core.Bool.{cond}
+use mathlib.Core.List.{List, []}
+use Prim.Native.Nat.{ℕ}
+use lib.Dec.{eqb}
+use Rattle.bytes32.specs.Words.{ints}
+use Rattle.network.specs.Network.{Net}
+use Rattle.network.specs.Input.{netOf}
+use Rattle.network.specs.Struct.{structOf}
+use Rattle.network_questions.specs.Questions.{refusal, numberOf}
+use Rattle.network_check.specs.declared.Checked.{Checked}
+
+abbrev pub noNet : Net
+noNet = record { balances = []; tails = []; heads = []; lows = []; ups = []; costs = [] }
+
+-- what the check answers: the number of the verdict, and the struct of the network, that of no network with a refusal
+pub record Checks (bs xs : List ℕ) (r : Checked) : Type 0 where
+  pub number : numberOf (r .verdict) ≡ refusal bs xs
+  pub net-is : r .net ≡ structOf (cond (eqb (refusal bs xs) 0) (netOf (ints bs) (ints xs)) noNet)
