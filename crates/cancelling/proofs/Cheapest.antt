@@ -7,7 +7,7 @@ use Rattle.network.specs.Network.{WellFormed, IsFlow, LeastCost}
 use Rattle.search.specs.Labels.{costGraph}
 use Rattle.search.specs.Search.{Quiet}
 use Rattle.search.proofs.Pricing.{quiet-least}
-use Rattle.paths.specs.Graph.{netWith}
+use Rattle.certificates.specs.Graph.{netWith}
 use Rattle.cancelling.specs.Cancelling.{Rerouted}
 
 module _ (b : List ℤ) (t h l u : List ℕ) (c : List ℤ) (f g : List ℕ) where

@@ -5,17 +5,9 @@ use mathlib.Core.List.{List}
 use mathlib.Core.Bool.{Bool, true, false}
 use Prim.Native.Nat.{ℕ, suc, _≤_, _<_}
 use lib.ListN.{length, getD}
-use Rattle.network.specs.Network.{Net, arcs, tail, head, low, up}
-use Rattle.paths.specs.Reaching.{Blocked}
+use Rattle.network.specs.Network.{Net, arcs}
+use Rattle.certificates.specs.FreeArcs.{NotRaisable, NotLowerable}
 use Rattle.closure.specs.Closure.{leads}
-
--- arc a is not free, or full, or nothing leads from its head to its tail over the free arcs from `from` on
-abbrev pub NotRaisable : Net → List ℕ → List Bool → ℕ → ℕ → Type 0
-NotRaisable N f free from a = (getD free a false ≡ false) ⊎ ((up N a ≤ getD f a 0) ⊎ Blocked N f free (head N a) (tail N a) from)
-
--- arc a is not free, or at its lower bound, or nothing leads from its tail to its head over the free arcs from `from` on
-abbrev pub NotLowerable : Net → List ℕ → List Bool → ℕ → ℕ → Type 0
-NotLowerable N f free from a = (getD free a false ≡ false) ⊎ ((getD f a 0 ≤ low N a) ⊎ Blocked N f free (tail N a) (head N a) from)
 
 -- what is read of the step of arc a from its near end to its far end, which takes its number from `lowers` towards `uppers`
 pub record HasStep (near far lowers uppers : List ℕ) (free : List Bool) (rows : List ℕ) (a : ℕ) : Type 0 where

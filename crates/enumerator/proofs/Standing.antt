@@ -7,12 +7,12 @@ use lib.IntN.{ℤ, pos}
 use Rattle.network.specs.Network.{Net, nodes}
 use Rattle.network.specs.Residual.{Price}
 use Rattle.certificates.specs.Push.{InBounds, flow-bounds}
+use Rattle.certificates.specs.Graph.{graph}
+use Rattle.certificates.specs.Ready.{Ready}
 use Rattle.search.specs.Labels.{costGraph, Relaxable}
 use Rattle.search.specs.Search.{Settled}
 use Rattle.search.specs.Prices.{PriceLabels}
 use Rattle.search.proofs.Pricing.{labels-price}
-use Rattle.paths.specs.Graph.{graph}
-use Rattle.paths.specs.Pushing.{Ready}
 use Rattle.least_cost.proofs.Premises.{relaxable, ready}
 use Rattle.least_cost.proofs.Marked.{settled-bare, marked-settled}
 use Rattle.enumerator.specs.Enumerator.{netOf, flowIn, Stands}

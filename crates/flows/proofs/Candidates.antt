@@ -10,9 +10,10 @@ use lib.ListN.{length, getD}
 use lib.IntN.{ℤ}
 use Rattle.network.specs.Network.{LeastCost}
 use Rattle.certificates.specs.Cuts.{NoMore, NoLess}
-use Rattle.paths.specs.Graph.{graph, netWith}
-use Rattle.paths.proofs.Lists.{blocked-net}
-use Rattle.closure.specs.Candidates.{NotRaisable, NotLowerable, NoneRaisable, NoneLowerable, Narrowed}
+use Rattle.certificates.specs.Graph.{graph, netWith}
+use Rattle.certificates.specs.FreeArcs.{NotRaisable, NotLowerable}
+use Rattle.closure.specs.Candidates.{NoneRaisable, NoneLowerable, Narrowed}
+use Rattle.flows.proofs.Lists.{blocked-net}
 use Rattle.flows.specs.Tight.{Tight}
 use Rattle.flows.proofs.Certified.{blocked-less, blocked-more}
 use Rattle.flows.proofs.Minimising.{MinTurn}

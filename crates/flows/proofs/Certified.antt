@@ -16,7 +16,7 @@ use Rattle.network.specs.Residual.{usable}
 use Rattle.certificates.specs.Optimality.{reduced, optimal-any}
 use Rattle.certificates.specs.Cuts.{Closed, closed-steps, no-more, no-less}
 use Rattle.certificates.specs.Push.{roomOf, flow-bounds, Detour, Moved, raised, lowered, pushAll}
-use Rattle.paths.specs.Reaching.{goes, Path, Blocked}
+use Rattle.certificates.specs.FreeArcs.{goes, Path, Blocked}
 use Rattle.flows.specs.Tight.{Tight}
 use Rattle.flows.proofs.Detours.{path-room, fits-of}
 

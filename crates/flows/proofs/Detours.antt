@@ -12,10 +12,10 @@ use Rattle.network.specs.Network.{Net, arcs, low, up}
 use Rattle.network.specs.Residual.{src, dst}
 use Rattle.certificates.specs.Codes.{even-code, odd-code, even-arc, odd-arc}
 use Rattle.certificates.specs.Push.{InBounds, Fits, roomOf, room-fits, one-bounds, one-fits, all-other, pushOne, pushAll}
-use Rattle.paths.specs.Reaching.{goes, Path}
-use Rattle.paths.specs.Pushing.{Pushable}
-use Rattle.paths.proofs.LeastRoom.{room-cap, room-each, room-pos, goes-room, way-codes}
-use Rattle.paths.proofs.Pushing.{pushable-bounds}
+use Rattle.certificates.specs.FreeArcs.{goes, Path}
+use Rattle.pushing.specs.Pushing.{Pushable}
+use Rattle.pushing.proofs.LeastRoom.{room-cap, room-each, room-pos, goes-room, way-codes}
+use Rattle.pushing.proofs.Pushing.{pushable-bounds}
 use Rattle.flows.specs.Minimising.{RoomAbove, takes, TakenOff}
 use Rattle.flows.specs.Following.{PutOn}
 

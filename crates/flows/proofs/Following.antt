@@ -12,7 +12,7 @@ use Rattle.network.specs.Network.{Net, arcs, tail, head, up}
 use Rattle.certificates.specs.Cuts.{NoMore}
 use Rattle.certificates.specs.Push.{pushAll}
 use Rattle.certificates.specs.Order.{next-is, next-none}
-use Rattle.paths.specs.Reaching.{Path}
+use Rattle.certificates.specs.FreeArcs.{Path}
 use Rattle.flows.specs.Tight.{Tight}
 use Rattle.flows.specs.Minimising.{Minimised}
 use Rattle.flows.specs.Following.{Raises, Next}

@@ -1,3 +1,4 @@
+mod Lists
 mod Detours
 pub mod Certified
 mod Minimising

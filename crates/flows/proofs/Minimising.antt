@@ -10,10 +10,10 @@ use lib.IntN.{ℤ}
 use Rattle.network.specs.Network.{Net, arcs, tail, head, low, LeastCost}
 use Rattle.certificates.specs.Cuts.{Agree, NoLess}
 use Rattle.certificates.specs.Push.{pushAll}
-use Rattle.paths.specs.Graph.{graph, netWith}
-use Rattle.paths.specs.Reaching.{Path}
-use Rattle.paths.proofs.LeastRoom.{room-cap, room-each}
-use Rattle.paths.proofs.Lists.{room-net}
+use Rattle.certificates.specs.Graph.{graph, netWith}
+use Rattle.certificates.specs.FreeArcs.{Path}
+use Rattle.pushing.proofs.LeastRoom.{room-cap, room-each}
+use Rattle.pushing.proofs.Lists.{room-net}
 use Rattle.flows.specs.Tight.{Tight}
 use Rattle.flows.specs.Minimising.{RoomAbove, takes, Lowered, Minimised}
 use Rattle.flows.proofs.Certified.{tight-any, lowered-by}

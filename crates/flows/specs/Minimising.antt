@@ -8,7 +8,7 @@ use Rattle.laws.specs.Ascending.{Distinct}
 use Rattle.network.specs.Network.{Net, arcs, low, LeastCost}
 use Rattle.certificates.specs.Cuts.{Agree, NoLess}
 use Rattle.certificates.specs.Push.{InBounds, roomOf, pushAll}
-use Rattle.paths.specs.Pushing.{roomAll}
+use Rattle.pushing.specs.Pushing.{roomAll}
 
 -- the codes have room, and their arcs come after arc k
 pub record RoomAbove (N : Net) (f : List ℕ) (k : ℕ) (cs : List ℕ) : Type 0 where

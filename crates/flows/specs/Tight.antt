@@ -7,7 +7,7 @@ use lib.ListN.{getD}
 use lib.IntN.{ℤ, pos}
 use Rattle.network.specs.Network.{Net, arcs, WellFormed, LeastCost}
 use Rattle.certificates.specs.Optimality.{reduced, Optimal}
-use Rattle.paths.specs.Graph.{netWith}
+use Rattle.certificates.specs.Graph.{netWith}
 
 -- f is a least-cost flow with prices π; the arcs that `tight` marks have reduced cost 0, and the others the same number in every least-cost flow
 pub record Tight (N : Net) (π : ℕ → ℤ) (tight : List Bool) (f : List ℕ) : Type 0 where

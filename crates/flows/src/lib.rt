@@ -8,8 +8,8 @@ ghost use lib.ListN.{length, getD, take};
 ghost use Rattle.laws.specs.Count.{counted};
 ghost use Rattle.network.specs.FullList.{firstFlow, countFlows};
 ghost use Rattle.certificates.specs.Push.{InBounds};
-ghost use Rattle.paths.specs.Graph.{graph};
-ghost use Rattle.paths.specs.Pushing.{SmallBounds, Ready};
+ghost use Rattle.certificates.specs.Graph.{graph};
+ghost use Rattle.certificates.specs.Ready.{SmallBounds, Ready};
 ghost use Rattle.flows.specs.Tight.{Tight, ForAll};
 ghost use Rattle.flows.specs.Minimising.{RoomAbove, TakenOff, Lowered, Minimised};
 ghost use Rattle.flows.specs.Following.{PutOn, Raises, Next};
@@ -29,9 +29,9 @@ fn take_off(
 {
     let f = flow[a];
     let l = lows[a];
-    let d = paths::room(tails, lows, ups, flow, codes, len, f - l);
+    let d = pushing::room(tails, lows, ups, flow, codes, len, f - l);
     flow[a] = f - d;
-    paths::push(tails, lows, ups, flow, codes, len, d);
+    pushing::push(tails, lows, ups, flow, codes, len, d);
 }
 
 // One more on arc a, and along the codes.
@@ -49,7 +49,7 @@ fn put_on(
 {
     let f = flow[a];
     flow[a] = f + 1;
-    paths::push(tails, lows, ups, flow, codes, len, 1);
+    pushing::push(tails, lows, ups, flow, codes, len, 1);
 }
 
 // Arc a as low as it can be while the arcs before it stay.

@@ -18,11 +18,11 @@ use Rattle.laws.specs.Members.{first?}
 use Rattle.network.proofs.FullList.{none-iff}
 use Rattle.certificates.specs.Optimality.{Optimal, priced-optimal, off-tight, stepReduced}
 use Rattle.certificates.specs.Order.{first-line}
+use Rattle.certificates.specs.Graph.{graph, netWith}
 use Rattle.search.specs.Labels.{costGraph}
 use Rattle.search.specs.Search.{Quiet, Settled, QuietLabels}
 use Rattle.search.proofs.Cycles.{roomy-usable}
 use Rattle.search.proofs.Pricing.{usable-roomy}
-use Rattle.paths.specs.Graph.{graph, netWith}
 use Rattle.closure.specs.Candidates.{Narrowed}
 use Rattle.flows.specs.Minimising.{Minimised}
 use Rattle.flows.proofs.Certified.{tight-any}

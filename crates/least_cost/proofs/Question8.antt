@@ -11,11 +11,11 @@ use borrow.Author.Tests.{eqb-true, eqb-false}
 use Rattle.laws.specs.Linear.{lin, given2}
 use Rattle.network.specs.Network.{Net, WellFormed, IsFlow, LeastCost}
 use Rattle.certificates.specs.Push.{pushAll}
+use Rattle.certificates.specs.Graph.{graph, netWith}
+use Rattle.pushing.specs.Pushing.{roomAll}
 use Rattle.search.specs.Labels.{costGraph, Relaxable}
 use Rattle.search.specs.Search.{QuietLabels, Searched, NegativeCycle}
 use Rattle.search.proofs.Pricing.{quiet-least}
-use Rattle.paths.specs.Graph.{graph, netWith}
-use Rattle.paths.specs.Pushing.{roomAll}
 use Rattle.cancelling.proofs.Cancelling.{labels-of, cycle-of, cancelled}
 use Rattle.cancelling.proofs.Cheapest.{rerouted-flow}
 use Rattle.least_cost.specs.Answers.{Tested}

@@ -10,9 +10,11 @@ use borrow.Author.Needs.{needs}
 use borrow.Author.Tests.{not-true, not-false}
 use Rattle.network.specs.Network.{Net}
 use Rattle.certificates.specs.Push.{InBounds}
-use Rattle.paths.specs.Graph.{graph, netWith}
-use Rattle.paths.specs.Reaching.{Path}
-use Rattle.paths.proofs.Lists.{path-net, bounds-without-heads, bounds-with-heads, small-without-heads, searchable-again}
+use Rattle.certificates.specs.Graph.{graph, netWith}
+use Rattle.certificates.specs.FreeArcs.{Path}
+use Rattle.certificates.specs.Ready.{searchable-again}
+use Rattle.pushing.proofs.Lists.{bounds-without-heads, bounds-with-heads, small-without-heads}
+use Rattle.flows.proofs.Lists.{path-net}
 use Rattle.flows.specs.Tight.{Tight, ForAll}
 use Rattle.flows.proofs.Candidates.{no-less}
 use Rattle.flows.proofs.Detours.{path-room}

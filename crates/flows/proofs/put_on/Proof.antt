@@ -3,7 +3,7 @@ use Prim.Native.Nat.{_+_}
 use native.Mathlib.Omega.{arith}
 use lib.ListN.{getD, take, length-set}
 use borrow.Author.Needs.{needs}
-use Rattle.paths.specs.Graph.{graph}
+use Rattle.certificates.specs.Graph.{graph}
 use Rattle.flows.proofs.Detours.{put-able, put-on}
 use Rattle.flows.proofs.put_on.Statement.{statement}
 use Rattle.flows.proofs.put_on.Tie as tie

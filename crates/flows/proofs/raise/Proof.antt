@@ -9,9 +9,10 @@ use lib.IntN.{ℤ}
 use borrow.Author.Tests.{not-true, not-false}
 use borrow.Author.Needs.{needs}
 use Rattle.network.specs.Network.{Net}
-use Rattle.paths.specs.Graph.{graph, netWith}
-use Rattle.paths.specs.Reaching.{Path}
-use Rattle.paths.proofs.Lists.{path-net, bounds-without-heads, bounds-with-heads, small-without-heads}
+use Rattle.certificates.specs.Graph.{graph, netWith}
+use Rattle.certificates.specs.FreeArcs.{Path}
+use Rattle.pushing.proofs.Lists.{bounds-without-heads, bounds-with-heads, small-without-heads}
+use Rattle.flows.proofs.Lists.{path-net}
 use Rattle.flows.proofs.Candidates.{no-more}
 use Rattle.flows.proofs.Detours.{path-room}
 use Rattle.flows.proofs.Following.{raise-no, raise-yes}

@@ -4,8 +4,8 @@ use native.Mathlib.Omega.{arith}
 use lib.ListN.{getD, take, set, length-set}
 use borrow.Author.Needs.{needs}
 use Rattle.certificates.specs.Push.{pushAll}
-use Rattle.paths.specs.Graph.{graph}
-use Rattle.paths.specs.Pushing.{Pushable}
+use Rattle.certificates.specs.Graph.{graph}
+use Rattle.pushing.specs.Pushing.{Pushable}
 use Rattle.flows.proofs.Detours.{take-able, takes-le, taken-off}
 use Rattle.flows.proofs.take_off.Statement.{statement}
 use Rattle.flows.proofs.take_off.Tie as tie

@@ -12,8 +12,8 @@ use Rattle.laws.specs.Tests.{and-true}
 use Rattle.network.specs.Network.{Net, arcs, low, up}
 use Rattle.network.specs.Residual.{usable}
 use Rattle.certificates.specs.Push.{Way, roomOf}
-use Rattle.paths.specs.Reaching.{goes}
-use Rattle.paths.specs.Pushing.{roomAll}
+use Rattle.certificates.specs.FreeArcs.{goes}
+use Rattle.pushing.specs.Pushing.{roomAll}
 
 pub room-cap : (N : Net) (f : List ℕ) (cap : ℕ) (cs : List ℕ) → roomAll N f cap cs ≤ cap
 room-cap N f cap [] = omega arith

@@ -4,9 +4,9 @@ use native.Mathlib.Omega.{arith}
 use lib.ListN.{set}
 use borrow.Author.Tests.{eq-eqb, ne-eqb}
 use borrow.Author.Needs.{needs}
-use Rattle.paths.proofs.Codes.{either-even, either-odd}
-use Rattle.paths.proofs.push_one.Statement.{statement}
-use Rattle.paths.proofs.push_one.Tie as tie
+use Rattle.pushing.proofs.Codes.{either-even, either-odd}
+use Rattle.pushing.proofs.push_one.Statement.{statement}
+use Rattle.pushing.proofs.push_one.Tie as tie
 
 add-flow : tie.Need-add-flow
 add-flow c = let s = c .before .before in omega (arith, s .pre .1 (eq-eqb _ 0 (c .if1 .taken)))

@@ -1,8 +1,8 @@
 use mathlib.Core.Path.{sym}
 use borrow.Author.Needs.{needs}
-use Rattle.paths.proofs.Codes.{either-even, either-odd}
-use Rattle.paths.proofs.room_of.Statement.{statement}
-use Rattle.paths.proofs.room_of.Tie as tie
+use Rattle.pushing.proofs.Codes.{either-even, either-odd}
+use Rattle.pushing.proofs.room_of.Statement.{statement}
+use Rattle.pushing.proofs.room_of.Tie as tie
 
 returns : tie.Need-returns
 returns c = sym (either-even _ _ _ (c .before .if1 .taken))

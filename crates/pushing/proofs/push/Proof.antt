@@ -5,11 +5,11 @@ use native.Mathlib.Numerals.{add-one}
 use lib.ListN.{length, getD, take, drop}
 use borrow.Author.Needs.{needs}
 use Rattle.certificates.specs.Push.{pushAll}
-use Rattle.paths.specs.Graph.{graph}
-use Rattle.paths.proofs.Prefix.{rest-cons, rest-done}
-use Rattle.paths.proofs.Pushing.{PushTurn, push-step, push-asks}
-use Rattle.paths.proofs.push.Statement.{statement}
-use Rattle.paths.proofs.push.Tie as tie
+use Rattle.certificates.specs.Graph.{graph}
+use Rattle.pushing.proofs.Prefix.{rest-cons, rest-done}
+use Rattle.pushing.proofs.Pushing.{PushTurn, push-step, push-asks}
+use Rattle.pushing.proofs.push.Statement.{statement}
+use Rattle.pushing.proofs.push.Tie as tie
 
 abbrev Inv-loop : tie.InvT-loop
 Inv-loop tails lows ups flow₀ codes len d i₀ flow i = (i ≤ len) × (length flow ≡ length flow₀) × PushTurn (graph tails tails lows ups) d (pushAll d (take len codes) flow₀) flow (drop i (take len codes))

@@ -4,12 +4,12 @@ use native.Mathlib.Omega.{arith}
 use native.Mathlib.Numerals.{add-one}
 use lib.ListN.{length, getD, take, drop}
 use borrow.Author.Needs.{needs}
-use Rattle.paths.specs.Graph.{graph}
-use Rattle.paths.specs.Pushing.{roomAll}
-use Rattle.paths.proofs.LeastRoom.{RoomTurn, room-step, first-in}
-use Rattle.paths.proofs.Prefix.{rest-cons, rest-done}
-use Rattle.paths.proofs.room.Statement.{statement}
-use Rattle.paths.proofs.room.Tie as tie
+use Rattle.certificates.specs.Graph.{graph}
+use Rattle.pushing.specs.Pushing.{roomAll}
+use Rattle.pushing.proofs.LeastRoom.{RoomTurn, room-step, first-in}
+use Rattle.pushing.proofs.Prefix.{rest-cons, rest-done}
+use Rattle.pushing.proofs.room.Statement.{statement}
+use Rattle.pushing.proofs.room.Tie as tie
 
 abbrev Inv-loop : tie.InvT-loop
 Inv-loop tails lows ups flow codes len cap least₀ i₀ least i = (i ≤ len) × RoomTurn (graph tails tails lows ups) flow (roomAll (graph tails tails lows ups) flow cap (take len codes)) least (drop i (take len codes))

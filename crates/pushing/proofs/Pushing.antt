@@ -10,7 +10,8 @@ use lib.ListN.{length, getD}
 use Rattle.laws.specs.Members.{every-map2}
 use Rattle.network.specs.Network.{Net, arcs}
 use Rattle.certificates.specs.Push.{InBounds, Fits, one-bounds, one-fits, pushOne, pushAll}
-use Rattle.paths.specs.Pushing.{Pushable, SmallBounds}
+use Rattle.certificates.specs.Ready.{SmallBounds}
+use Rattle.pushing.specs.Pushing.{Pushable}
 
 -- the loop of `push`: the codes that are left, and the numbers so far
 pub record PushTurn (N : Net) (δ : ℕ) (goal cur rest : List ℕ) : Type 0 where
