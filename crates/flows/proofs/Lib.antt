@@ -1,6 +1,3 @@
-mod Lists
-mod Detours
-pub mod Certified
 mod Minimising
 mod Following
 pub mod Candidates

@@ -25,7 +25,7 @@ use Rattle.search.proofs.Cycles.{roomy-usable}
 use Rattle.search.proofs.Pricing.{usable-roomy}
 use Rattle.closure.specs.Candidates.{Narrowed}
 use Rattle.flows.specs.Minimising.{Minimised}
-use Rattle.flows.proofs.Certified.{tight-any}
+use Rattle.arc_change.proofs.Certified.{tight-any}
 use Rattle.flows.proofs.Candidates.{narrowed}
 use Rattle.costs.specs.Costs.{endsAndCosts, MarkedBelow}
 use Rattle.least_cost.specs.Marked.{Marked}

@@ -11,8 +11,8 @@ use Rattle.network.specs.Network.{Net}
 use Rattle.certificates.specs.Push.{InBounds}
 use Rattle.certificates.specs.Graph.{graph, netWith}
 use Rattle.certificates.specs.Ready.{ready-again}
-use Rattle.flows.specs.Tight.{Tight, ForAll}
-use Rattle.flows.proofs.Certified.{tight-any}
+use Rattle.arc_change.specs.Tight.{Tight, ForAll}
+use Rattle.arc_change.proofs.Certified.{tight-any}
 use Rattle.flows.proofs.Counting.{Line, line-first, line-next, line-last, line-beyond}
 use Rattle.flows.proofs.count.Statement.{statement}
 use Rattle.flows.proofs.count.Tie as tie

@@ -8,7 +8,7 @@ use Rattle.network.specs.Network.{Net}
 use Rattle.certificates.specs.Push.{InBounds}
 use Rattle.certificates.specs.Graph.{graph, netWith}
 use Rattle.certificates.specs.Ready.{Ready, ready-again}
-use Rattle.flows.specs.Tight.{Tight, ForAll}
+use Rattle.arc_change.specs.Tight.{Tight, ForAll}
 use Rattle.flows.proofs.Candidates.{next-start}
 use Rattle.flows.proofs.Following.{Topped, next-more, next-done, next-no}
 use Rattle.flows.proofs.next.Statement.{statement}

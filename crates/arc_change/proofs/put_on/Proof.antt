@@ -4,9 +4,9 @@ use native.Mathlib.Omega.{arith}
 use lib.ListN.{getD, take, length-set}
 use borrow.Author.Needs.{needs}
 use Rattle.certificates.specs.Graph.{graph}
-use Rattle.flows.proofs.Detours.{put-able, put-on}
-use Rattle.flows.proofs.put_on.Statement.{statement}
-use Rattle.flows.proofs.put_on.Tie as tie
+use Rattle.arc_change.proofs.Detours.{put-able, put-on}
+use Rattle.arc_change.proofs.put_on.Statement.{statement}
+use Rattle.arc_change.proofs.put_on.Tie as tie
 
 add-flow : tie.Need-add-flow
 add-flow c = let s = c .before .before .before .before .before .before in omega (arith, s .pre .4, s .pre .1 .ups-small (s .args .a) (s .pre .3))

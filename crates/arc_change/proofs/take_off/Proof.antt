@@ -6,9 +6,9 @@ use borrow.Author.Needs.{needs}
 use Rattle.certificates.specs.Push.{pushAll}
 use Rattle.certificates.specs.Graph.{graph}
 use Rattle.pushing.specs.Pushing.{Pushable}
-use Rattle.flows.proofs.Detours.{take-able, takes-le, taken-off}
-use Rattle.flows.proofs.take_off.Statement.{statement}
-use Rattle.flows.proofs.take_off.Tie as tie
+use Rattle.arc_change.proofs.Detours.{take-able, takes-le, taken-off}
+use Rattle.arc_change.proofs.take_off.Statement.{statement}
+use Rattle.arc_change.proofs.take_off.Tie as tie
 
 sub-flow : tie.Need-sub-flow
 sub-flow c = let s = c .before .before .before .before .before .before .before .before .before in omega (arith, c .room .ensures, takes-le (graph (s .args .tails .now) (s .args .tails .now) (s .args .lows .now) (s .args .ups .now)) (s .args .flow .now) (s .args .a) (take (s .args .len) (s .args .codes .now)) (s .pre .5))

@@ -13,11 +13,11 @@ use Rattle.network.specs.Residual.{src, dst}
 use Rattle.certificates.specs.Codes.{even-code, odd-code, even-arc, odd-arc}
 use Rattle.certificates.specs.Push.{InBounds, Fits, roomOf, room-fits, one-bounds, one-fits, all-other, pushOne, pushAll}
 use Rattle.certificates.specs.FreeArcs.{goes, Path}
+use Rattle.certificates.specs.Graph.{graph}
 use Rattle.pushing.specs.Pushing.{Pushable}
 use Rattle.pushing.proofs.LeastRoom.{room-cap, room-each, room-pos, goes-room, way-codes}
 use Rattle.pushing.proofs.Pushing.{pushable-bounds}
-use Rattle.flows.specs.Minimising.{RoomAbove, takes, TakenOff}
-use Rattle.flows.specs.Following.{PutOn}
+use Rattle.arc_change.specs.Detours.{RoomAbove, takes, TakenOff, PutOn}
 
 pub path-room : (N : Net) (f : List ℕ) (free : List Bool) (s t k : ℕ) (cs : List ℕ) → Path N f free s t (suc k) cs → RoomAbove N f k cs
 path-room N f free s t k cs p = record {
@@ -74,3 +74,7 @@ module _ (N : Net) (f : List ℕ) (k : ℕ) (cs : List ℕ) (p : RoomAbove N f k
 
   pub put-on : (f′ : List ℕ) → InBounds N f → k < arcs N → getD f k 0 < up N k → f′ ≡ pushAll 1 cs (set f k (getD f k 0 + 1)) → PutOn N f f′ k cs
   put-on f′ b l h e = record { exact = e; bounds = rw e (pushable-bounds N 1 cs (set f k (getD f k 0 + 1)) (put-able b l h)) }
+
+-- heads do not matter
+pub room-without-heads : (t h l u f : List ℕ) (k : ℕ) (cs : List ℕ) → RoomAbove (graph t h l u) f k cs → RoomAbove (graph t t l u) f k cs
+room-without-heads t h l u f k cs p = record { codes-in = p .codes-in; distinct = p .distinct; above = p .above; room = p .room }

@@ -17,8 +17,8 @@ use Rattle.certificates.specs.Optimality.{reduced, optimal-any}
 use Rattle.certificates.specs.Cuts.{Closed, closed-steps, no-more, no-less}
 use Rattle.certificates.specs.Push.{roomOf, flow-bounds, Detour, Moved, raised, lowered, pushAll}
 use Rattle.certificates.specs.FreeArcs.{goes, Path, Blocked}
-use Rattle.flows.specs.Tight.{Tight}
-use Rattle.flows.proofs.Detours.{path-room, fits-of}
+use Rattle.arc_change.specs.Tight.{Tight}
+use Rattle.arc_change.proofs.Detours.{path-room, fits-of}
 
 -- the marks of one least-cost flow are those of every other
 pub tight-any : (N : Net) (π : ℕ → ℤ) (tight : List Bool) (f g : List ℕ) → Tight N π tight f → LeastCost N g → Tight N π tight g

@@ -12,13 +12,12 @@ use Rattle.network.specs.Network.{Net}
 use Rattle.certificates.specs.Graph.{graph, netWith}
 use Rattle.certificates.specs.FreeArcs.{Path}
 use Rattle.pushing.proofs.Lists.{bounds-without-heads, bounds-with-heads, small-without-heads}
-use Rattle.flows.proofs.Lists.{path-net}
-use Rattle.flows.proofs.Candidates.{no-more}
-use Rattle.flows.proofs.Detours.{path-room}
-use Rattle.flows.proofs.Following.{raise-no, raise-yes}
-use Rattle.flows.proofs.Minimising.{room-without-heads}
-use Rattle.flows.proofs.raise.Statement.{statement}
-use Rattle.flows.proofs.raise.Tie as tie
+use Rattle.arc_change.proofs.Lists.{path-net}
+use Rattle.arc_change.proofs.Candidates.{no-more}
+use Rattle.arc_change.proofs.Detours.{path-room, room-without-heads}
+use Rattle.arc_change.proofs.Raising.{raise-no, raise-yes}
+use Rattle.arc_change.proofs.raise.Statement.{statement}
+use Rattle.arc_change.proofs.raise.Tie as tie
 
 abbrev part : tie.Start → Net
 part s = graph (s .args .tails .now) (s .args .heads .now) (s .args .lows .now) (s .args .ups .now)

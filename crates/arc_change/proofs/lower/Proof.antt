@@ -14,13 +14,13 @@ use Rattle.certificates.specs.Graph.{graph, netWith}
 use Rattle.certificates.specs.FreeArcs.{Path}
 use Rattle.certificates.specs.Ready.{searchable-again}
 use Rattle.pushing.proofs.Lists.{bounds-without-heads, bounds-with-heads, small-without-heads}
-use Rattle.flows.proofs.Lists.{path-net}
-use Rattle.flows.specs.Tight.{Tight, ForAll}
-use Rattle.flows.proofs.Candidates.{no-less}
-use Rattle.flows.proofs.Detours.{path-room}
-use Rattle.flows.proofs.Minimising.{LowTurn, low-start, low-step, low-done, room-without-heads, exact-net}
-use Rattle.flows.proofs.lower.Statement.{statement}
-use Rattle.flows.proofs.lower.Tie as tie
+use Rattle.arc_change.proofs.Lists.{path-net}
+use Rattle.arc_change.specs.Tight.{Tight, ForAll}
+use Rattle.arc_change.proofs.Candidates.{no-less}
+use Rattle.arc_change.proofs.Detours.{path-room, room-without-heads}
+use Rattle.arc_change.proofs.Lowering.{LowTurn, low-start, low-step, low-done, exact-net}
+use Rattle.arc_change.proofs.lower.Statement.{statement}
+use Rattle.arc_change.proofs.lower.Tie as tie
 
 abbrev Inv-loop : tie.InvT-loop
 Inv-loop tails heads lows ups tight flow₀ a s t l flow = (length flow ≡ length flow₀) × InBounds (graph tails heads lows ups) flow × ForAll tails heads lows ups (λ N π. Tight N π tight flow₀ → LowTurn N π tight flow₀ a flow)
