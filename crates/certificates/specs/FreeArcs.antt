@@ -1,4 +1,4 @@
--- The residual arcs of the arcs marked free: a path over them, a set of nodes that they do not leave, and arcs that cannot be raised or lowered over them.
+-- The residual arcs of the arcs marked free: a path over them, a set of nodes that none of them leaves, and arcs that cannot be raised or lowered by way of them.
 use mathlib.Core.Path.{_≡_}
 use mathlib.Core.Logic.{_⊎_}
 use mathlib.Core.List.{List}

@@ -24,12 +24,12 @@ pub record HasStep (near far lowers uppers : List ℕ) (free : List Bool) (rows 
 abbrev pub ClosesNone : List ℕ → List ℕ → List ℕ → List ℕ → List Bool → List ℕ → ℕ → Type 0
 ClosesNone near far lowers uppers free rows a = (getD free a false ≡ false) ⊎ ((getD uppers a 0 ≤ getD lowers a 0) ⊎ (leads rows (getD far a 0) (getD near a 0) ≡ false))
 
--- so every arc from `from` on, by way of the arcs after it
+-- no arc from `from` on can be raised by way of the arcs after it
 pub record NoneRaisable (N : Net) (f : List ℕ) (free : List Bool) (from : ℕ) : Type 0 where
   pub in-range : from ≤ arcs N
   pub none : (a : ℕ) → from ≤ a → a < arcs N → NotRaisable N f free (suc a) a
 
--- so every arc from `from` on that comes before `to`
+-- no arc from `from` on that comes before `to` can be lowered by way of the arcs after it
 pub record NoneLowerable (N : Net) (f : List ℕ) (free : List Bool) (from to : ℕ) : Type 0 where
   pub after : from ≤ to
   pub in-range : to ≤ arcs N
