@@ -35,8 +35,8 @@ fn cancel(
     if len == 0 {
         return false;
     }
-    let d = paths::room(tails, lows, ups, flow, &codes, len, 1000000);
-    paths::push(tails, lows, ups, flow, &codes, len, d);
+    let d = pushing::room(tails, lows, ups, flow, &codes, len, 1000000);
+    pushing::push(tails, lows, ups, flow, &codes, len, d);
     true
 }
 

@@ -1,7 +1,10 @@
 pub mod Codes
+pub mod Graph
 pub mod Optimality
 pub mod Cuts
 pub mod Push
+pub mod FreeArcs
+pub mod Ready
 pub mod Reach
 pub mod Order
 pub mod Feasible

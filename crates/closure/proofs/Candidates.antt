@@ -7,9 +7,10 @@ use Prim.Native.Nat.{ℕ, suc, _-_, _≤_, _<_}
 use native.Mathlib.Omega.{arith}
 use native.Mathlib.Decide.{ℕ-discrete}
 use Rattle.network.specs.Network.{Net, arcs, tail, head}
-use Rattle.paths.specs.Reaching.{Searchable, Blocked}
+use Rattle.certificates.specs.Ready.{Searchable}
+use Rattle.certificates.specs.FreeArcs.{Blocked, NotRaisable, NotLowerable}
 use Rattle.closure.specs.Closure.{leads, Closure}
-use Rattle.closure.specs.Candidates.{NotRaisable, NotLowerable, HasStep, ClosesNone, NoneRaisable, NoneLowerable}
+use Rattle.closure.specs.Candidates.{HasStep, ClosesNone, NoneRaisable, NoneLowerable}
 use Rattle.closure.proofs.Closure.{closure-blocked}
 
 -- what holds from a on holds from a - 1 on, once it holds of a - 1

@@ -16,7 +16,7 @@ use Rattle.laws.specs.Tests.{and-true, true-and, or-cases, or-left, or-right}
 use Rattle.network.specs.Network.{Net, arcs, tail, head, low, up}
 use Rattle.network.specs.Residual.{src, dst}
 use Rattle.certificates.specs.Codes.{even-code, odd-code, even-arc, odd-arc}
-use Rattle.paths.specs.Reaching.{goes, Blocked}
+use Rattle.certificates.specs.FreeArcs.{goes, Blocked}
 use Rattle.closure.specs.NodeSet.{has}
 use Rattle.closure.specs.Closure.{leads, Preorder, Joined, JoinedRows, Extended, Closure}
 use Rattle.closure.proofs.NodeSet.{union-has, joined-yes, joined-no, none-has}

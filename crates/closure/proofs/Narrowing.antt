@@ -8,9 +8,10 @@ use lib.ListN.{length, getD, set, length-set}
 use lib.Seq.{getD-set-other}
 use Rattle.laws.specs.Padded.{set-more}
 use Rattle.network.specs.Network.{Net, arcs}
-use Rattle.paths.specs.Reaching.{Searchable}
+use Rattle.certificates.specs.Ready.{Searchable}
+use Rattle.certificates.specs.FreeArcs.{NotRaisable, NotLowerable}
 use Rattle.closure.specs.Closure.{Closure}
-use Rattle.closure.specs.Candidates.{NotRaisable, NotLowerable, HasStep, ClosesNone, Narrowed}
+use Rattle.closure.specs.Candidates.{HasStep, ClosesNone, Narrowed}
 use Rattle.closure.proofs.Candidates.{not-raisable, not-lowerable}
 
 -- other marks, as many

@@ -5,17 +5,9 @@ use mathlib.Core.List.{List}
 use mathlib.Core.Bool.{Bool, true, false}
 use Prim.Native.Nat.{ℕ, suc, _≤_, _<_}
 use lib.ListN.{length, getD}
-use Rattle.network.specs.Network.{Net, arcs, tail, head, low, up}
-use Rattle.paths.specs.Reaching.{Blocked}
+use Rattle.network.specs.Network.{Net, arcs}
+use Rattle.certificates.specs.FreeArcs.{NotRaisable, NotLowerable}
 use Rattle.closure.specs.Closure.{leads}
-
--- arc a is not free, or full, or nothing leads from its head to its tail over the free arcs from `from` on
-abbrev pub NotRaisable : Net → List ℕ → List Bool → ℕ → ℕ → Type 0
-NotRaisable N f free from a = (getD free a false ≡ false) ⊎ ((up N a ≤ getD f a 0) ⊎ Blocked N f free (head N a) (tail N a) from)
-
--- arc a is not free, or at its lower bound, or nothing leads from its tail to its head over the free arcs from `from` on
-abbrev pub NotLowerable : Net → List ℕ → List Bool → ℕ → ℕ → Type 0
-NotLowerable N f free from a = (getD free a false ≡ false) ⊎ ((getD f a 0 ≤ low N a) ⊎ Blocked N f free (tail N a) (head N a) from)
 
 -- what is read of the step of arc a from its near end to its far end, which takes its number from `lowers` towards `uppers`
 pub record HasStep (near far lowers uppers : List ℕ) (free : List Bool) (rows : List ℕ) (a : ℕ) : Type 0 where
@@ -32,12 +24,12 @@ pub record HasStep (near far lowers uppers : List ℕ) (free : List Bool) (rows 
 abbrev pub ClosesNone : List ℕ → List ℕ → List ℕ → List ℕ → List Bool → List ℕ → ℕ → Type 0
 ClosesNone near far lowers uppers free rows a = (getD free a false ≡ false) ⊎ ((getD uppers a 0 ≤ getD lowers a 0) ⊎ (leads rows (getD far a 0) (getD near a 0) ≡ false))
 
--- so every arc from `from` on, by way of the arcs after it
+-- no arc from `from` on can be raised by way of the arcs after it
 pub record NoneRaisable (N : Net) (f : List ℕ) (free : List Bool) (from : ℕ) : Type 0 where
   pub in-range : from ≤ arcs N
   pub none : (a : ℕ) → from ≤ a → a < arcs N → NotRaisable N f free (suc a) a
 
--- so every arc from `from` on that comes before `to`
+-- no arc from `from` on that comes before `to` can be lowered by way of the arcs after it
 pub record NoneLowerable (N : Net) (f : List ℕ) (free : List Bool) (from to : ℕ) : Type 0 where
   pub after : from ≤ to
   pub in-range : to ≤ arcs N

@@ -7,7 +7,7 @@ use Prim.Native.Nat.{ℕ, _+_, _≤_, _<_}
 use lib.ListN.{length, getD}
 use Rattle.network.specs.Network.{Net, arcs}
 use Rattle.network.specs.Residual.{src, dst}
-use Rattle.paths.specs.Reaching.{goes}
+use Rattle.certificates.specs.FreeArcs.{goes}
 use Rattle.closure.specs.NodeSet.{has}
 
 abbrev pub leads : List ℕ → ℕ → ℕ → Bool

@@ -7,12 +7,12 @@ use lib.IntN.{ℤ, pos}
 use Rattle.network.specs.Network.{Net, nodes}
 use Rattle.network.specs.Residual.{Price}
 use Rattle.certificates.specs.Push.{InBounds, flow-bounds}
+use Rattle.certificates.specs.Graph.{graph}
+use Rattle.certificates.specs.Ready.{Ready}
 use Rattle.relaxation.specs.Labels.{costGraph, Relaxable}
 use Rattle.relaxation.specs.Potentials.{Settled}
 use Rattle.prices.specs.Prices.{PriceLabels}
 use Rattle.prices.proofs.Pricing.{labels-price}
-use Rattle.paths.specs.Graph.{graph}
-use Rattle.paths.specs.Pushing.{Ready}
 use Rattle.least_cost.proofs.Premises.{relaxable, ready}
 use Rattle.least_cost.proofs.Marked.{settled-bare, marked-settled}
 use Rattle.enumerator.specs.Enumerator.{netOf, flowIn, Stands}

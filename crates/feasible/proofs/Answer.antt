@@ -17,8 +17,8 @@ use Rattle.network.specs.Network.{Net, WellFormed, netOut, balance}
 use Rattle.certificates.specs.Cuts.{stuck, closed-steps, balances-sum}
 use Rattle.certificates.specs.Push.{InBounds, all-netOut}
 use Rattle.certificates.specs.Feasible.{lacks as excesses, relieved, all-met}
-use Rattle.paths.specs.Graph.{graph, netWith}
-use Rattle.paths.specs.Pushing.{Ready}
+use Rattle.certificates.specs.Graph.{graph, netWith}
+use Rattle.certificates.specs.Ready.{Ready}
 use Rattle.feasible.specs.Excess.{supplies, SmallNumbers, Excesses, FirstExcess}
 use Rattle.feasible.specs.Sending.{SentFrom, CutOff}
 use Rattle.feasible.specs.Answer.{Given, AllFree, Answer}

@@ -10,7 +10,7 @@ use lib.IntN.{ℤ, pos, _-ℤ_}
 use Rattle.laws.specs.Linear.{lin, given}
 use Rattle.network.specs.Network.{netOut, balance, IsFlow}
 use Rattle.certificates.specs.Push.{InBounds}
-use Rattle.paths.specs.Graph.{graph, netWith}
+use Rattle.certificates.specs.Graph.{graph, netWith}
 use Rattle.feasible.specs.Excess.{supplies, SmallNumbers, Excesses}
 use Rattle.feasible.specs.Answer.{Given, Decides, IsFlowTest}
 

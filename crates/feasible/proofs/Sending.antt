@@ -16,11 +16,11 @@ use Rattle.laws.specs.Tests.{and-true, and-stops-second}
 use Rattle.network.specs.Network.{Net, arcs}
 use Rattle.network.specs.Residual.{src, dst}
 use Rattle.certificates.specs.Push.{InBounds, Fits as FitsCode, roomOf, room-fits, pushAll}
-use Rattle.paths.specs.Graph.{graph}
-use Rattle.paths.specs.Reaching.{goes, Path, Blocked}
-use Rattle.paths.specs.Pushing.{roomAll, Pushable}
-use Rattle.paths.proofs.LeastRoom.{room-cap, room-each, room-pos, goes-room, way-codes}
-use Rattle.paths.proofs.Pushing.{pushable-bounds}
+use Rattle.certificates.specs.Graph.{graph}
+use Rattle.certificates.specs.FreeArcs.{goes, Path, Blocked}
+use Rattle.pushing.specs.Pushing.{roomAll, Pushable}
+use Rattle.pushing.proofs.LeastRoom.{room-cap, room-each, room-pos, goes-room, way-codes}
+use Rattle.pushing.proofs.Pushing.{pushable-bounds}
 use Rattle.feasible.specs.Sending.{Capped, SentTo, SendsTo, CutOff, Sends}
 
 -- ---- to one node

@@ -7,8 +7,8 @@ use lib.ListN.{length, getD}
 use lib.IntN.{ℤ, pos}
 use Rattle.laws.specs.Range.{Bounded}
 use Rattle.network.specs.Network.{IsFlow}
-use Rattle.paths.specs.Graph.{graph, netWith}
-use Rattle.paths.specs.Pushing.{SmallBounds}
+use Rattle.certificates.specs.Graph.{graph, netWith}
+use Rattle.certificates.specs.Ready.{SmallBounds}
 
 pub record Given (b : List ℤ) (t h l u : List ℕ) (f : List ℕ) : Type 0 where
   pub small : SmallBounds (graph t h l u)

@@ -8,7 +8,7 @@ use lib.Signed.{_≤ℤ_, _<ℤ_}
 use Rattle.laws.specs.Range.{Bounded}
 use Rattle.network.specs.Network.{Net}
 use Rattle.certificates.specs.Feasible.{lack as excess}
-use Rattle.paths.specs.Graph.{netWith}
+use Rattle.certificates.specs.Graph.{netWith}
 
 -- balances and the ends of arcs, which is all that the excess depends on
 abbrev pub supplies : List ℤ → List ℕ → List ℕ → Net

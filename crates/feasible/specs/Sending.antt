@@ -9,8 +9,8 @@ use lib.Signed.{_≤ℤ_, _<ℤ_}
 use Rattle.network.specs.Network.{Net, arcs}
 use Rattle.network.specs.Residual.{src, dst}
 use Rattle.certificates.specs.Push.{InBounds, Trail, pushAll}
-use Rattle.paths.specs.Reaching.{goes, Blocked}
-use Rattle.paths.specs.Pushing.{Pushable}
+use Rattle.certificates.specs.FreeArcs.{goes, Blocked}
+use Rattle.pushing.specs.Pushing.{Pushable}
 
 -- r is at most x, and not 0
 pub record Capped (x : ℤ) (r : ℕ) : Type 0 where

@@ -11,8 +11,8 @@ ghost use Rattle.laws.specs.Range.{Bounded};
 ghost use Rattle.laws.specs.Sum.{sum};
 ghost use Rattle.network.specs.Network.{netOut, balance};
 ghost use Rattle.certificates.specs.Push.{InBounds};
-ghost use Rattle.paths.specs.Graph.{graph};
-ghost use Rattle.paths.specs.Pushing.{Ready};
+ghost use Rattle.certificates.specs.Graph.{graph};
+ghost use Rattle.certificates.specs.Ready.{Ready};
 ghost use Rattle.feasible.specs.Excess.{supplies, SmallNumbers, Excesses, FirstExcess};
 ghost use Rattle.feasible.specs.Sending.{Capped, SendsTo, Sends};
 ghost use Rattle.feasible.specs.Answer.{Given, AllFree, Answer, Decides, IsFlowTest};
@@ -104,9 +104,9 @@ fn send_to(
     let route = paths::detour(tails, heads, lows, ups, free, flow, s, t, 0, &mut codes);
     match route {
         paths::Route::Codes(len) => {
-            let cap = paths::lesser(most, capped(-x));
-            let d = paths::room(tails, lows, ups, flow, &codes, len, cap);
-            paths::push(tails, lows, ups, flow, &codes, len, d);
+            let cap = pushing::lesser(most, capped(-x));
+            let d = pushing::room(tails, lows, ups, flow, &codes, len, cap);
+            pushing::push(tails, lows, ups, flow, &codes, len, d);
             true
         }
         paths::Route::Cut => false,

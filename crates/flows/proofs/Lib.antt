@@ -1,5 +1,3 @@
-mod Detours
-pub mod Certified
 mod Minimising
 mod Following
 pub mod Candidates

@@ -1,3 +1,2 @@
-pub mod Tight
 pub mod Minimising
 pub mod Following

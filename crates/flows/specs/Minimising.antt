@@ -1,38 +1,10 @@
 -- Arcs as low as they can be, in order.
-use mathlib.Core.Path.{_≡_}
 use mathlib.Core.List.{List}
-use Prim.Native.Nat.{ℕ, _+_, _-_, _/_, _≤_, _<_}
-use lib.ListN.{getD, set}
-use Rattle.laws.specs.Members.{Every}
-use Rattle.laws.specs.Ascending.{Distinct}
-use Rattle.network.specs.Network.{Net, arcs, low, LeastCost}
+use Prim.Native.Nat.{ℕ, _≤_, _<_}
+use Rattle.network.specs.Network.{Net, arcs, LeastCost}
 use Rattle.certificates.specs.Cuts.{Agree, NoLess}
-use Rattle.certificates.specs.Push.{InBounds, roomOf, pushAll}
-use Rattle.paths.specs.Pushing.{roomAll}
 
--- the codes have room, and their arcs come after arc k
-pub record RoomAbove (N : Net) (f : List ℕ) (k : ℕ) (cs : List ℕ) : Type 0 where
-  pub codes-in : Every (λ c. c < arcs N + arcs N) cs
-  pub distinct : Distinct cs
-  pub above : Every (λ c. k < c / 2) cs
-  pub room : Every (λ c. 0 < roomOf N f c) cs
-
--- what can be taken off arc k and sent along the codes
-abbrev pub takes : Net → List ℕ → ℕ → List ℕ → ℕ
-takes N f k cs = roomAll N f (getD f k 0 - low N k) cs
-
-pub record TakenOff (N : Net) (f f′ : List ℕ) (k : ℕ) (cs : List ℕ) : Type 0 where
-  pub exact : f′ ≡ pushAll (takes N f k cs) cs (set f k (getD f k 0 - takes N f k cs))
-  pub bounds : InBounds N f′
-  pub less : getD f′ k 0 < getD f k 0
-
--- arc k as low as the arcs before it let it be
-pub record Lowered (N : Net) (f f′ : List ℕ) (k : ℕ) : Type 0 where
-  pub least : LeastCost N f′
-  pub same : Agree k f f′
-  pub no-less : NoLess N f′ k
-
--- so every arc from k on
+-- every arc from k on as low as the arcs before it let it be
 pub record Minimised (N : Net) (f f′ : List ℕ) (k : ℕ) : Type 0 where
   pub least : LeastCost N f′
   pub same : Agree k f f′

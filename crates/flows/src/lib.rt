@@ -4,97 +4,15 @@ ghost use mathlib.Core.Path.{_≡_};
 ghost use mathlib.Core.Bool.{true, false};
 ghost use mathlib.Core.Option.{some};
 ghost use Prim.Native.Nat.{_+_, _≤_, _<_};
-ghost use lib.ListN.{length, getD, take};
+ghost use lib.ListN.{length};
 ghost use Rattle.laws.specs.Count.{counted};
 ghost use Rattle.network.specs.FullList.{firstFlow, countFlows};
+ghost use Rattle.certificates.specs.Graph.{graph};
 ghost use Rattle.certificates.specs.Push.{InBounds};
-ghost use Rattle.paths.specs.Graph.{graph};
-ghost use Rattle.paths.specs.Pushing.{SmallBounds, Ready};
-ghost use Rattle.flows.specs.Tight.{Tight, ForAll};
-ghost use Rattle.flows.specs.Minimising.{RoomAbove, TakenOff, Lowered, Minimised};
-ghost use Rattle.flows.specs.Following.{PutOn, Raises, Next};
-
-// As much as there is room for is taken off arc a and sent along the codes instead.
-fn take_off(
-    tails: &[u8],
-    lows: &[u32],
-    ups: &[u32],
-    flow: &mut [u32],
-    codes: &[usize],
-    len: usize,
-    a: usize,
-)
-    requires { ⌜ (len ≤ length (now codes)) × SmallBounds (graph (now tails) (now tails) (now lows) (now ups)) × InBounds (graph (now tails) (now tails) (now lows) (now ups)) (now flow) × (a < length (now tails)) × (getD (now lows) a 0 < getD (now flow) a 0) × RoomAbove (graph (now tails) (now tails) (now lows) (now ups)) (now flow) a (take len (now codes)) ⌝ }
-    ensures { λ _. ⌜ TakenOff (graph (now (tails .entry)) (now (tails .entry)) (now (lows .entry)) (now (ups .entry))) (now (flow .entry)) (now (flow .exit)) a (take len (now (codes .entry))) ⌝ }
-{
-    let f = flow[a];
-    let l = lows[a];
-    let d = paths::room(tails, lows, ups, flow, codes, len, f - l);
-    flow[a] = f - d;
-    paths::push(tails, lows, ups, flow, codes, len, d);
-}
-
-// One more on arc a, and along the codes.
-fn put_on(
-    tails: &[u8],
-    lows: &[u32],
-    ups: &[u32],
-    flow: &mut [u32],
-    codes: &[usize],
-    len: usize,
-    a: usize,
-)
-    requires { ⌜ (len ≤ length (now codes)) × SmallBounds (graph (now tails) (now tails) (now lows) (now ups)) × InBounds (graph (now tails) (now tails) (now lows) (now ups)) (now flow) × (a < length (now tails)) × (getD (now flow) a 0 < getD (now ups) a 0) × RoomAbove (graph (now tails) (now tails) (now lows) (now ups)) (now flow) a (take len (now codes)) ⌝ }
-    ensures { λ _. ⌜ PutOn (graph (now (tails .entry)) (now (tails .entry)) (now (lows .entry)) (now (ups .entry))) (now (flow .entry)) (now (flow .exit)) a (take len (now (codes .entry))) ⌝ }
-{
-    let f = flow[a];
-    flow[a] = f + 1;
-    paths::push(tails, lows, ups, flow, codes, len, 1);
-}
-
-// Arc a as low as it can be while the arcs before it stay.
-fn lower(
-    tails: &[u8],
-    heads: &[u8],
-    lows: &[u32],
-    ups: &[u32],
-    tight: &[bool],
-    flow: &mut [u32],
-    a: usize,
-)
-    requires { ⌜ Ready (graph (now tails) (now heads) (now lows) (now ups)) (now flow) (now tight) × (a < length (now tails)) ⌝ }
-    ensures { λ _. ⌜ InBounds (graph (now (tails .entry)) (now (heads .entry)) (now (lows .entry)) (now (ups .entry))) (now (flow .exit)) × ForAll (now (tails .entry)) (now (heads .entry)) (now (lows .entry)) (now (ups .entry)) (λ N π. Tight N π (now (tight .entry)) (now (flow .entry)) → Lowered N (now (flow .entry)) (now (flow .exit)) a) ⌝ }
-{
-    if !tight[a] {
-        return;
-    }
-    let s = tails[a] as usize;
-    let t = heads[a] as usize;
-    let l = lows[a];
-    loop {
-        let f = flow[a];
-        if f <= l {
-            return;
-        }
-        let mut codes = [0usize; 64];
-        let route = paths::detour(
-            tails,
-            heads,
-            lows,
-            ups,
-            tight,
-            flow,
-            s,
-            t,
-            a + 1,
-            &mut codes,
-        );
-        match route {
-            paths::Route::Codes(len) => take_off(tails, lows, ups, flow, &codes, len, a),
-            paths::Route::Cut => return,
-        }
-    }
-}
+ghost use Rattle.certificates.specs.Ready.{Ready};
+ghost use Rattle.arc_change.specs.Tight.{Tight, ForAll};
+ghost use Rattle.flows.specs.Minimising.{Minimised};
+ghost use Rattle.flows.specs.Following.{Next};
 
 // Every arc from k on as low as it can be, in order. Only the arcs that may be lowered are tried.
 pub fn minimise(
@@ -111,53 +29,8 @@ pub fn minimise(
 {
     let mut a = closure::first_lowerable(tails, heads, lows, ups, tight, flow, k);
     while a < tails.len() {
-        lower(tails, heads, lows, ups, tight, flow, a);
+        arc_change::lower(tails, heads, lows, ups, tight, flow, a);
         a = closure::first_lowerable(tails, heads, lows, ups, tight, flow, a + 1);
-    }
-}
-
-// Arc a raised by 1 while the arcs before it stay; false, and the same flow, if that cannot be.
-fn raise(
-    tails: &[u8],
-    heads: &[u8],
-    lows: &[u32],
-    ups: &[u32],
-    tight: &[bool],
-    flow: &mut [u32],
-    a: usize,
-) -> bool
-    requires { ⌜ Ready (graph (now tails) (now heads) (now lows) (now ups)) (now flow) (now tight) × (a < length (now tails)) ⌝ }
-    ensures { λ r. ⌜ InBounds (graph (now (tails .entry)) (now (heads .entry)) (now (lows .entry)) (now (ups .entry))) (now (flow .exit)) × (r ≡ false → now (flow .exit) ≡ now (flow .entry)) × ForAll (now (tails .entry)) (now (heads .entry)) (now (lows .entry)) (now (ups .entry)) (λ N π. Tight N π (now (tight .entry)) (now (flow .entry)) → Raises N (now (flow .entry)) (now (flow .exit)) a r) ⌝ }
-{
-    if !tight[a] {
-        return false;
-    }
-    let f = flow[a];
-    let u = ups[a];
-    if u <= f {
-        return false;
-    }
-    let s = tails[a] as usize;
-    let t = heads[a] as usize;
-    let mut codes = [0usize; 64];
-    let route = paths::detour(
-        tails,
-        heads,
-        lows,
-        ups,
-        tight,
-        flow,
-        t,
-        s,
-        a + 1,
-        &mut codes,
-    );
-    match route {
-        paths::Route::Codes(len) => {
-            put_on(tails, lows, ups, flow, &codes, len, a);
-            true
-        }
-        paths::Route::Cut => false,
     }
 }
 
@@ -176,7 +49,7 @@ pub fn next(
     let mut k = closure::after_last_raisable(tails, heads, lows, ups, tight, flow);
     while 0 < k {
         k -= 1;
-        if raise(tails, heads, lows, ups, tight, flow, k) {
+        if arc_change::raise(tails, heads, lows, ups, tight, flow, k) {
             minimise(tails, heads, lows, ups, tight, flow, k + 1);
             return true;
         }

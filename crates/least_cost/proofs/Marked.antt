@@ -18,14 +18,14 @@ use Rattle.laws.specs.Members.{first?}
 use Rattle.network.proofs.FullList.{none-iff}
 use Rattle.certificates.specs.Optimality.{Optimal, priced-optimal, off-tight, stepReduced}
 use Rattle.certificates.specs.Order.{first-line}
+use Rattle.certificates.specs.Graph.{graph, netWith}
 use Rattle.relaxation.specs.Labels.{costGraph}
 use Rattle.relaxation.specs.Potentials.{Quiet, Settled}
 use Rattle.relaxation.proofs.Trips.{roomy-usable, usable-roomy}
 use Rattle.search.specs.Search.{QuietLabels}
-use Rattle.paths.specs.Graph.{graph, netWith}
 use Rattle.closure.specs.Candidates.{Narrowed}
 use Rattle.flows.specs.Minimising.{Minimised}
-use Rattle.flows.proofs.Certified.{tight-any}
+use Rattle.arc_change.proofs.Certified.{tight-any}
 use Rattle.flows.proofs.Candidates.{narrowed}
 use Rattle.costs.specs.Costs.{endsAndCosts, MarkedBelow}
 use Rattle.least_cost.specs.Marked.{Marked}

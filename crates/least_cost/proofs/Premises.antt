@@ -10,9 +10,9 @@ use lib.IntN.{ℤ, pos}
 use Rattle.laws.specs.Range.{Bounded, bounded-iff, bounded-more, bounded-zero}
 use Rattle.network.specs.Accepted.{AcceptedNet}
 use Rattle.certificates.specs.Push.{InBounds}
+use Rattle.certificates.specs.Graph.{graph, netWith}
+use Rattle.certificates.specs.Ready.{Ready, SmallBounds}
 use Rattle.relaxation.specs.Labels.{costGraph, Relaxable}
-use Rattle.paths.specs.Graph.{graph, netWith}
-use Rattle.paths.specs.Pushing.{Ready, SmallBounds}
 use Rattle.feasible.specs.Answer.{Given}
 
 module _ (b : List ℤ) (t h l u : List ℕ) (c : List ℤ) (ok : AcceptedNet (netWith b t h l u c)) where

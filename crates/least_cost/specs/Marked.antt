@@ -7,7 +7,7 @@ use lib.ListN.{length}
 use lib.IntN.{ℤ, pos}
 use lib.Signed.{_≤ℤ_}
 use Rattle.network.specs.Network.{Net, arcs}
-use Rattle.flows.specs.Tight.{Tight}
+use Rattle.arc_change.specs.Tight.{Tight}
 
 -- under some potential, `tight` marks arcs of reduced cost 0, all on which least-cost flows differ, and f is a least-cost flow
 pub record Marked (N : Net) (tight : List Bool) (f : List ℕ) : Type 0 where

@@ -4,7 +4,7 @@ ghost use lib.ListN.{length};
 ghost use Rattle.network.specs.Network.{LeastCost};
 ghost use Rattle.network.specs.Accepted.{AcceptedNet};
 ghost use Rattle.search.specs.Search.{QuietLabels};
-ghost use Rattle.paths.specs.Graph.{netWith};
+ghost use Rattle.certificates.specs.Graph.{netWith};
 ghost use Rattle.least_cost.specs.Marked.{Marked};
 ghost use Rattle.least_cost.specs.Answers.{FirstFlow, Tested, MarkedIfLeast};
 

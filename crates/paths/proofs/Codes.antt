@@ -1,19 +1,11 @@
--- A code by its parity, and the ends of a residual arc.
-use mathlib.Core.Path.{_≡_}
+-- The ends of a residual arc.
 use mathlib.Core.List.{List}
 use mathlib.Core.Bool.{Bool}
-use Prim.Native.Nat.{ℕ, _+_, _%_, _<_}
-use borrow.Author.Tests.{eq-eqb, ne-eqb}
+use Prim.Native.Nat.{ℕ, _+_, _<_}
 use Rattle.network.specs.Network.{Net, arcs}
-use Rattle.network.specs.Residual.{either, src, dst}
+use Rattle.network.specs.Residual.{src, dst}
 use Rattle.certificates.specs.Codes.{src-below, dst-below}
-use Rattle.paths.specs.Reaching.{Searchable}
-
-pub either-even : {A : Type 0} (c : ℕ) (x y : A) → c % 2 ≡ 0 → either c x y ≡ x
-either-even c x y e = rw (eq-eqb (c % 2) 0 e)
-
-pub either-odd : {A : Type 0} (c : ℕ) (x y : A) → ¬ (c % 2 ≡ 0) → either c x y ≡ y
-either-odd c x y e = rw (ne-eqb (c % 2) 0 e)
+use Rattle.certificates.specs.Ready.{Searchable}
 
 module _ (n : ℕ) (N : Net) (f : List ℕ) (free : List Bool) (ok : Searchable n N f free) (c : ℕ) (l : c < arcs N + arcs N) where
   pub src-in : src N c < n

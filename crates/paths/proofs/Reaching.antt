@@ -13,7 +13,9 @@ use Rattle.network.specs.Network.{Net, arcs, tail, head, low, up}
 use Rattle.network.specs.Residual.{src, dst}
 use Rattle.certificates.specs.Codes.{even-code, odd-code, even-arc, odd-arc}
 use Rattle.certificates.specs.Reach.{Spread, hit, Turn, turn-step}
-use Rattle.paths.specs.Reaching.{goes, Searchable, SpreadArc}
+use Rattle.certificates.specs.FreeArcs.{goes}
+use Rattle.certificates.specs.Ready.{Searchable}
+use Rattle.paths.specs.Reaching.{SpreadArc}
 use Rattle.paths.proofs.Codes.{src-in, dst-in}
 
 module _ (on : Bool) (rank via : List ℕ) (count u v c : ℕ) where

@@ -12,7 +12,9 @@ use borrow.Author.Tests.{ltb-true, lt-ltb, le-ltb}
 use Rattle.network.specs.Network.{Net, arcs}
 use Rattle.network.specs.Residual.{src, dst}
 use Rattle.certificates.specs.Reach.{Falls, TracedAny, any-step, tree-falls}
-use Rattle.paths.specs.Reaching.{goes, Searchable, ReachedOf, Path, Blocked}
+use Rattle.certificates.specs.FreeArcs.{goes, Path, Blocked}
+use Rattle.certificates.specs.Ready.{Searchable}
+use Rattle.paths.specs.Reaching.{ReachedOf}
 use Rattle.paths.proofs.Codes.{src-in}
 
 pub trace-more : (n hi : ℕ) (sr ds : ℕ → ℕ) (rank via codes : List ℕ) (t v len w : ℕ) → len < length codes → v < n → 1 < getD rank v 0 → w ≡ sr (getD via v 0)

@@ -1,3 +1,1 @@
-pub mod Graph
 pub mod Reaching
-pub mod Pushing

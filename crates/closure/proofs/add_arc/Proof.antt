@@ -2,7 +2,7 @@ use native.Mathlib.Omega.{arith}
 use borrow.Author.Needs.{needs}
 use borrow.Author.Tests.{not-true}
 use Rattle.network.specs.Network.{Net}
-use Rattle.paths.specs.Graph.{graph}
+use Rattle.certificates.specs.Graph.{graph}
 use Rattle.closure.proofs.Closure.{closure-skip, closure-arc}
 use Rattle.closure.proofs.add_arc.Statement.{statement}
 use Rattle.closure.proofs.add_arc.Tie as tie

@@ -3,7 +3,7 @@ use Prim.Native.Nat.{ℕ, _≤_}
 use native.Mathlib.Omega.{arith}
 use lib.ListN.{length}
 use Rattle.network.specs.Network.{Net}
-use Rattle.paths.specs.Graph.{graph}
+use Rattle.certificates.specs.Graph.{graph}
 use Rattle.closure.specs.Closure.{Closure}
 use Rattle.closure.proofs.Closure.{closure-start}
 use Rattle.closure.proofs.Candidates.{before-arc}

@@ -5,7 +5,7 @@ use native.Mathlib.Omega.{arith}
 use lib.ListN.{length}
 use borrow.Author.Needs.{needs}
 use Rattle.network.specs.Network.{Net}
-use Rattle.paths.specs.Graph.{graph}
+use Rattle.certificates.specs.Graph.{graph}
 use Rattle.closure.specs.Closure.{Closure}
 use Rattle.closure.specs.Candidates.{NoneLowerable}
 use Rattle.closure.proofs.Closure.{closure-start}

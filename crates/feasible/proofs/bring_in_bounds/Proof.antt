@@ -1,7 +1,7 @@
 use mathlib.Core.Bool.{true}
 use borrow.Author.Needs.{needs}
 use Rattle.certificates.specs.Push.{InBounds}
-use Rattle.paths.specs.Graph.{graph}
+use Rattle.certificates.specs.Graph.{graph}
 use Rattle.feasible.proofs.IsFlow.{decided}
 use Rattle.feasible.proofs.Answer.{low-bounds}
 use Rattle.feasible.proofs.bring_in_bounds.Statement.{statement}

@@ -5,7 +5,7 @@ use borrow.Author.Tests.{not-true, not-false}
 use Rattle.laws.specs.Parts.{plus}
 use Rattle.certificates.specs.Push.{InBounds}
 use Rattle.certificates.specs.Feasible.{lacks as excesses}
-use Rattle.paths.specs.Graph.{graph}
+use Rattle.certificates.specs.Graph.{graph}
 use Rattle.feasible.specs.Excess.{supplies}
 use Rattle.feasible.proofs.Answer.{start-bounds, small-of, ready-of, all-sent, no-flow-left, falls}
 use Rattle.feasible.proofs.from_bounds.Statement.{statement}

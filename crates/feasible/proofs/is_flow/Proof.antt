@@ -3,7 +3,7 @@ use mathlib.Core.Bool.{true, false}
 use borrow.Author.Needs.{needs}
 use borrow.Author.Tests.{not-true, not-false}
 use Rattle.certificates.specs.Push.{InBounds}
-use Rattle.paths.specs.Graph.{graph}
+use Rattle.certificates.specs.Graph.{graph}
 use Rattle.feasible.proofs.IsFlow.{decided, small-numbers, out-of-bounds, in-bounds}
 use Rattle.feasible.proofs.is_flow.Statement.{statement}
 use Rattle.feasible.proofs.is_flow.Tie as tie

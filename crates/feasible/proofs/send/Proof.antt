@@ -9,8 +9,8 @@ use mir.Syntax.{w64}
 use mir.Val.{toZ, ofZ}
 use mir.Facts.{toZ-ofZ}
 use Rattle.laws.specs.Range.{bounded-fits}
-use Rattle.paths.specs.Graph.{graph}
-use Rattle.paths.specs.Pushing.{Ready}
+use Rattle.certificates.specs.Graph.{graph}
+use Rattle.certificates.specs.Ready.{Ready}
 use Rattle.feasible.specs.Sending.{CutOff, SendsTo, Sends}
 use Rattle.feasible.proofs.Sending.{cut-start, cut-step, sends-yes, sends-no}
 use Rattle.feasible.proofs.send.Statement.{statement}

@@ -9,10 +9,10 @@ use mir.Facts.{toZ-ofZ}
 use borrow.Author.Needs.{needs}
 use Rattle.network.specs.Network.{Net}
 use Rattle.network.specs.Residual.{src, dst}
-use Rattle.paths.specs.Reaching.{Path}
-use Rattle.paths.specs.Graph.{graph}
-use Rattle.paths.proofs.LeastRoom.{way-codes}
-use Rattle.paths.proofs.Lists.{small-without-heads, bounds-without-heads}
+use Rattle.certificates.specs.FreeArcs.{Path}
+use Rattle.certificates.specs.Graph.{graph}
+use Rattle.pushing.proofs.LeastRoom.{way-codes}
+use Rattle.pushing.proofs.Lists.{small-without-heads, bounds-without-heads}
 use Rattle.feasible.proofs.Sending.{sends-to-none, sends-to-blocked, sends-to-yes, able-here}
 use Rattle.feasible.proofs.Widths.{below, turned-fits, zero-sub}
 use Rattle.feasible.proofs.send_to.Statement.{statement}

@@ -9,10 +9,10 @@ use borrow.Author.Tests.{not-true, not-false}
 use Rattle.network.specs.FullList.{firstFlow}
 use Rattle.network.specs.Network.{Net}
 use Rattle.certificates.specs.Push.{InBounds}
-use Rattle.paths.specs.Graph.{graph, netWith}
-use Rattle.paths.proofs.Lists.{ready-again}
-use Rattle.flows.specs.Tight.{Tight, ForAll}
-use Rattle.flows.proofs.Certified.{tight-any}
+use Rattle.certificates.specs.Graph.{graph, netWith}
+use Rattle.certificates.specs.Ready.{ready-again}
+use Rattle.arc_change.specs.Tight.{Tight, ForAll}
+use Rattle.arc_change.proofs.Certified.{tight-any}
 use Rattle.flows.proofs.Counting.{Line, line-first, line-next, line-last, line-beyond}
 use Rattle.flows.proofs.count.Statement.{statement}
 use Rattle.flows.proofs.count.Tie as tie

@@ -7,11 +7,11 @@ use lib.ListN.{length}
 use lib.IntN.{ℤ}
 use Rattle.network.specs.Network.{Net}
 use Rattle.certificates.specs.Push.{InBounds}
-use Rattle.paths.specs.Graph.{graph, netWith}
-use Rattle.paths.proofs.Lists.{ready-again, searchable-again}
-use Rattle.flows.specs.Tight.{Tight, ForAll}
+use Rattle.certificates.specs.Graph.{graph, netWith}
+use Rattle.certificates.specs.Ready.{ready-again, searchable-again}
+use Rattle.arc_change.specs.Tight.{Tight, ForAll}
 use Rattle.flows.proofs.Candidates.{min-pass}
-use Rattle.flows.proofs.Certified.{tight-any}
+use Rattle.arc_change.proofs.Certified.{tight-any}
 use Rattle.flows.proofs.Minimising.{MinTurn, min-start, min-step, min-done}
 use Rattle.flows.proofs.minimise.Statement.{statement}
 use Rattle.flows.proofs.minimise.Tie as tie

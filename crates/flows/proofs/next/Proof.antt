@@ -6,10 +6,9 @@ use lib.ListN.{length}
 use lib.IntN.{ℤ}
 use Rattle.network.specs.Network.{Net}
 use Rattle.certificates.specs.Push.{InBounds}
-use Rattle.paths.specs.Graph.{graph, netWith}
-use Rattle.paths.specs.Pushing.{Ready}
-use Rattle.paths.proofs.Lists.{ready-again}
-use Rattle.flows.specs.Tight.{Tight, ForAll}
+use Rattle.certificates.specs.Graph.{graph, netWith}
+use Rattle.certificates.specs.Ready.{Ready, ready-again}
+use Rattle.arc_change.specs.Tight.{Tight, ForAll}
 use Rattle.flows.proofs.Candidates.{next-start}
 use Rattle.flows.proofs.Following.{Topped, next-more, next-done, next-no}
 use Rattle.flows.proofs.next.Statement.{statement}

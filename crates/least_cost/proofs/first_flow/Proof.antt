@@ -8,7 +8,7 @@ use borrow.Author.Needs.{needs}
 use borrow.Author.Tests.{not-true, not-false}
 use Rattle.network.specs.Network.{Net, IsFlow, LeastCost}
 use Rattle.certificates.specs.Push.{flow-bounds}
-use Rattle.paths.specs.Graph.{netWith}
+use Rattle.certificates.specs.Graph.{netWith}
 use Rattle.cancelling.proofs.Cheapest.{cheapest}
 use Rattle.least_cost.specs.Marked.{Marked}
 use Rattle.least_cost.proofs.Premises.{given, relaxable, ready}

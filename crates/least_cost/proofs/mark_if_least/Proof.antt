@@ -6,7 +6,7 @@ use borrow.Author.Needs.{needs}
 use borrow.Author.Tests.{not-true, not-false}
 use Rattle.network.specs.Network.{Net, LeastCost}
 use Rattle.search.specs.Search.{QuietLabels}
-use Rattle.paths.specs.Graph.{netWith}
+use Rattle.certificates.specs.Graph.{netWith}
 use Rattle.least_cost.proofs.Question8.{tested-yes, tested-no}
 use Rattle.least_cost.proofs.mark_if_least.Statement.{statement}
 use Rattle.least_cost.proofs.mark_if_least.Tie as tie

@@ -7,7 +7,7 @@ use borrow.Author.Needs.{needs}
 use Rattle.network.specs.Network.{Net}
 use Rattle.network.specs.Residual.{src, dst}
 use Rattle.certificates.specs.Reach.{Falls, TracedAny}
-use Rattle.paths.specs.Graph.{graph}
+use Rattle.certificates.specs.Graph.{graph}
 use Rattle.paths.proofs.Tracing.{reach-blocked, reach-falls, reach-path}
 use Rattle.paths.proofs.detour.Statement.{statement}
 use Rattle.paths.proofs.detour.Tie as tie

@@ -6,8 +6,9 @@ use lib.ListN.{length, set, length-set}
 use borrow.Author.Needs.{needs}
 use Rattle.network.specs.Network.{Net}
 use Rattle.certificates.specs.Reach.{tree-start, count-le}
-use Rattle.paths.specs.Graph.{graph}
-use Rattle.paths.specs.Reaching.{Searchable, TreeOf}
+use Rattle.certificates.specs.Graph.{graph}
+use Rattle.certificates.specs.Ready.{Searchable}
+use Rattle.paths.specs.Reaching.{TreeOf}
 use Rattle.paths.proofs.reach.Statement.{statement}
 use Rattle.paths.proofs.reach.Tie as tie
 

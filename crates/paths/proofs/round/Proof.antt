@@ -5,8 +5,8 @@ use native.Mathlib.Omega.{arith}
 use lib.ListN.{length}
 use Rattle.network.specs.Network.{Net}
 use Rattle.certificates.specs.Reach.{turn-start, round-done, round-left, count-le}
-use Rattle.paths.specs.Graph.{graph}
-use Rattle.paths.specs.Reaching.{Searchable}
+use Rattle.certificates.specs.Graph.{graph}
+use Rattle.certificates.specs.Ready.{Searchable}
 use Rattle.paths.proofs.Reaching.{TurnOf, turn-arc}
 use Rattle.paths.proofs.round.Statement.{statement}
 use Rattle.paths.proofs.round.Tie as tie

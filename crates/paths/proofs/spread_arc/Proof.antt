@@ -2,7 +2,7 @@ use native.Mathlib.Omega.{arith}
 use borrow.Author.Needs.{needs}
 use borrow.Author.Tests.{not-true, not-false}
 use Rattle.network.specs.Network.{Net}
-use Rattle.paths.specs.Graph.{graph}
+use Rattle.certificates.specs.Graph.{graph}
 use Rattle.paths.proofs.Reaching.{spread-few, arc-shut, arc-tried}
 use Rattle.paths.proofs.spread_arc.Statement.{statement}
 use Rattle.paths.proofs.spread_arc.Tie as tie

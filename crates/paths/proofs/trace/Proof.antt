@@ -6,7 +6,7 @@ use borrow.Author.Needs.{needs}
 use Rattle.network.specs.Network.{Net}
 use Rattle.network.specs.Residual.{src, dst}
 use Rattle.certificates.specs.Reach.{TracedAny, any-start, any-done}
-use Rattle.paths.specs.Graph.{graph}
+use Rattle.certificates.specs.Graph.{graph}
 use Rattle.paths.proofs.Tracing.{trace-more}
 use Rattle.paths.proofs.trace.Statement.{statement}
 use Rattle.paths.proofs.trace.Tie as tie

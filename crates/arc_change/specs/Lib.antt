@@ -1,0 +1,3 @@
+pub mod Tight
+pub mod Detours
+pub mod Changes

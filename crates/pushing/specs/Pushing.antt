@@ -1,0 +1,19 @@
+-- What can go along a path, and what pushing it asks.
+use mathlib.Core.List.{List, [], _∷_}
+use Prim.Native.Nat.{ℕ, _+_, _<_, min}
+use Rattle.laws.specs.Members.{Every}
+use Rattle.laws.specs.Ascending.{Distinct}
+use Rattle.network.specs.Network.{Net, arcs}
+use Rattle.certificates.specs.Push.{Fits, InBounds, roomOf}
+
+-- the least room along the codes, at most cap
+abbrev pub roomAll : Net → List ℕ → ℕ → List ℕ → ℕ
+roomAll N f cap [] = cap
+roomAll N f cap (c ∷ cs) = roomAll N f (min cap (roomOf N f c)) cs
+
+-- δ can go along the codes
+pub record Pushable (N : Net) (δ : ℕ) (f : List ℕ) (cs : List ℕ) : Type 0 where
+  pub bounds : InBounds N f
+  pub codes-in : Every (λ c. c < arcs N + arcs N) cs
+  pub distinct : Distinct cs
+  pub fits : Every (Fits N δ f) cs
