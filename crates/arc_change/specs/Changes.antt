@@ -1,11 +1,10 @@
 -- Arc k as low as it can be, or raised by 1, while the arcs before it stay.
 use mathlib.Core.Path.{_≡_}
 use mathlib.Core.List.{List}
-use mathlib.Core.Bool.{Bool, true, false}
 use Prim.Native.Nat.{ℕ, suc}
 use lib.ListN.{getD}
 use Rattle.network.specs.Network.{Net, LeastCost}
-use Rattle.certificates.specs.Cuts.{Agree, NoLess, NoMore}
+use Rattle.certificates.specs.Cuts.{Agree, NoLess}
 
 -- arc k as low as the arcs before it let it be
 pub record Lowered (N : Net) (f f′ : List ℕ) (k : ℕ) : Type 0 where
@@ -13,12 +12,8 @@ pub record Lowered (N : Net) (f f′ : List ℕ) (k : ℕ) : Type 0 where
   pub same : Agree k f f′
   pub no-less : NoLess N f′ k
 
+-- arc k raised by 1
 pub record RaisedByOne (N : Net) (f f′ : List ℕ) (k : ℕ) : Type 0 where
   pub least : LeastCost N f′
   pub same : Agree k f f′
   pub one-more : getD f′ k 0 ≡ suc (getD f k 0)
-
--- arc k raised by 1, or it cannot be
-pub record Raises (N : Net) (f f′ : List ℕ) (k : ℕ) (r : Bool) : Type 0 where
-  pub done : r ≡ true → RaisedByOne N f f′ k
-  pub stuck : r ≡ false → NoMore N f k

@@ -1,15 +1,14 @@
 // One arc of a least-cost flow lowered or raised while the arcs before it stay.
 // `tight` marks arcs of reduced cost 0: no least-cost flow differs from another on the rest.
-ghost use mathlib.Core.Path.{_≡_};
-ghost use mathlib.Core.Bool.{true, false};
-ghost use Prim.Native.Nat.{_+_, _≤_, _<_};
+ghost use Prim.Native.Nat.{suc, _+_, _≤_, _<_};
 ghost use lib.ListN.{length, getD, take};
 ghost use Rattle.certificates.specs.Graph.{graph};
 ghost use Rattle.certificates.specs.Push.{InBounds};
+ghost use Rattle.certificates.specs.FreeArcs.{Raisable};
 ghost use Rattle.certificates.specs.Ready.{SmallBounds, Ready};
 ghost use Rattle.arc_change.specs.Tight.{Tight, ForAll};
 ghost use Rattle.arc_change.specs.Detours.{RoomAbove, TakenOff, PutOn};
-ghost use Rattle.arc_change.specs.Changes.{Lowered, Raises};
+ghost use Rattle.arc_change.specs.Changes.{Lowered, RaisedByOne};
 
 // As much as there is room for is taken off arc a and sent along the codes instead.
 fn take_off(
@@ -93,7 +92,7 @@ pub fn lower(
     }
 }
 
-// Arc a raised by 1 while the arcs before it stay; false, and the same flow, if that cannot be.
+// Arc a, which can be raised, raised by 1 while the arcs before it stay.
 pub fn raise(
     tails: &[u8],
     heads: &[u8],
@@ -102,18 +101,10 @@ pub fn raise(
     tight: &[bool],
     flow: &mut [u32],
     a: usize,
-) -> bool
-    requires { ⌜ Ready (graph (now tails) (now heads) (now lows) (now ups)) (now flow) (now tight) × (a < length (now tails)) ⌝ }
-    ensures { λ r. ⌜ InBounds (graph (now (tails .entry)) (now (heads .entry)) (now (lows .entry)) (now (ups .entry))) (now (flow .exit)) × (r ≡ false → now (flow .exit) ≡ now (flow .entry)) × ForAll (now (tails .entry)) (now (heads .entry)) (now (lows .entry)) (now (ups .entry)) (λ N π. Tight N π (now (tight .entry)) (now (flow .entry)) → Raises N (now (flow .entry)) (now (flow .exit)) a r) ⌝ }
+)
+    requires { ⌜ Ready (graph (now tails) (now heads) (now lows) (now ups)) (now flow) (now tight) × (a < length (now tails)) × Raisable (graph (now tails) (now heads) (now lows) (now ups)) (now flow) (now tight) (suc a) a ⌝ }
+    ensures { λ _. ⌜ InBounds (graph (now (tails .entry)) (now (heads .entry)) (now (lows .entry)) (now (ups .entry))) (now (flow .exit)) × ForAll (now (tails .entry)) (now (heads .entry)) (now (lows .entry)) (now (ups .entry)) (λ N π. Tight N π (now (tight .entry)) (now (flow .entry)) → RaisedByOne N (now (flow .entry)) (now (flow .exit)) a) ⌝ }
 {
-    if !tight[a] {
-        return false;
-    }
-    let f = flow[a];
-    let u = ups[a];
-    if u <= f {
-        return false;
-    }
     let s = tails[a] as usize;
     let t = heads[a] as usize;
     let mut codes = [0usize; 64];
@@ -130,10 +121,7 @@ pub fn raise(
         &mut codes,
     );
     match route {
-        paths::Route::Codes(len) => {
-            put_on(tails, lows, ups, flow, &codes, len, a);
-            true
-        }
-        paths::Route::Cut => false,
+        paths::Route::Codes(len) => put_on(tails, lows, ups, flow, &codes, len, a),
+        paths::Route::Cut => return,
     }
 }

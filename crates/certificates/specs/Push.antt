@@ -1,7 +1,7 @@
 -- Pushing δ along a trail of residual steps: bounds, balances and cost.
 use mathlib.Core.Path.{_≡_, refl, sym, ap, subst, _∙_}
 use mathlib.Core.Logic.{_≢_}
-use mathlib.Core.List.{List, [], _∷_}
+use mathlib.Core.List.{List, [], _∷_, _++_}
 use mathlib.Core.Bool.{Bool, true, false, cond}
 use Prim.Native.Nat.{ℕ, suc, _+_, _-_, _/_, _%_, _≤_, _<_}
 use native.Mathlib.Omega.{arith}
@@ -193,6 +193,10 @@ module _ (N : Net) (δ : ℕ) where
 abbrev pub Way : ℕ → (ℕ → ℕ) → (ℕ → ℕ) → ℕ → ℕ → List ℕ → Type 0
 Way hi sr ds u v [] = u ≡ v
 Way hi sr ds u v (c ∷ cs) = (c < hi) × (ds c ≡ v) × Way hi sr ds u (sr c) cs
+
+pub way-append : (hi : ℕ) (sr ds : ℕ → ℕ) (l k : List ℕ) (u v w : ℕ) → Way hi sr ds v w l → Way hi sr ds u v k → Way hi sr ds u w (l ++ k)
+way-append hi sr ds [] k u v w p q = subst (λ (i : ℕ). Way hi sr ds u i k) p q
+way-append hi sr ds (c ∷ l) k u v w p q = (p .0, p .1, way-append hi sr ds l k u v (sr c) (p .2) q)
 
 abbrev pub Trail : Net → ℕ → ℕ → List ℕ → Type 0
 Trail N u v cs = Way (arcs N + arcs N) (src N) (dst N) u v cs

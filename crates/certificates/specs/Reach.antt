@@ -12,10 +12,10 @@ use borrow.Author.Tests.{ltb-true, eqb-true}
 use lib.ListN.{length, getD, set, length-set}
 use lib.Seq.{getD-set-same, getD-set-other}
 use Rattle.laws.specs.Ascending.{Distinct}
-use Rattle.laws.specs.Members.{Every, every-map}
+use Rattle.laws.specs.Members.{Every, every-map, every-append}
 use Rattle.laws.specs.Store.{set-cases}
 use Rattle.laws.specs.Tests.{and-true}
-use Rattle.certificates.specs.Push.{Way}
+use Rattle.certificates.specs.Push.{Way, way-append}
 
 -- how many numbers of a list are not 0
 abbrev pub filled : List ℕ → ℕ
@@ -201,30 +201,22 @@ module _ (n lo hi : ℕ) (sr ds : ℕ → ℕ) (go : ℕ → Bool) (s : ℕ) whe
     pub goes : Every (λ c. go c ≡ true) cs
     pub later : Every (λ c. getD rank v 0 < getD rank (ds c) 0) cs
 
-  every-snoc : (P : ℕ → Type 0) (cs : List ℕ) (c : ℕ) → Every P cs → P c → Every P (cs ++ (c ∷ []))
-  every-snoc P [] c e p = (p, tt)
-  every-snoc P (d ∷ cs) c e p = (e .0, every-snoc P cs c (e .1) p)
-
-  way-snoc : (cs : List ℕ) (c v t : ℕ) → Way hi sr ds v t cs → c < hi → ds c ≡ v → Way hi sr ds (sr c) t (cs ++ (c ∷ []))
-  way-snoc [] c v t w l e = (l, e ∙ w, refl)
-  way-snoc (d ∷ cs) c v t w l e = (w .0, w .1, way-snoc cs c v (sr d) (w .2) l e)
-
   distinct-snoc : (cs : List ℕ) (c : ℕ) → Distinct cs → Every (λ d. d ≢ c) cs → Distinct (cs ++ (c ∷ []))
   distinct-snoc [] c d e = (tt, tt)
-  distinct-snoc (b ∷ cs) c d e = (every-snoc (λ x. x ≢ b) cs c (d .0) (λ q. e .0 (sym q)), distinct-snoc cs c (d .1) (e .1))
+  distinct-snoc (b ∷ cs) c d e = (every-append (λ x. x ≢ b) cs (c ∷ []) (d .0) ((λ q. e .0 (sym q)), tt), distinct-snoc cs c (d .1) (e .1))
 
   pub trace-start : (rank : List ℕ) (t : ℕ) → Traced rank t t []
   trace-start rank t = record { way = refl; distinct = tt; low = tt; goes = tt; later = tt }
 
   pub trace-step : (rank : List ℕ) (t v : ℕ) (cs : List ℕ) (c : ℕ) → Traced rank t v cs → Led lo hi sr ds go rank c v → Traced rank t (sr c) (cs ++ (c ∷ []))
   trace-step rank t v cs c w l = record {
-    way = way-snoc cs c v t (w .way) (l .high) (l .ends);
+    way = way-append hi sr ds cs (c ∷ []) (sr c) v t (w .way) (l .high, l .ends, refl);
     distinct = distinct-snoc cs c (w .distinct) (every-map (λ d. getD rank v 0 < getD rank (ds d) 0) (λ d. d ≢ c) cs (λ d h q. omega (arith, ap (λ i. getD rank (ds i) 0) q, ap (λ i. getD rank i 0) (l .ends))) (w .later));
-    low = every-snoc (λ c. lo ≤ c) cs c (w .low) (l .low);
-    goes = every-snoc (λ c. go c ≡ true) cs c (w .goes) (l .goes);
-    later = every-snoc (λ d. getD rank (sr c) 0 < getD rank (ds d) 0) cs c
+    low = every-append (λ c. lo ≤ c) cs (c ∷ []) (w .low) (l .low, tt);
+    goes = every-append (λ c. go c ≡ true) cs (c ∷ []) (w .goes) (l .goes, tt);
+    later = every-append (λ d. getD rank (sr c) 0 < getD rank (ds d) 0) cs (c ∷ [])
         (every-map (λ d. getD rank v 0 < getD rank (ds d) 0) (λ d. getD rank (sr c) 0 < getD rank (ds d) 0) cs (λ d h. omega (arith, l .earlier)) (w .later))
-        (omega (arith, l .earlier, ap (λ i. getD rank i 0) (l .ends)));
+        (omega (arith, l .earlier, ap (λ i. getD rank i 0) (l .ends)), tt);
   }
 
 -- ---- what tracing back needs to be safe and to end

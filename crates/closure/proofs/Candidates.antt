@@ -1,16 +1,16 @@
--- An arc whose step closes no cycle is no candidate; and the walks over the arcs from the last down: none of those passed is one.
+-- An arc is a candidate if its step closes a cycle, and is none otherwise; and the walks over the arcs from the last down.
 use mathlib.Core.Path.{_≡_, subst}
 use mathlib.Core.Logic.{_⊎_, inl, inr}
 use mathlib.Core.List.{List}
-use mathlib.Core.Bool.{Bool, false}
+use mathlib.Core.Bool.{Bool, true, false}
 use Prim.Native.Nat.{ℕ, suc, _-_, _≤_, _<_}
 use native.Mathlib.Omega.{arith}
 use native.Mathlib.Decide.{ℕ-discrete}
 use Rattle.network.specs.Network.{Net, arcs, tail, head}
 use Rattle.certificates.specs.Ready.{Searchable}
-use Rattle.certificates.specs.FreeArcs.{Blocked, NotRaisable, NotLowerable}
+use Rattle.certificates.specs.FreeArcs.{Reaches, Raisable, Lowerable, Blocked, NotRaisable, NotLowerable}
 use Rattle.closure.specs.Closure.{leads, Closure}
-use Rattle.closure.specs.Candidates.{HasStep, ClosesNone, NoneRaisable, NoneLowerable}
+use Rattle.closure.specs.Candidates.{HasStep, Closes, ClosesNone, NoneRaisable, LastRaisable, FirstLowerable}
 use Rattle.closure.proofs.Closure.{closure-blocked}
 
 -- what holds from a on holds from a - 1 on, once it holds of a - 1
@@ -51,6 +51,16 @@ module _ (N : Net) (f : List ℕ) (free : List Bool) where
       rows-len = cl .preorder .rows-len;
     }
 
+    -- an end that leads to the other reaches it
+    together : (s t : ℕ) → s < 64 → {P Q : Type 0} → P × Q × (leads rows s t ≡ true) → P × Q × Reaches N f free s t from
+    together s t k (p, q, e) = (p, q, cl .sound s t k e)
+
+    pub raisable : Closes (N .tails) (N .heads) f (N .ups) free rows a → Raisable N f free from a
+    raisable = together (head N a) (tail N a) (ok .head-in a h)
+
+    pub lowerable : Closes (N .heads) (N .tails) (N .lows) f free rows a → Lowerable N f free from a
+    lowerable = together (tail N a) (head N a) (ok .tail-in a h)
+
     -- an end that does not lead to the other is out of its reach
     apart : (s t : ℕ) → s < 64 → {P Q : Type 0} → P ⊎ (Q ⊎ (leads rows s t ≡ false)) → P ⊎ (Q ⊎ Blocked N f free s t from)
     apart s t k (inl p) = inl p
@@ -69,15 +79,28 @@ module _ (N : Net) (f : List ℕ) (free : List Bool) where
   pub raisable-step : (a : ℕ) → 0 < a → NoneRaisable N f free a → NotRaisable N f free (suc (a - 1)) (a - 1) → NoneRaisable N f free (a - 1)
   raisable-step a h w s = record { in-range = omega (arith, w .in-range); none = one-down (λ i. NotRaisable N f free (suc i) i) a (arcs N) s (w .none) }
 
-  pub lowerable-start : NoneLowerable N f free (arcs N) (arcs N)
-  lowerable-start = record { after = omega arith; in-range = omega arith; none = λ a h l. absurd (omega arith) }
+  -- arc after - 1 can be raised, or there is none
+  pub raisable-last : (after : ℕ) → NoneRaisable N f free after → Raisable N f free after (after - 1) → LastRaisable N f free after
+  raisable-last after w r = record { none = w; last = λ _. r }
+
+  pub raisable-none : (after : ℕ) → after ≤ 0 → NoneRaisable N f free after → LastRaisable N f free after
+  raisable-none after h w = record { none = w; last = λ l. absurd (omega arith) }
+
+  pub lowerable-start : FirstLowerable N f free (arcs N) (arcs N)
+  lowerable-start = record { none = record { after = omega arith; in-range = omega arith; none = λ a h l. absurd (omega arith) }; first = λ l. absurd (omega arith) }
 
   -- arc a - 1 is no candidate, or the first
-  pub lowerable-step : (a first : ℕ) → 0 < a → NoneLowerable N f free a first → NotLowerable N f free (suc (a - 1)) (a - 1) → NoneLowerable N f free (a - 1) first
-  lowerable-step a first h w s = record { after = omega (arith, w .after); in-range = w .in-range; none = one-down (λ i. NotLowerable N f free (suc i) i) a first s (w .none) }
+  pub lowerable-step : (a first : ℕ) → 0 < a → FirstLowerable N f free a first → NotLowerable N f free (suc (a - 1)) (a - 1) → FirstLowerable N f free (a - 1) first
+  lowerable-step a first h w s = record {
+    none = record { after = omega (arith, w .none .after); in-range = w .none .in-range; none = one-down (λ i. NotLowerable N f free (suc i) i) a first s (w .none .none) };
+    first = w .first;
+  }
 
-  pub lowerable-first : (a first : ℕ) → NoneLowerable N f free a first → NoneLowerable N f free (a - 1) (a - 1)
-  lowerable-first a first w = record { after = omega arith; in-range = omega (arith, w .after, w .in-range); none = λ i p l. absurd (omega arith) }
+  pub lowerable-first : (a first : ℕ) → FirstLowerable N f free a first → Lowerable N f free (suc (a - 1)) (a - 1) → FirstLowerable N f free (a - 1) (a - 1)
+  lowerable-first a first w r = record {
+    none = record { after = omega arith; in-range = omega (arith, w .none .after, w .none .in-range); none = λ i p l. absurd (omega arith) };
+    first = λ _. r;
+  }
 
-  pub lowerable-from : (from a first : ℕ) → from ≤ a → a ≤ from → NoneLowerable N f free a first → NoneLowerable N f free from first
-  lowerable-from from a first h k w = let e : a ≡ from = omega arith in subst (λ (i : ℕ). NoneLowerable N f free i first) e w
+  pub lowerable-from : (from a first : ℕ) → from ≤ a → a ≤ from → FirstLowerable N f free a first → FirstLowerable N f free from first
+  lowerable-from from a first h k w = let e : a ≡ from = omega arith in subst (λ (i : ℕ). FirstLowerable N f free i first) e w

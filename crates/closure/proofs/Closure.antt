@@ -16,9 +16,10 @@ use Rattle.laws.specs.Tests.{and-true, true-and, or-cases, or-left, or-right}
 use Rattle.network.specs.Network.{Net, arcs, tail, head, low, up}
 use Rattle.network.specs.Residual.{src, dst}
 use Rattle.certificates.specs.Codes.{even-code, odd-code, even-arc, odd-arc}
-use Rattle.certificates.specs.FreeArcs.{goes, Blocked}
+use Rattle.certificates.specs.FreeArcs.{goes, Reaches, Blocked}
 use Rattle.closure.specs.NodeSet.{has}
-use Rattle.closure.specs.Closure.{leads, Preorder, Joined, JoinedRows, Extended, Closure}
+use Rattle.closure.specs.Closure.{leads, Preorder, Alone, Joined, JoinedRows, Extended, Closure}
+use Rattle.closure.proofs.Reaching.{reaches-itself, reaches-by, reaches-over, reaches-earlier}
 use Rattle.closure.proofs.NodeSet.{union-has, joined-yes, joined-no, none-has}
 
 -- rows come to an end
@@ -43,13 +44,16 @@ module _ (rows : List ℕ) (l : length rows ≡ 65) (h : (u : ℕ) → u < 64 �
       go (yes k) = (k, eqb-true v u (sym (h u k v) ∙ e))
       go (no k) = absurd (let q : u ≡ 64 = omega (arith, inside rows u v e) in let n : _≡_ {A = ℕ} 0 1 = cc (e, ap (λ r. has r v) (ap (λ i. getD rows i 0) q ∙ z), none-has v) in omega arith)
 
-  pub alone : Preorder rows
+  pub alone : Alone rows
   alone = record {
-    rows-len = l;
-    nodes = λ u v e. omega (arith, itself u v e);
-    met = λ u v e. inl (sym (itself u v e .1));
-    reflexive = λ u k. h u k u ∙ eq-eqb u u refl;
-    transitive = λ u v w p q. rw (itself u v p .1) at q;
+    preorder = record {
+      rows-len = l;
+      nodes = λ u v e. omega (arith, itself u v e);
+      met = λ u v e. inl (sym (itself u v e .1));
+      reflexive = λ u k. h u k u ∙ eq-eqb u u refl;
+      transitive = λ u v w p q. rw (itself u v p .1) at q;
+    };
+    itself = λ u v e. sym (itself u v e .1);
   }
 
 -- ---- a step added
@@ -146,8 +150,8 @@ module _ (rows : List ℕ) (p q : ℕ) (pre : Preorder rows) (hp : p < 64) (hq :
     through-last y z (inr a) (inl b) = last-new z (pre .transitive q y z a b)
     through-last y z a (inr b) = last-new z (b .1)
 
-    pub stepped : (on : Bool) → Extended rows rows′ on p q
-    stepped on = record {
+    pub stepped : (on : Bool) → on ≡ true → Extended rows rows′ on p q
+    stepped on t = record {
       preorder = record {
         rows-len = j .same-len ∙ pre .rows-len;
         nodes = all-nodes;
@@ -158,43 +162,81 @@ module _ (rows : List ℕ) (p q : ℕ) (pre : Preorder rows) (hp : p < 64) (hq :
             (λ k. subst (λ (i : ℕ). leads rows′ i z ≡ true) (sym k) (through-last y z (of-last y (subst (λ (i : ℕ). leads rows′ i y ≡ true) k a)) (of-stepped y z (all-nodes x y a) b)))
             (which x y a);
       };
+      only = λ u v h e. ⊎-elim (λ a. inl a) (λ b. inr (t, b .0, b .1)) (of-stepped u v h e);
       keeps = old;
       new = λ _. by-step p q hp (pre .reflexive p hp) (pre .reflexive q hq);
     }
 
 -- nothing to add
 pub same-rows : (rows : List ℕ) (on : Bool) (p q : ℕ) → Preorder rows → (on ≡ true → leads rows p q ≡ true) → Extended rows rows on p q
-same-rows rows on p q pre h = record { preorder = pre; keeps = λ u v e. e; new = h }
+same-rows rows on p q pre h = record { preorder = pre; only = λ u v k e. inl e; keeps = λ u v e. e; new = h }
 
 -- ---- an arc added
 module _ (N : Net) (f : List ℕ) (free : List Bool) where
-  pub closure-start : (rows : List ℕ) → Preorder rows → Closure N f free (arcs N) rows
-  closure-start rows pre = record { preorder = pre; steps = λ c h l. absurd (omega arith) }
+  pub closure-start : (rows : List ℕ) → Alone rows → Closure N f free (arcs N) rows
+  closure-start rows al = record { preorder = al .preorder; steps = λ c h l. absurd (omega arith); sound = λ u v h e. reaches-itself N f free (arcs N) u v (al .itself u v e) }
 
-  pub closure-step : (a : ℕ) (rows rows′ : List ℕ) → Closure N f free (suc a) rows → Preorder rows′ → ((u v : ℕ) → leads rows u v ≡ true → leads rows′ u v ≡ true)
-      → (getD free a false ≡ true → ltb (getD f a 0) (up N a) ≡ true → leads rows′ (tail N a) (head N a) ≡ true)
-      → (getD free a false ≡ true → ltb (low N a) (getD f a 0) ≡ true → leads rows′ (head N a) (tail N a) ≡ true)
-      → Closure N f free a rows′
-  closure-step a rows rows′ cl pre keeps forth back = record { preorder = pre; steps = λ c h l. go c h l (ℕ-discrete c (a + a)) (ℕ-discrete c (suc (a + a))) }
-    where
-      even : goes N f free (a + a) ≡ true → leads rows′ (src N (a + a)) (dst N (a + a)) ≡ true
-      even g = let b = and-true (getD free a false) (ltb (getD f a 0) (up N a)) (rw (even-code a, even-arc a) at g) in rw (even-code a, even-arc a) (forth (b .0) (b .1))
+  module _ (a : ℕ) (rows : List ℕ) (cl : Closure N f free (suc a) rows) where
+    earlier : (u v : ℕ) → u < 64 → leads rows u v ≡ true → Reaches N f free u v a
+    earlier u v h e = reaches-earlier N f free a u v (cl .sound u v h e)
 
-      odd : goes N f free (suc (a + a)) ≡ true → leads rows′ (src N (suc (a + a))) (dst N (suc (a + a))) ≡ true
-      odd g = let b = and-true (getD free a false) (ltb (low N a) (getD f a 0)) (rw (odd-code a, odd-arc a) at g) in rw (odd-code a, odd-arc a) (back (b .0) (b .1))
+    steps-more : (rows′ : List ℕ) → ((u v : ℕ) → leads rows u v ≡ true → leads rows′ u v ≡ true)
+        → (getD free a false ≡ true → ltb (getD f a 0) (up N a) ≡ true → leads rows′ (tail N a) (head N a) ≡ true)
+        → (getD free a false ≡ true → ltb (low N a) (getD f a 0) ≡ true → leads rows′ (head N a) (tail N a) ≡ true)
+        → (c : ℕ) → a + a ≤ c → c < arcs N + arcs N → goes N f free c ≡ true → leads rows′ (src N c) (dst N c) ≡ true
+    steps-more rows′ keeps forth back c h l = go (ℕ-discrete c (a + a)) (ℕ-discrete c (suc (a + a)))
+      where
+        even : goes N f free (a + a) ≡ true → leads rows′ (src N (a + a)) (dst N (a + a)) ≡ true
+        even g = let b = and-true (getD free a false) (ltb (getD f a 0) (up N a)) (rw (even-code a, even-arc a) at g) in rw (even-code a, even-arc a) (forth (b .0) (b .1))
 
-      go : (c : ℕ) → a + a ≤ c → c < arcs N + arcs N → Dec (c ≡ a + a) → Dec (c ≡ suc (a + a)) → goes N f free c ≡ true → leads rows′ (src N c) (dst N c) ≡ true
-      go c h l (yes e) d = rw e even
-      go c h l (no n) (yes e) = rw e odd
-      go c h l (no n) (no m) = λ g. keeps (src N c) (dst N c) (cl .steps c (omega arith) l g)
+        odd : goes N f free (suc (a + a)) ≡ true → leads rows′ (src N (suc (a + a))) (dst N (suc (a + a))) ≡ true
+        odd g = let b = and-true (getD free a false) (ltb (low N a) (getD f a 0)) (rw (odd-code a, odd-arc a) at g) in rw (odd-code a, odd-arc a) (back (b .0) (b .1))
 
-  -- an arc that is not free has no step
-  pub closure-skip : (a : ℕ) (rows : List ℕ) → getD free a false ≡ false → Closure N f free (suc a) rows → Closure N f free a rows
-  closure-skip a rows e cl = closure-step a rows rows cl (cl .preorder) (λ u v h. h) (λ g. absurd (let z : _≡_ {A = ℕ} 0 1 = cc (e, g) in omega arith)) (λ g. absurd (let z : _≡_ {A = ℕ} 0 1 = cc (e, g) in omega arith))
+        go : Dec (c ≡ a + a) → Dec (c ≡ suc (a + a)) → goes N f free c ≡ true → leads rows′ (src N c) (dst N c) ≡ true
+        go (yes e) d = rw e even
+        go (no n) (yes e) = rw e odd
+        go (no n) (no m) = λ g. keeps (src N c) (dst N c) (cl .steps c (omega arith) l g)
 
-  pub closure-arc : (a : ℕ) (rows mid rows′ : List ℕ) → Closure N f free (suc a) rows → Extended rows mid (ltb (getD f a 0) (up N a)) (tail N a) (head N a) → Extended mid rows′ (ltb (low N a) (getD f a 0)) (head N a) (tail N a)
-      → Closure N f free a rows′
-  closure-arc a rows mid rows′ cl x y = closure-step a rows rows′ cl (y .preorder) (λ u v h. y .keeps u v (x .keeps u v h)) (λ _ o. y .keeps (tail N a) (head N a) (x .new o)) (λ _ o. y .new o)
+    -- an arc that is not free has no step
+    pub closure-skip : getD free a false ≡ false → Closure N f free a rows
+    closure-skip e = record {
+      preorder = cl .preorder;
+      steps = steps-more rows (λ u v h. h) (λ g. absurd (true≢false (sym g ∙ e))) (λ g. absurd (true≢false (sym g ∙ e)));
+      sound = earlier;
+    }
+
+    module _ (here : a < arcs N) (is-free : getD free a false ≡ true) (tail-in : tail N a < 64) (head-in : head N a < 64) (mid rows′ : List ℕ)
+        (x : Extended rows mid (ltb (getD f a 0) (up N a)) (tail N a) (head N a)) (y : Extended mid rows′ (ltb (low N a) (getD f a 0)) (head N a) (tail N a)) where
+      forward : ltb (getD f a 0) (up N a) ≡ true → Reaches N f free (tail N a) (head N a) a
+      forward o =
+          let g : goes N f free (a + a) ≡ true = rw (even-code a, even-arc a) (true-and (getD free a false) (ltb (getD f a 0) (up N a)) is-free o) in
+          let r = reaches-by N f free a (a + a) (omega arith) (omega arith) g in
+          rw (even-code a, even-arc a) at r
+
+      backward : ltb (low N a) (getD f a 0) ≡ true → Reaches N f free (head N a) (tail N a) a
+      backward o =
+          let g : goes N f free (suc (a + a)) ≡ true = rw (odd-code a, odd-arc a) (true-and (getD free a false) (ltb (low N a) (getD f a 0)) is-free o) in
+          let r = reaches-by N f free a (suc (a + a)) (omega arith) (omega arith) g in
+          rw (odd-code a, odd-arc a) at r
+
+      sound-mid : (u v : ℕ) → u < 64 → leads mid u v ≡ true → Reaches N f free u v a
+      sound-mid u v h e = ⊎-elim
+          (λ o. earlier u v h o)
+          (λ s. reaches-over N f free a u (head N a) v (reaches-over N f free a u (tail N a) (head N a) (earlier u (tail N a) h (s .1)) (forward (s .0))) (earlier (head N a) v head-in (s .2)))
+          (x .only u v h e)
+
+      sound-all : (u v : ℕ) → u < 64 → leads rows′ u v ≡ true → Reaches N f free u v a
+      sound-all u v h e = ⊎-elim
+          (λ o. sound-mid u v h o)
+          (λ s. reaches-over N f free a u (tail N a) v (reaches-over N f free a u (head N a) (tail N a) (sound-mid u (head N a) h (s .1)) (backward (s .0))) (sound-mid (tail N a) v tail-in (s .2)))
+          (y .only u v h e)
+
+      pub closure-arc : Closure N f free a rows′
+      closure-arc = record {
+        preorder = y .preorder;
+        steps = steps-more rows′ (λ u v h. y .keeps u v (x .keeps u v h)) (λ _ o. y .keeps (tail N a) (head N a) (x .new o)) (λ _ o. y .new o);
+        sound = sound-all;
+      }
 
   -- ---- what s does not lead to is out of its reach
   pub closure-blocked : (from : ℕ) (rows : List ℕ) (s t : ℕ) → Closure N f free from rows → s < 64 → leads rows s t ≡ false → Blocked N f free s t from

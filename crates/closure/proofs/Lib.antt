@@ -1,4 +1,5 @@
 mod NodeSet
+mod Reaching
 mod Closure
 mod Candidates
 mod Narrowing

@@ -7,7 +7,7 @@ use Prim.Native.Nat.{ℕ, _+_, _≤_, _<_}
 use lib.ListN.{length, getD}
 use Rattle.network.specs.Network.{Net, arcs}
 use Rattle.network.specs.Residual.{src, dst}
-use Rattle.certificates.specs.FreeArcs.{goes}
+use Rattle.certificates.specs.FreeArcs.{goes, Reaches}
 use Rattle.closure.specs.NodeSet.{has}
 
 abbrev pub leads : List ℕ → ℕ → ℕ → Bool
@@ -21,6 +21,11 @@ pub record Preorder (rows : List ℕ) : Type 0 where
   pub reflexive : (u : ℕ) → u < 64 → leads rows u u ≡ true
   pub transitive : (u v w : ℕ) → leads rows u v ≡ true → leads rows v w ≡ true → leads rows u w ≡ true
 
+-- each node leads to itself alone
+pub record Alone (rows : List ℕ) : Type 0 where
+  pub preorder : Preorder rows
+  pub itself : (u v : ℕ) → leads rows u v ≡ true → u ≡ v
+
 -- r is s, with all of t if p is in s
 abbrev pub Joined : ℕ → ℕ → ℕ → ℕ → Type 0
 Joined s t p r = (w : ℕ) → has r w ≡ (has s w || (has s p && has t w))
@@ -31,13 +36,15 @@ pub record JoinedRows (rows rows′ : List ℕ) (t p u : ℕ) : Type 0 where
   pub done : (v : ℕ) → v < u → Joined (getD rows v 0) t p (getD rows′ v 0)
   pub rest : (v : ℕ) → u ≤ v → getD rows′ v 0 ≡ getD rows v 0
 
--- rows′ has what rows has, and the step from p to q if `on`
+-- rows′ has what rows has, and the step from p to q if `on`, and what follows from it
 pub record Extended (rows rows′ : List ℕ) (on : Bool) (p q : ℕ) : Type 0 where
   pub preorder : Preorder rows′
+  pub only : (u v : ℕ) → u < 64 → leads rows′ u v ≡ true → (leads rows u v ≡ true) ⊎ ((on ≡ true) × (leads rows u p ≡ true) × (leads rows q v ≡ true))
   pub keeps : (u v : ℕ) → leads rows u v ≡ true → leads rows′ u v ≡ true
   pub new : on ≡ true → leads rows′ p q ≡ true
 
--- the steps of the codes that go, from arc `from` on
+-- the steps of the codes that go, from arc `from` on, and what follows from them
 pub record Closure (N : Net) (f : List ℕ) (free : List Bool) (from : ℕ) (rows : List ℕ) : Type 0 where
   pub preorder : Preorder rows
   pub steps : (c : ℕ) → from + from ≤ c → c < arcs N + arcs N → goes N f free c ≡ true → leads rows (src N c) (dst N c) ≡ true
+  pub sound : (u v : ℕ) → u < 64 → leads rows u v ≡ true → Reaches N f free u v from

@@ -1,16 +1,17 @@
-// Which arcs may be raised or lowered, by one walk over the arcs from the last down.
+// Which arcs can be raised or lowered, by one walk over the arcs from the last down.
 // The walk keeps the transitive closure of the residual steps of the free arcs passed: a row of 64 bits for each node, and row 64 with the
-// nodes that another node leads to, as most steps start where none leads. The closure of all of them shows which arcs may be neither.
+// nodes that another node leads to, as most steps start where none leads. The closure of all of them shows which arcs can be neither.
 ghost use mathlib.Core.Path.{_≡_};
+ghost use mathlib.Core.Logic.{_⊎_};
 ghost use mathlib.Core.Bool.{true, false, _&&_, _||_};
 ghost use Prim.Native.Nat.{ℕ, suc, _≤_, _<_};
 ghost use lib.Dec.{eqb};
-ghost use lib.ListN.{length, getD};
+ghost use lib.ListN.{length};
 ghost use Rattle.certificates.specs.Graph.{graph};
 ghost use Rattle.certificates.specs.Ready.{Searchable};
 ghost use Rattle.closure.specs.NodeSet.{has};
-ghost use Rattle.closure.specs.Closure.{Preorder, JoinedRows, Extended, Closure};
-ghost use Rattle.closure.specs.Candidates.{HasStep, ClosesNone, NoneRaisable, NoneLowerable, Narrowed};
+ghost use Rattle.closure.specs.Closure.{Preorder, Alone, JoinedRows, Extended, Closure};
+ghost use Rattle.closure.specs.Candidates.{HasStep, Closes, ClosesNone, LastRaisable, FirstLowerable, Narrowed};
 
 // Whether v is in s.
 fn has(s: u64, v: usize) -> bool
@@ -42,7 +43,7 @@ fn joined(s: u64, t: u64, p: usize) -> u64
 // Each node leads to itself alone.
 fn clear(rows: &mut [u64])
     requires { ⌜ length (now rows) ≡ 65 ⌝ }
-    ensures { λ _. ⌜ Preorder (now (rows .exit)) ⌝ }
+    ensures { λ _. ⌜ Alone (now (rows .exit)) ⌝ }
 {
     rows[64] = 0;
     let mut v = 0;
@@ -113,7 +114,7 @@ fn add_arc(
     add(rows, l < f, q, p);
 }
 
-// Whether the step of arc a from its near end to its far end closes a cycle: false only if it does not.
+// Whether the step of arc a from its near end to its far end closes a cycle.
 fn closes_cycle(
     near: &[u8],
     far: &[u8],
@@ -124,7 +125,7 @@ fn closes_cycle(
     a: usize,
 ) -> bool
     requires { ⌜ HasStep (now near) (now far) (now lowers) (now uppers) (now free) (now rows) a ⌝ }
-    ensures { λ r. ⌜ (r ≡ true → getD (now (free .entry)) a false ≡ true) × (r ≡ false → ClosesNone (now (near .entry)) (now (far .entry)) (now (lowers .entry)) (now (uppers .entry)) (now (free .entry)) (now (rows .entry)) a) ⌝ }
+    ensures { λ r. ⌜ (r ≡ true → Closes (now (near .entry)) (now (far .entry)) (now (lowers .entry)) (now (uppers .entry)) (now (free .entry)) (now (rows .entry)) a) × (r ≡ false → ClosesNone (now (near .entry)) (now (far .entry)) (now (lowers .entry)) (now (uppers .entry)) (now (free .entry)) (now (rows .entry)) a) ⌝ }
 {
     if !free[a] {
         return false;
@@ -140,7 +141,7 @@ fn closes_cycle(
     has(row, p)
 }
 
-// One more than the last arc that may be raised; 0 if there is none.
+// One more than the last arc that can be raised by way of the free arcs after it; 0 if there is none.
 pub fn after_last_raisable(
     tails: &[u8],
     heads: &[u8],
@@ -150,7 +151,7 @@ pub fn after_last_raisable(
     flow: &[u32],
 ) -> usize
     requires { ⌜ Searchable 64 (graph (now tails) (now heads) (now lows) (now ups)) (now flow) (now free) ⌝ }
-    ensures { λ r. ⌜ NoneRaisable (graph (now (tails .entry)) (now (heads .entry)) (now (lows .entry)) (now (ups .entry))) (now (flow .entry)) (now (free .entry)) r ⌝ }
+    ensures { λ r. ⌜ LastRaisable (graph (now (tails .entry)) (now (heads .entry)) (now (lows .entry)) (now (ups .entry))) (now (flow .entry)) (now (free .entry)) r ⌝ }
 {
     let mut rows = [0u64; 65];
     clear(&mut rows);
@@ -165,7 +166,7 @@ pub fn after_last_raisable(
     a
 }
 
-// The first arc from `from` on that may be lowered; the number of arcs if there is none.
+// The first arc from `from` on that can be lowered by way of the free arcs after it; the number of arcs if there is none.
 pub fn first_lowerable(
     tails: &[u8],
     heads: &[u8],
@@ -176,7 +177,7 @@ pub fn first_lowerable(
     from: usize,
 ) -> usize
     requires { ⌜ Searchable 64 (graph (now tails) (now heads) (now lows) (now ups)) (now flow) (now free) × (from ≤ length (now tails)) ⌝ }
-    ensures { λ r. ⌜ NoneLowerable (graph (now (tails .entry)) (now (heads .entry)) (now (lows .entry)) (now (ups .entry))) (now (flow .entry)) (now (free .entry)) from r ⌝ }
+    ensures { λ r. ⌜ FirstLowerable (graph (now (tails .entry)) (now (heads .entry)) (now (lows .entry)) (now (ups .entry))) (now (flow .entry)) (now (free .entry)) from r ⌝ }
 {
     let mut rows = [0u64; 65];
     clear(&mut rows);
@@ -202,7 +203,7 @@ fn add_arcs(
     flow: &[u32],
     rows: &mut [u64],
 )
-    requires { ⌜ Searchable 64 (graph (now tails) (now heads) (now lows) (now ups)) (now flow) (now free) × Preorder (now rows) ⌝ }
+    requires { ⌜ Searchable 64 (graph (now tails) (now heads) (now lows) (now ups)) (now flow) (now free) × Alone (now rows) ⌝ }
     ensures { λ _. ⌜ Closure (graph (now (tails .entry)) (now (heads .entry)) (now (lows .entry)) (now (ups .entry))) (now (flow .entry)) (now (free .entry)) 0 (now (rows .exit)) ⌝ }
 {
     let mut a = tails.len();
@@ -212,7 +213,7 @@ fn add_arcs(
     }
 }
 
-// Whether a step of arc a closes a cycle of the closure: false only if neither does.
+// Whether a step of arc a closes a cycle of the closure.
 fn on_cycle(
     tails: &[u8],
     heads: &[u8],
@@ -224,7 +225,7 @@ fn on_cycle(
     a: usize,
 ) -> bool
     requires { ⌜ HasStep (now tails) (now heads) (now flow) (now ups) (now free) (now rows) a × HasStep (now heads) (now tails) (now lows) (now flow) (now free) (now rows) a ⌝ }
-    ensures { λ r. ⌜ (r ≡ true → getD (now (free .entry)) a false ≡ true) × (r ≡ false → ClosesNone (now (tails .entry)) (now (heads .entry)) (now (flow .entry)) (now (ups .entry)) (now (free .entry)) (now (rows .entry)) a × ClosesNone (now (heads .entry)) (now (tails .entry)) (now (lows .entry)) (now (flow .entry)) (now (free .entry)) (now (rows .entry)) a) ⌝ }
+    ensures { λ r. ⌜ (r ≡ true → Closes (now (tails .entry)) (now (heads .entry)) (now (flow .entry)) (now (ups .entry)) (now (free .entry)) (now (rows .entry)) a ⊎ Closes (now (heads .entry)) (now (tails .entry)) (now (lows .entry)) (now (flow .entry)) (now (free .entry)) (now (rows .entry)) a) × (r ≡ false → ClosesNone (now (tails .entry)) (now (heads .entry)) (now (flow .entry)) (now (ups .entry)) (now (free .entry)) (now (rows .entry)) a × ClosesNone (now (heads .entry)) (now (tails .entry)) (now (lows .entry)) (now (flow .entry)) (now (free .entry)) (now (rows .entry)) a) ⌝ }
 {
     if closes_cycle(tails, heads, flow, ups, free, rows, a) {
         return true;

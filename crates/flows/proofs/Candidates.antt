@@ -1,5 +1,6 @@
 -- Arcs that are no candidates are passed over. Arcs that no flow moves need no mark.
 use mathlib.Core.Path.{_≡_}
+use mathlib.Core.Logic.{⊎-elim}
 use mathlib.Core.List.{List}
 use mathlib.Core.Bool.{Bool}
 use Prim.Native.Nat.{ℕ, _≤_, _<_}
@@ -22,7 +23,7 @@ module _ (t h l u : List ℕ) (b c : List ℤ) (π : ℕ → ℤ) (tight : List 
   pub narrowed : (left : List Bool) → Narrowed (graph t h l u) f tight left → Tight (netWith b t h l u c) π left f
   narrowed left n = record {
     well-formed = ti .well-formed;
-    marked = λ a p e. ti .marked a p (n .left a p e);
+    marked = λ a p e. ti .marked a p (⊎-elim (λ r. r .0) (λ r. r .0) (n .left a p e));
     unmarked = λ a p e g lg. same a p g lg (n .others a p e);
     least = ti .least;
     optimal = ti .optimal;

@@ -34,7 +34,8 @@ pub fn minimise(
     }
 }
 
-// The least-cost flow after this one; false, and the same flow, if it is the last. Every arc after the first one tried cannot be raised.
+// The least-cost flow after this one: the last arc that can be raised is, by 1, and the arcs after it are as low as they can be. False, and
+// the same flow, if there is none.
 pub fn next(
     tails: &[u8],
     heads: &[u8],
@@ -46,15 +47,13 @@ pub fn next(
     requires { ⌜ Ready (graph (now tails) (now heads) (now lows) (now ups)) (now flow) (now tight) ⌝ }
     ensures { λ r. ⌜ InBounds (graph (now (tails .entry)) (now (heads .entry)) (now (lows .entry)) (now (ups .entry))) (now (flow .exit)) × (r ≡ false → now (flow .exit) ≡ now (flow .entry)) × ForAll (now (tails .entry)) (now (heads .entry)) (now (lows .entry)) (now (ups .entry)) (λ N π. Tight N π (now (tight .entry)) (now (flow .entry)) → Next N (now (flow .entry)) (now (flow .exit)) r) ⌝ }
 {
-    let mut k = closure::after_last_raisable(tails, heads, lows, ups, tight, flow);
-    while 0 < k {
-        k -= 1;
-        if arc_change::raise(tails, heads, lows, ups, tight, flow, k) {
-            minimise(tails, heads, lows, ups, tight, flow, k + 1);
-            return true;
-        }
+    let k = closure::after_last_raisable(tails, heads, lows, ups, tight, flow);
+    if k == 0 {
+        return false;
     }
-    false
+    arc_change::raise(tails, heads, lows, ups, tight, flow, k - 1);
+    minimise(tails, heads, lows, ups, tight, flow, k);
+    true
 }
 
 // How many least-cost flows there are, given the first; one more than the cap if there are more than the cap.

@@ -45,6 +45,10 @@ module _ {A : Type 0} where
   every-map P Q [] g e = tt
   every-map P Q (a ∷ l) g e = (g a (e .0), every-map P Q l g (e .1))
 
+  pub every-append : (P : A → Type 0) (l k : List A) → Every P l → Every P k → Every P (l ++ k)
+  every-append P [] k e d = d
+  every-append P (a ∷ l) k e d = (e .0, every-append P l k (e .1) d)
+
   pub every-map2 : (P Q R : A → Type 0) (l : List A) → ((a : A) → P a → Q a → R a) → Every P l → Every Q l → Every R l
   every-map2 P Q R [] g d e = tt
   every-map2 P Q R (a ∷ l) g d e = (g a (d .0) (e .0), every-map2 P Q R l g (d .1) (e .1))

@@ -1,21 +1,18 @@
-use mathlib.Core.Path.{_≡_, refl}
-use mathlib.Core.Logic.{inl, inr}
+use mathlib.Core.Path.{refl}
 use mathlib.Core.List.{List}
 use Prim.Native.Nat.{_≤_, _+_, ℕ, suc}
 use native.Mathlib.Omega.{arith}
 use native.Mathlib.Numerals.{add-one}
 use lib.ListN.{length, getD, take}
 use lib.IntN.{ℤ}
-use borrow.Author.Tests.{not-true, not-false}
 use borrow.Author.Needs.{needs}
 use Rattle.network.specs.Network.{Net}
 use Rattle.certificates.specs.Graph.{graph, netWith}
 use Rattle.certificates.specs.FreeArcs.{Path}
 use Rattle.pushing.proofs.Lists.{bounds-without-heads, bounds-with-heads, small-without-heads}
 use Rattle.arc_change.proofs.Lists.{path-net}
-use Rattle.arc_change.proofs.Candidates.{no-more}
 use Rattle.arc_change.proofs.Detours.{path-room, room-without-heads}
-use Rattle.arc_change.proofs.Raising.{raise-no, raise-yes}
+use Rattle.arc_change.proofs.Raising.{unblocked, raised-one}
 use Rattle.arc_change.proofs.raise.Statement.{statement}
 use Rattle.arc_change.proofs.raise.Tie as tie
 
@@ -27,7 +24,7 @@ whole s b c = netWith b (s .args .tails .now) (s .args .heads .now) (s .args .lo
 
 -- where the codes are used
 abbrev start : tie.After-codes3 → tie.Start
-start d = d .before .before .before .before .before .before .before .before .before .before .before .before .before .before .before .before .before .before .before .before .before .before
+start d = d .before .before .before .before .before .before .before .before .before .before .before .before .before .before .before .before .before
 
 -- how many there are, and the codes
 abbrev len-of : tie.After-codes3 → ℕ
@@ -42,50 +39,56 @@ told d = rw (d .before .before .before .route .given .1) at (d .before .before .
 path-of : (d : tie.After-codes3) → Path (part (start d)) (start d .args .flow .now) (start d .args .tight .now) (getD (start d .args .heads .now) (start d .args .a) 0) (getD (start d .args .tails .now) (start d .args .a) 0) (suc (start d .args .a)) (codes-of d)
 path-of d = rw add-one at (told d .1)
 
-returns : tie.Need-returns
-returns c = let s = c .before .before .before .before .before .before .before .before in (s .pre .0 .bounds, λ _. refl, λ b d π ti. raise-no (whole s b d) π (s .args .tight .now) (s .args .flow .now) (s .args .a) (s .pre .1) ti (s .args .flow .now) (no-more (s .args .tails .now) (s .args .heads .now) (s .args .lows .now) (s .args .ups .now) b d π (s .args .tight .now) (s .args .flow .now) ti (s .args .a) (s .pre .1) (inl (not-true _ (c .if1 .taken)))))
-
-returns-2 : tie.Need-returns-2
-returns-2 c = let s = c .before .before .before .before .before .before .before .before .before .before .before in (s .pre .0 .bounds, λ _. refl, λ b d π ti. raise-no (whole s b d) π (s .args .tight .now) (s .args .flow .now) (s .args .a) (s .pre .1) ti (s .args .flow .now) (no-more (s .args .tails .now) (s .args .heads .now) (s .args .lows .now) (s .args .ups .now) b d π (s .args .tight .now) (s .args .flow .now) ti (s .args .a) (s .pre .1) (inr (inl (c .if2 .taken)))))
-
 cast-s : tie.Need-cast-s
-cast-s c = let s = c .before .before .before .before .before .before .before .before .before .before .before .before in omega (arith, s .pre .0 .searchable .tail-in (s .args .a) (s .pre .1))
+cast-s c = let s = c .before .before .before .before .before .before .before in omega (arith, s .pre .0 .searchable .tail-in (s .args .a) (s .pre .1))
 
 cast-t : tie.Need-cast-t
-cast-t c = let s = c .before .before .before .before .before .before .before .before .before .before .before .before .before in omega (arith, s .pre .0 .searchable .head-in (s .args .a) (s .pre .1))
+cast-t c = let s = c .before .before .before .before .before .before .before .before in omega (arith, s .pre .0 .searchable .head-in (s .args .a) (s .pre .1))
 
 detour-requires : tie.Need-detour-requires
-detour-requires c κs = let s = c .before .before .before .before .before .before .before .before .before .before .before .before .before .before .before in (s .pre .0 .searchable, omega (arith, s .pre .1, s .pre .0 .searchable .few), s .pre .0 .searchable .head-in (s .args .a) (s .pre .1), s .pre .0 .searchable .tail-in (s .args .a) (s .pre .1), refl)
+detour-requires c κs = let s = c .before .before .before .before .before .before .before .before .before .before in (s .pre .0 .searchable, omega (arith, s .pre .1, s .pre .0 .searchable .few), s .pre .0 .searchable .head-in (s .args .a) (s .pre .1), s .pre .0 .searchable .tail-in (s .args .a) (s .pre .1), refl)
 
-returns-4 : tie.Need-returns-4
-returns-4 c = let s = c .before .before .before .before .before .before .before .before .before .before .before .before .before .before .before .before .before .before .before in (
-  s .pre .0 .bounds,
-  λ _. refl,
-  λ b d π ti. raise-no (whole s b d) π (s .args .tight .now) (s .args .flow .now) (s .args .a) (s .pre .1) ti (s .args .flow .now)
-      (no-more (s .args .tails .now) (s .args .heads .now) (s .args .lows .now) (s .args .ups .now) b d π (s .args .tight .now) (s .args .flow .now) ti (s .args .a) (s .pre .1) (inr (inr (rw add-one at (rw (c .enum-told .given .1) at (c .before .before .before .detour .ensures)))))),
-)
+-- there is a path
+returns : tie.Need-returns
+returns c =
+    let s = c .before .before .before .before .before .before .before .before .before .before .before .before .before .before in
+    absurd
+    (unblocked (part s) (s .args .flow .now) (s .args .tight .now) (getD (s .args .heads .now) (s .args .a) 0) (getD (s .args .tails .now) (s .args .a) 0) (suc (s .args .a)) (s .pre .2 .2)
+    (rw add-one at (rw (c .enum-told .given .1) at (c .before .before .before .detour .ensures))))
 
 put-on-requires : tie.Need-put-on-requires
-put-on-requires c κs = let s = c .before .before .before .before .before .before .before .before .before .before .before .before .before .before .before .before .before .before .before .before .before .before in (
+put-on-requires c κs = let s = start c in (
   told c .0,
   small-without-heads (s .args .tails .now) (s .args .heads .now) (s .args .lows .now) (s .args .ups .now) (s .args .flow .now) (s .pre .0 .small),
   bounds-without-heads (s .args .tails .now) (s .args .heads .now) (s .args .lows .now) (s .args .ups .now) (s .args .flow .now) (s .pre .0 .bounds),
   s .pre .1,
-  c .before .before .before .before .before .before .before .before .before .before .before .if2 .left,
+  s .pre .2 .1,
   room-without-heads (s .args .tails .now) (s .args .heads .now) (s .args .lows .now) (s .args .ups .now) (s .args .flow .now) (s .args .a) (codes-of c) (path-room (part s) (s .args .flow .now) (s .args .tight .now) (getD (s .args .heads .now) (s .args .a) 0) (getD (s .args .tails .now) (s .args .a) 0) (s .args .a) (codes-of c) (path-of c)),
 )
 
-returns-3 : tie.Need-returns-3
-returns-3 c = let d = c .before .before .before in let s = start d in let o = c .before .before .put-on in (
+returns-2 : tie.Need-returns-2
+returns-2 c = let d = c .before .before .before in let s = start d in let o = c .before .before .put-on in (
   bounds-with-heads (s .args .tails .now) (s .args .heads .now) (s .args .lows .now) (s .args .ups .now) _ (o .ensures .bounds),
-  λ e. absurd (let z : _≡_ {A = ℕ} 0 1 = cc in omega arith),
-  λ b x π ti. raise-yes (whole s b x) π (s .args .tight .now) (s .args .flow .now) (s .args .a) (s .pre .1) ti _ (codes-of d) (not-false _ (d .before .before .before .before .before .before .before .before .before .before .before .before .before .before .if1 .left)) (d .before .before .before .before .before .before .before .before .before .before .before .if2 .left)
+  λ b x π ti. raised-one (whole s b x) π (s .args .tight .now) (s .args .flow .now) (s .args .a) (s .pre .1) ti _ (codes-of d) (s .pre .2 .0) (s .pre .2 .1)
       (path-net (s .args .tails .now) (s .args .heads .now) (s .args .lows .now) (s .args .ups .now) (s .args .flow .now) b x (s .args .tight .now) (getD (s .args .heads .now) (s .args .a) 0) (getD (s .args .tails .now) (s .args .a) 0) (suc (s .args .a)) (codes-of d) (path-of d)) (o .ensures .exact),
 )
 
 pub raise-spec : {M : Type 1} → statement M
 raise-spec =
     tie.close
-    (tie.spec (λ c. search needs) returns (λ c. search needs) (λ c. search needs) (λ c. search needs) (λ c. search needs) returns-2
-    (λ c. search needs) cast-s (λ c. search needs) cast-t (λ c. search needs) (λ c. search needs) detour-requires (λ c. search needs)
-    (λ c. search needs) put-on-requires (λ c. search needs) (λ c. search needs) returns-3 (λ c. search needs) returns-4)
+    (tie.spec
+    (λ c. search needs)
+    cast-s
+    (λ c. search needs)
+    cast-t
+    (λ c. search needs)
+    (λ c. search needs)
+    detour-requires
+    (λ c. search needs)
+    (λ c. search needs)
+    put-on-requires
+    (λ c. search needs)
+    (λ c. search needs)
+    returns
+    (λ c. search needs)
+    returns-2)

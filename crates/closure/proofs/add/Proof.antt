@@ -2,7 +2,7 @@ use mathlib.Core.Path.{_≡_, sym, _∙_}
 use Prim.Native.Nat.{ℕ}
 use native.Mathlib.Omega.{arith}
 use borrow.Author.Needs.{needs}
-use borrow.Author.Tests.{not-true}
+use borrow.Author.Tests.{not-true, not-false}
 use Rattle.closure.proofs.Closure.{stepped-all, stepped-one, stepped, same-rows}
 use Rattle.closure.proofs.add.Statement.{statement}
 use Rattle.closure.proofs.add.Tie as tie
@@ -18,13 +18,13 @@ returns-3 c =
     let t = c .before .before .before .before in
     let s = t .before .before .before .before .before .before .before .before .before in
     stepped (s .args .rows .now) (s .args .p) (s .args .q) (s .pre .0) (s .pre .1) (s .pre .2) _
-    (stepped-all (s .args .rows .now) (s .args .p) (s .args .q) (s .pre .0) (s .pre .1) (s .pre .2) _ (sym (t .before .has2 .ensures) ∙ t .if3 .taken) (c .before .before .join-rows .ensures)) (s .args .on)
+    (stepped-all (s .args .rows .now) (s .args .p) (s .args .q) (s .pre .0) (s .pre .1) (s .pre .2) _ (sym (t .before .has2 .ensures) ∙ t .if3 .taken) (c .before .before .join-rows .ensures)) (s .args .on) (not-false (s .args .on) (t .before .before .before .before .before .before .before .if1 .left))
 
 returns-4 : tie.Need-returns-4
 returns-4 c =
     let s = c .before .before .before .before .before .before .before .before .before in
     stepped (s .args .rows .now) (s .args .p) (s .args .q) (s .pre .0) (s .pre .1) (s .pre .2) _
-    (stepped-one (s .args .rows .now) (s .args .p) (s .args .q) (s .pre .0) (s .pre .1) (s .pre .2) (sym (c .before .has2 .ensures) ∙ c .if3 .left)) (s .args .on)
+    (stepped-one (s .args .rows .now) (s .args .p) (s .args .q) (s .pre .0) (s .pre .1) (s .pre .2) (sym (c .before .has2 .ensures) ∙ c .if3 .left)) (s .args .on) (not-false (s .args .on) (c .before .before .before .before .before .before .before .if1 .left))
 
 pub add-spec : {M : Type 1} → statement M
 add-spec =

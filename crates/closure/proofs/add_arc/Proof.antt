@@ -1,6 +1,6 @@
 use native.Mathlib.Omega.{arith}
 use borrow.Author.Needs.{needs}
-use borrow.Author.Tests.{not-true}
+use borrow.Author.Tests.{not-true, not-false}
 use Rattle.network.specs.Network.{Net}
 use Rattle.certificates.specs.Graph.{graph}
 use Rattle.closure.proofs.Closure.{closure-skip, closure-arc}
@@ -11,7 +11,7 @@ abbrev part : tie.Start → Net
 part s = graph (s .args .tails .now) (s .args .heads .now) (s .args .lows .now) (s .args .ups .now)
 
 returns : tie.Need-returns
-returns c = let s = c .before .before .before .before .before .before .before .before .before in closure-skip (part s) (s .args .flow .now) (s .args .free .now) (s .args .a) (s .args .rows .now) (not-true _ (c .if1 .taken)) (s .pre .2)
+returns c = let s = c .before .before .before .before .before .before .before .before .before in closure-skip (part s) (s .args .flow .now) (s .args .free .now) (s .args .a) (s .args .rows .now) (s .pre .2) (not-true _ (c .if1 .taken))
 
 cast-p : tie.Need-cast-p
 cast-p c = let s = c .before .before .before .before .before .before .before .before .before .before in omega (arith, s .pre .0 .tail-in (s .args .a) (s .pre .1))
@@ -26,7 +26,12 @@ add-requires-2 : tie.Need-add-requires-2
 add-requires-2 c κs = let s = c .before .before .before .before .before .before .before .before .before .before .before .before .before .before .before .before .before .before .before in (c .before .before .before .add .ensures .preorder, s .pre .0 .head-in (s .args .a) (s .pre .1), s .pre .0 .tail-in (s .args .a) (s .pre .1))
 
 returns-2 : tie.Need-returns-2
-returns-2 c = let s = c .before .before .before .before .before .before .before .before .before .before .before .before .before .before .before .before .before .before .before .before .before .before in closure-arc (part s) (s .args .flow .now) (s .args .free .now) (s .args .a) (s .args .rows .now) (c .before .before .before .before .before .before .add .last .0) _ (s .pre .2) (c .before .before .before .before .before .before .add .ensures) (c .before .before .add2 .ensures)
+returns-2 c =
+    let x = c .before .before .before .before .before .before in
+    let e = x .before .before .before .before .before .before .before in
+    let s = e .before .before .before .before .before .before .before .before .before in
+    closure-arc (part s) (s .args .flow .now) (s .args .free .now) (s .args .a) (s .args .rows .now) (s .pre .2) (s .pre .1) (not-false _ (e .if1 .left)) (s .pre .0 .tail-in (s .args .a) (s .pre .1)) (s .pre .0 .head-in (s .args .a) (s .pre .1)) (x .add .last .0) _ (x .add .ensures)
+    (c .before .before .add2 .ensures)
 
 pub add-arc-spec : {M : Type 1} → statement M
 add-arc-spec =

@@ -43,7 +43,7 @@ loop-again : tie.Need-loop-again Inv-loop μ-loop
 loop-again c = (omega (arith, c .before .before .before .before .before .loop .inv .0), c .before .before .add-arc .ensures)
 
 same-length : tie.Need-same-length Inv-loop μ-loop
-same-length c = c .before .loop .inv .1 .preorder .rows-len ∙ sym (start (c .before) .pre .1 .rows-len)
+same-length c = c .before .loop .inv .1 .preorder .rows-len ∙ sym (start (c .before) .pre .1 .preorder .rows-len)
 
 returns : tie.Need-returns Inv-loop μ-loop
 returns c =

@@ -8,7 +8,7 @@ use Rattle.certificates.specs.Graph.{graph}
 use Rattle.closure.specs.Closure.{Closure}
 use Rattle.closure.specs.Candidates.{NoneRaisable}
 use Rattle.closure.proofs.Closure.{closure-start}
-use Rattle.closure.proofs.Candidates.{before-arc, raises, not-raisable, raisable-start, raisable-step}
+use Rattle.closure.proofs.Candidates.{before-arc, raises, raisable, not-raisable, raisable-start, raisable-step, raisable-last, raisable-none}
 use Rattle.closure.proofs.after_last_raisable.Statement.{statement}
 use Rattle.closure.proofs.after_last_raisable.Tie as tie
 
@@ -48,7 +48,11 @@ closes-cycle-requires : tie.Need-closes-cycle-requires Inv-loop μ-loop
 closes-cycle-requires c κs = let i = c .before in raises (part (start (i .before))) _ _ (start (i .before) .pre) _ (i .before .loop .rows) (low i) _ (behind i)
 
 returns : tie.Need-returns Inv-loop μ-loop
-returns c = c .before .before .before .before .loop .inv .1
+returns c =
+    let i = c .before .before .before in
+    let s = start (i .before) in
+    let l = i .before .loop in
+    raisable-last (part s) (s .args .flow .now) (s .args .free .now) (l .a) (l .inv .1) (raisable (part s) _ _ (s .pre) _ (l .rows) (low i) _ (l .inv .0) (c .before .closes-cycle .ensures .0 (c .if1 .taken)))
 
 sub-a : tie.Need-sub-a Inv-loop μ-loop
 sub-a c = omega (arith, c .before .before .before .loop-test .taken)
@@ -73,7 +77,7 @@ loop-again c =
     )
 
 returns-2 : tie.Need-returns-2 Inv-loop μ-loop
-returns-2 c = c .before .loop .inv .1
+returns-2 c = let s = start (c .before) in raisable-none (part s) (s .args .flow .now) (s .args .free .now) (c .before .loop .a) (c .loop-test .left) (c .before .loop .inv .1)
 
 pub after-last-raisable-spec : {M : Type 1} → statement M
 after-last-raisable-spec =

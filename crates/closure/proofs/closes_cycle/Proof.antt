@@ -1,6 +1,7 @@
 use mathlib.Core.Path.{sym, _∙_}
 use mathlib.Core.Bool.{true≢false}
 use mathlib.Core.Logic.{inl, inr}
+use native.Mathlib.Omega.{arith}
 use borrow.Author.Needs.{needs}
 use borrow.Author.Tests.{not-true, not-false}
 use Rattle.closure.proofs.closes_cycle.Statement.{statement}
@@ -13,7 +14,7 @@ returns-2 : tie.Need-returns-2
 returns-2 c = (λ e. absurd (true≢false (sym e)), λ _. inr (inl (c .if2 .taken)))
 
 returns-3 : tie.Need-returns-3
-returns-3 c = (λ _. not-false _ (c .before .before .before .before .before .before .before .if1 .left), λ e. inr (inr (sym (c .has .ensures) ∙ e)))
+returns-3 c = (λ e. (not-false _ (c .before .before .before .before .before .before .before .if1 .left), omega (arith, c .before .before .before .before .if2 .left), sym (c .has .ensures) ∙ e), λ e. inr (inr (sym (c .has .ensures) ∙ e)))
 
 pub closes-cycle-spec : {M : Type 1} → statement M
 closes-cycle-spec =

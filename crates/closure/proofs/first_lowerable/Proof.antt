@@ -7,14 +7,14 @@ use borrow.Author.Needs.{needs}
 use Rattle.network.specs.Network.{Net}
 use Rattle.certificates.specs.Graph.{graph}
 use Rattle.closure.specs.Closure.{Closure}
-use Rattle.closure.specs.Candidates.{NoneLowerable}
+use Rattle.closure.specs.Candidates.{FirstLowerable}
 use Rattle.closure.proofs.Closure.{closure-start}
-use Rattle.closure.proofs.Candidates.{before-arc, lowers, not-lowerable, lowerable-start, lowerable-step, lowerable-first, lowerable-from}
+use Rattle.closure.proofs.Candidates.{before-arc, lowers, lowerable, not-lowerable, lowerable-start, lowerable-step, lowerable-first, lowerable-from}
 use Rattle.closure.proofs.first_lowerable.Statement.{statement}
 use Rattle.closure.proofs.first_lowerable.Tie as tie
 
 abbrev Inv-loop : tie.InvT-loop
-Inv-loop tails heads lows ups free flow from rows₀ a₀ first₀ rows a first = (from ≤ a) × Closure (graph tails heads lows ups) flow free a rows × NoneLowerable (graph tails heads lows ups) flow free a first
+Inv-loop tails heads lows ups free flow from rows₀ a₀ first₀ rows a first = (from ≤ a) × Closure (graph tails heads lows ups) flow free a rows × FirstLowerable (graph tails heads lows ups) flow free a first
 
 abbrev μ-loop : tie.MeasureT-loop
 μ-loop tails heads lows ups free flow from rows₀ a₀ first₀ rows a first = a
@@ -31,7 +31,7 @@ some : (c : tie.In-loop Inv-loop μ-loop) → 0 < c .before .loop .a
 some c = omega (arith, c .loop-test .taken)
 
 low : (c : tie.In-loop Inv-loop μ-loop) → c .before .loop .a - 1 < length (start (c .before) .args .tails .now)
-low c = omega (arith, some c, c .before .loop .inv .2 .after, c .before .loop .inv .2 .in-range)
+low c = omega (arith, some c, c .before .loop .inv .2 .none .after, c .before .loop .inv .2 .none .in-range)
 
 behind : (c : tie.In-loop Inv-loop μ-loop) → Closure (part (start (c .before))) (start (c .before) .args .flow .now) (start (c .before) .args .free .now) (suc (c .before .loop .a - 1)) (c .before .loop .rows)
 behind c = before-arc (part (start (c .before))) _ _ (c .before .loop .a) (c .before .loop .rows) (some c) (c .before .loop .inv .1)
@@ -68,8 +68,9 @@ loop-again c =
       omega (arith, i .loop-test .taken),
       c .before .add-arc .ensures,
       ⊎-elim
-          (λ w. subst (λ (k : ℕ). NoneLowerable (part s) (s .args .flow .now) (s .args .free .now) (l .a - 1) k) (sym (w .1)) (lowerable-first (part s) (s .args .flow .now) (s .args .free .now) (l .a) (l .first) (l .inv .2)))
-          (λ w. subst (λ (k : ℕ). NoneLowerable (part s) (s .args .flow .now) (s .args .free .now) (l .a - 1) k) (sym (w .1)) (lowerable-step (part s) (s .args .flow .now) (s .args .free .now) (l .a) (l .first) (some i) (l .inv .2)
+          (λ w. subst (λ (k : ℕ). FirstLowerable (part s) (s .args .flow .now) (s .args .free .now) (l .a - 1) k) (sym (w .1)) (lowerable-first (part s) (s .args .flow .now) (s .args .free .now) (l .a) (l .first) (l .inv .2)
+          (lowerable (part s) _ _ (s .pre .0) (l .a - 1) (l .rows) (low i) _ (behind i) (c .before .before .before .before .closes-cycle .ensures .0 (w .0 .taken)))))
+          (λ w. subst (λ (k : ℕ). FirstLowerable (part s) (s .args .flow .now) (s .args .free .now) (l .a - 1) k) (sym (w .1)) (lowerable-step (part s) (s .args .flow .now) (s .args .free .now) (l .a) (l .first) (some i) (l .inv .2)
           (not-lowerable (part s) _ _ (s .pre .0) (l .a - 1) (l .rows) (low i) _ (behind i) (c .before .before .before .before .closes-cycle .ensures .1 (w .0 .left)))))
           (c .before .before .before .if1 .came),
     )

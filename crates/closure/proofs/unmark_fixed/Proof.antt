@@ -31,7 +31,7 @@ clear-requires : tie.Need-clear-requires Inv-loop μ-loop
 clear-requires c κs = refl
 
 slice-aggregate-add-arcs : tie.Need-slice-aggregate-add-arcs Inv-loop μ-loop
-slice-aggregate-add-arcs c = sym (c .before .before .before .clear .ensures .rows-len)
+slice-aggregate-add-arcs c = sym (c .before .before .before .clear .ensures .preorder .rows-len)
 
 add-arcs-requires : tie.Need-add-arcs-requires Inv-loop μ-loop
 add-arcs-requires c κs = (c .before .before .before .before .before .before .before .before .before .before .before .pre, c .before .before .before .clear .ensures)

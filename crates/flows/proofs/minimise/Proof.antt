@@ -32,7 +32,7 @@ first-lowerable-requires : tie.Need-first-lowerable-requires Inv-loop μ-loop
 first-lowerable-requires c κs = let s = c .before .before .before .before .before .before .before in (s .pre .0 .searchable, s .pre .1)
 
 loop-holds : tie.Need-loop-holds Inv-loop μ-loop
-loop-holds c = let s = c .before .before .before .before .before .before .before .before in let w = c .first-lowerable .ensures in (w .after, refl, s .pre .0 .bounds, λ b d π ti. min-pass (s .args .tails .now) (s .args .heads .now) (s .args .lows .now) (s .args .ups .now) b d π (s .args .tight .now) (s .args .flow .now) ti (s .args .flow .now) (s .args .k) (s .args .k) (c .first-lowerable .result) w (min-start (whole s b d) (s .args .flow .now) (s .args .k) (ti .least)))
+loop-holds c = let s = c .before .before .before .before .before .before .before .before in let w = c .first-lowerable .ensures .none in (w .after, refl, s .pre .0 .bounds, λ b d π ti. min-pass (s .args .tails .now) (s .args .heads .now) (s .args .lows .now) (s .args .ups .now) b d π (s .args .tight .now) (s .args .flow .now) ti (s .args .flow .now) (s .args .k) (s .args .k) (c .first-lowerable .result) w (min-start (whole s b d) (s .args .flow .now) (s .args .k) (ti .least)))
 
 lower-requires : tie.Need-lower-requires Inv-loop μ-loop
 lower-requires c κs = let s = c .before .before .before .before .before .before .before .before .before .before .before in let a = c .before .before .loop in (ready-again (part s) (s .args .flow .now) (a .flow) (s .args .tight .now) (a .inv .1) (a .inv .2) (s .pre .0), c .before .loop-test .taken)
@@ -44,10 +44,10 @@ first-lowerable-requires-2 : tie.Need-first-lowerable-requires-2 Inv-loop μ-loo
 first-lowerable-requires-2 c κs = let t = c .before .before .before .before .before in let s = t .before .before .before .before .before .before .before .before .before .before in let a = t .before .loop in let o = c .before .before .before .lower in (searchable-again 64 (part s) (s .args .flow .now) _ (s .args .tight .now) (o .kept .1 .1 .1 .1 .1 .0 ∙ a .inv .1) (s .pre .0 .searchable), omega (arith, t .loop-test .taken))
 
 loop-less : tie.Need-loop-less Inv-loop μ-loop
-loop-less c = let t = c .before .before .before .before .before .before in omega (arith, t .loop-test .taken, c .first-lowerable2 .ensures .after, c .first-lowerable2 .ensures .in-range)
+loop-less c = let t = c .before .before .before .before .before .before in omega (arith, t .loop-test .taken, c .first-lowerable2 .ensures .none .after, c .first-lowerable2 .ensures .none .in-range)
 
 loop-again : tie.Need-loop-again Inv-loop μ-loop
-loop-again c = let t = c .before .before .before .before .before .before in let s = t .before .before .before .before .before .before .before .before .before .before in let a = t .before .loop in let o = c .before .before .before .before .lower in let w = c .first-lowerable2 .ensures in (
+loop-again c = let t = c .before .before .before .before .before .before in let s = t .before .before .before .before .before .before .before .before .before .before in let a = t .before .loop in let o = c .before .before .before .before .lower in let w = c .first-lowerable2 .ensures .none in (
   omega (arith, a .inv .0, w .after),
   o .kept .1 .1 .1 .1 .1 .0 ∙ a .inv .1,
   o .ensures .0,
