@@ -153,19 +153,6 @@ fn first_excess(excess: &[i64]) -> usize
     i
 }
 
-// The numbers of `from`, into `to`.
-fn copy(from: &[u32], to: &mut [u32])
-    requires { ⌜ length (now to) ≡ length (now from) ⌝ }
-    ensures { λ _. ⌜ now (to .exit) ≡ now (from .entry) ⌝ }
-{
-    let mut i = 0;
-    while i < from.len() {
-        let x = from[i];
-        to[i] = x;
-        i += 1;
-    }
-}
-
 // What the balances sum to.
 fn total(balances: &[i32]) -> i64
     requires { ⌜ (length (now balances) ≤ 64) × ((v : ℕ) → Bounded 1000000000 (getD (now balances) v (pos 0))) ⌝ }
@@ -180,18 +167,7 @@ fn total(balances: &[i32]) -> i64
     sum
 }
 
-// The numbers as they are if they are within the bounds, or else the lower bounds.
-fn bring_in_bounds(lows: &[u32], ups: &[u32], flow: &mut [u32])
-    requires { ⌜ (length (now lows) ≡ length (now flow)) × (length (now ups) ≡ length (now flow)) × ((a : ℕ) → a < length (now flow) → getD (now lows) a 0 ≤ getD (now ups) a 0) ⌝ }
-    ensures { λ _. ⌜ InBounds (graph (now (flow .exit)) (now (flow .exit)) (now (lows .entry)) (now (ups .entry))) (now (flow .exit)) ⌝ }
-{
-    if within_bounds(lows, ups, flow) {
-        return;
-    }
-    copy(lows, flow);
-}
-
-// A flow, where the balances sum to 0; false if there is none. `excess` is room to work in.
+// A flow, where the balances sum to 0; false if there is none. It starts from `flow`; `excess` is room to work in.
 fn from_bounds(
     tails: &[u8],
     heads: &[u8],
@@ -202,10 +178,9 @@ fn from_bounds(
     flow: &mut [u32],
     excess: &mut [i64],
 ) -> bool
-    requires { ⌜ Given (now balances) (now tails) (now heads) (now lows) (now ups) (now flow) × AllFree (now tails) (now free) × (length (now excess) ≡ length (now balances)) × (sum (length (now balances)) (λ v. getD (now balances) v (pos 0)) ≡ pos 0) ⌝ }
+    requires { ⌜ Given (now balances) (now tails) (now heads) (now lows) (now ups) (now flow) × InBounds (graph (now tails) (now heads) (now lows) (now ups)) (now flow) × AllFree (now tails) (now free) × (length (now excess) ≡ length (now balances)) × (sum (length (now balances)) (λ v. getD (now balances) v (pos 0)) ≡ pos 0) ⌝ }
     ensures { λ r. ⌜ Answer (now (balances .entry)) (now (tails .entry)) (now (heads .entry)) (now (lows .entry)) (now (ups .entry)) (now (flow .exit)) r ⌝ }
 {
-    bring_in_bounds(lows, ups, flow);
     loop {
         excess_of(tails, heads, balances, flow, excess);
         let s = first_excess(excess);
@@ -218,7 +193,7 @@ fn from_bounds(
     }
 }
 
-// A flow; false if there is none. It starts from `flow` if that is within the bounds: a good guess saves the work.
+// A flow; false if there is none. It starts from `flow`, which is within the bounds: a good guess saves the work.
 pub fn feasible(
     tails: &[u8],
     heads: &[u8],
@@ -227,7 +202,7 @@ pub fn feasible(
     balances: &[i32],
     flow: &mut [u32],
 ) -> bool
-    requires { ⌜ Given (now balances) (now tails) (now heads) (now lows) (now ups) (now flow) ⌝ }
+    requires { ⌜ Given (now balances) (now tails) (now heads) (now lows) (now ups) (now flow) × InBounds (graph (now tails) (now heads) (now lows) (now ups)) (now flow) ⌝ }
     ensures { λ r. ⌜ Answer (now (balances .entry)) (now (tails .entry)) (now (heads .entry)) (now (lows .entry)) (now (ups .entry)) (now (flow .exit)) r ⌝ }
 {
     if total(balances) != 0 {

@@ -1,8 +1,8 @@
 use Prim.Native.Nat.{_-_, _≤_}
 use lib.ListN.{length}
 use borrow.Author.Needs.{needs}
-use Rattle.simplex.proofs.plant_arcs.Statement.{statement}
-use Rattle.simplex.proofs.plant_arcs.Tie as tie
+use Rattle.simplex.proofs.set_arcs.Statement.{statement}
+use Rattle.simplex.proofs.set_arcs.Tie as tie
 
 abbrev Inv-loop : tie.InvT-loop
 Inv-loop tails heads lows ups costs head₀ room₀ cost₀ excess₀ a₀ head room cost excess a = a ≤ length tails
@@ -10,8 +10,8 @@ Inv-loop tails heads lows ups costs head₀ room₀ cost₀ excess₀ a₀ head 
 abbrev μ-loop : tie.MeasureT-loop
 μ-loop tails heads lows ups costs head₀ room₀ cost₀ excess₀ a₀ head room cost excess a = length tails - a
 
-pub plant-arcs-spec : {M : Type 1} → statement M
-plant-arcs-spec =
+pub set-arcs-spec : {M : Type 1} → statement M
+set-arcs-spec =
     tie.close
     (tie.spec Inv-loop μ-loop (λ c. search needs) (λ c. search needs) (λ c. search needs) (λ c. search needs) (λ c. search needs) (λ c. search needs)
     (λ c. search needs) (λ c κs. search needs) (λ c. search needs) (λ c. search needs) (λ c κs. search needs) (λ c κs. search needs)
