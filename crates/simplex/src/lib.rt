@@ -614,10 +614,8 @@ fn write_flow(lows: &[u32], ups: &[u32], room: &[u32; 2048], flow: &mut [u32])
     requires { ⌜ (length (now flow) ≤ 512) × (length (now lows) ≡ length (now flow)) × (length (now ups) ≡ length (now flow)) × ((a : ℕ) → a < length (now flow) → getD (now lows) a 0 ≤ getD (now ups) a 0) ⌝ }
     ensures { λ _. ⌜ WithinBounds (now (lows .entry)) (now (ups .entry)) (now (flow .exit)) ⌝ }
 {
-    let mut a = 0;
-    while a < lows.len() {
+    for a in 0..lows.len() {
         flow[a] = clamped(lows[a], ups[a], room[2 * a + 1]);
-        a += 1;
     }
 }
 

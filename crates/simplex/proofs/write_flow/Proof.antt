@@ -8,13 +8,13 @@ use Rattle.simplex.proofs.write_flow.Statement.{statement}
 use Rattle.simplex.proofs.write_flow.Tie as tie
 
 abbrev Inv-loop : tie.InvT-loop
-Inv-loop lows ups room flow₀ a₀ flow a = (length flow ≡ length flow₀) × (a ≤ length lows) × ((k : ℕ) → k < a → (getD lows k 0 ≤ getD flow k 0) × (getD flow k 0 ≤ getD ups k 0))
+Inv-loop lows ups room flow₀ a₀ a-end flow a = (length flow ≡ length flow₀) × ((k : ℕ) → k < a → (getD lows k 0 ≤ getD flow k 0) × (getD flow k 0 ≤ getD ups k 0))
 
 abbrev μ-loop : tie.MeasureT-loop
-μ-loop lows ups room flow₀ a₀ flow a = length lows - a
+μ-loop lows ups room flow₀ a₀ a-end flow a = length lows - a
 
 loop-holds : tie.Need-loop-holds Inv-loop μ-loop
-loop-holds c = (refl, omega arith, λ k h. absurd (omega arith))
+loop-holds c = (refl, λ k h. absurd (omega arith))
 
 shared-slice-read-clamped-2 : tie.Need-shared-slice-read-clamped-2 Inv-loop μ-loop
 shared-slice-read-clamped-2 c = let s = c .before .before .before .before .before .before .before in omega (arith, c .before .before .loop-test .taken, s .pre .1, s .pre .2)
@@ -31,8 +31,7 @@ loop-less c = omega (arith, c .before .before .before .before .loop-test .taken)
 loop-again : tie.Need-loop-again Inv-loop μ-loop
 loop-again c = let s = c .before .before .before .before .before .before .before .before .before in let a = c .before .before .before .before .before .loop in let l = s .args .lows .now in let u = s .args .ups .now in (
   simp length-set (a .inv .0),
-  omega (arith, c .before .before .before .before .loop-test .taken),
-  set-more (λ k x. (getD l k 0 ≤ x) × (x ≤ getD u k 0)) (a .flow) (a .a) (c .clamped .result) 0 (slice-write-flow c) (a .inv .2) (c .clamped .ensures),
+  set-more (λ k x. (getD l k 0 ≤ x) × (x ≤ getD u k 0)) (a .flow) (a .a) (c .clamped .result) 0 (slice-write-flow c) (a .inv .1) (c .clamped .ensures),
 )
 
 same-length : tie.Need-same-length Inv-loop μ-loop
@@ -41,8 +40,8 @@ same-length c = c .before .loop .inv .0
 returns : tie.Need-returns Inv-loop μ-loop
 returns c = let s = c .before .before .before .before .before in let a = c .before .loop in let e : length (a .flow) ≡ length (s .args .lows .now) = a .inv .0 ∙ sym (s .pre .1) in record {
   len = e;
-  above = λ k h. a .inv .2 k (omega (arith, e, c .loop-test .left)) .0;
-  below = λ k h. a .inv .2 k (omega (arith, e, c .loop-test .left)) .1;
+  above = λ k h. a .inv .1 k (omega (arith, e, c .loop-test .left)) .0;
+  below = λ k h. a .inv .1 k (omega (arith, e, c .loop-test .left)) .1;
 }
 
 pub write-flow-spec : {M : Type 1} → statement M
