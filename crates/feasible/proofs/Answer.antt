@@ -19,9 +19,10 @@ use Rattle.certificates.specs.Push.{InBounds, all-netOut}
 use Rattle.certificates.specs.Feasible.{lacks as excesses, relieved, all-met}
 use Rattle.paths.specs.Graph.{graph, netWith}
 use Rattle.paths.specs.Pushing.{Ready}
-use Rattle.feasible.specs.Excess.{supplies, SmallNumbers, Excesses, FirstExcess}
-use Rattle.feasible.specs.Sending.{SentFrom, CutOff}
-use Rattle.feasible.specs.Answer.{Given, AllFree, Answer}
+use Rattle.flow_test.specs.Excess.{supplies, SmallNumbers, Excesses}
+use Rattle.flow_test.specs.FlowTest.{Given}
+use Rattle.feasible.specs.Sending.{FirstExcess, SentFrom, CutOff}
+use Rattle.feasible.specs.Answer.{AllFree, Answer}
 
 module _ (b : List ℤ) (t h l u : List ℕ) (f₀ : List ℕ) (G : Given b t h l u f₀) where
   pub small-of : (f : List ℕ) → InBounds (graph t h l u) f → SmallNumbers b t h f

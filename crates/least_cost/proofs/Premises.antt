@@ -13,7 +13,7 @@ use Rattle.certificates.specs.Push.{InBounds}
 use Rattle.search.specs.Labels.{costGraph, Relaxable}
 use Rattle.paths.specs.Graph.{graph, netWith}
 use Rattle.paths.specs.Pushing.{Ready, SmallBounds}
-use Rattle.feasible.specs.Answer.{Given}
+use Rattle.flow_test.specs.FlowTest.{Given}
 
 module _ (b : List ℤ) (t h l u : List ℕ) (c : List ℤ) (ok : AcceptedNet (netWith b t h l u c)) where
   small : SmallBounds (graph t h l u)

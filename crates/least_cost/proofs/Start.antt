@@ -7,7 +7,7 @@ use lib.ListN.{length, getD}
 use lib.IntN.{ℤ}
 use Rattle.certificates.specs.Push.{InBounds}
 use Rattle.paths.specs.Graph.{graph}
-use Rattle.feasible.specs.Answer.{Given}
+use Rattle.flow_test.specs.FlowTest.{Given}
 use Rattle.simplex.specs.Lengths.{SameLengths}
 use Rattle.simplex.specs.Bounds.{WithinBounds}
 

@@ -5,7 +5,8 @@ ghost use Rattle.network.specs.Network.{LeastCost};
 ghost use Rattle.network.specs.Checked.{AcceptedNet};
 ghost use Rattle.search.specs.Search.{QuietLabels};
 ghost use Rattle.paths.specs.Graph.{netWith};
-ghost use Rattle.feasible.specs.Answer.{Given, Answer};
+ghost use Rattle.flow_test.specs.FlowTest.{Given};
+ghost use Rattle.feasible.specs.Answer.{Answer};
 ghost use Rattle.least_cost.specs.Marked.{Marked};
 ghost use Rattle.least_cost.specs.Answers.{FirstFlow, Tested, MarkedIfLeast};
 
@@ -93,7 +94,7 @@ fn is_least_cost(
     requires { ⌜ AcceptedNet (netWith (now balances) (now tails) (now heads) (now lows) (now ups) (now costs)) × (length (now flow) ≡ length (now tails)) × (length (now labels) ≡ 64) ⌝ }
     ensures { λ r. ⌜ Tested (netWith (now (balances .entry)) (now (tails .entry)) (now (heads .entry)) (now (lows .entry)) (now (ups .entry)) (now (costs .entry))) (now (flow .entry)) (now (labels .exit)) r ⌝ }
 {
-    if !feasible::is_flow(tails, heads, lows, ups, balances, flow) {
+    if !flow_test::is_flow(tails, heads, lows, ups, balances, flow) {
         return false;
     }
     let mut codes = [0usize; 64];

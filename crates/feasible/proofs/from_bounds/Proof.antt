@@ -6,7 +6,7 @@ use Rattle.laws.specs.Parts.{plus}
 use Rattle.certificates.specs.Push.{InBounds}
 use Rattle.certificates.specs.Feasible.{lacks as excesses}
 use Rattle.paths.specs.Graph.{graph}
-use Rattle.feasible.specs.Excess.{supplies}
+use Rattle.flow_test.specs.Excess.{supplies}
 use Rattle.feasible.proofs.Answer.{small-of, ready-of, all-sent, no-flow-left, falls}
 use Rattle.feasible.proofs.from_bounds.Statement.{statement}
 use Rattle.feasible.proofs.from_bounds.Tie as tie

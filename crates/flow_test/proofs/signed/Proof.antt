@@ -2,8 +2,8 @@ use native.Mathlib.Omega.{arith}
 use mir.Syntax.{w64}
 use mir.Facts.{toZ-pos}
 use borrow.Author.Needs.{needs}
-use Rattle.feasible.proofs.signed.Statement.{statement}
-use Rattle.feasible.proofs.signed.Tie as tie
+use Rattle.flow_test.proofs.signed.Statement.{statement}
+use Rattle.flow_test.proofs.signed.Tie as tie
 
 returns : tie.Need-returns
 returns c = toZ-pos w64 (omega (arith, c .fits .x))

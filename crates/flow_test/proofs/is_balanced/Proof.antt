@@ -4,9 +4,9 @@ use lib.Seq.{length-take-le}
 use lib.IntN.{pos}
 use borrow.Author.Needs.{needs}
 use Rattle.laws.specs.Padded.{part-written}
-use Rattle.feasible.proofs.IsFlow.{balanced}
-use Rattle.feasible.proofs.is_balanced.Statement.{statement}
-use Rattle.feasible.proofs.is_balanced.Tie as tie
+use Rattle.flow_test.proofs.IsFlow.{balanced}
+use Rattle.flow_test.proofs.is_balanced.Statement.{statement}
+use Rattle.flow_test.proofs.is_balanced.Tie as tie
 
 slice-aggregate-excess-of : tie.Need-slice-aggregate-excess-of
 slice-aggregate-excess-of c = let s = c .before .before .before .before in sym (length-take-le (length (s .args .balances .now)) (replicate 64 (pos 0)) (s .pre .1))

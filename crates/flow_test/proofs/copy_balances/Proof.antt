@@ -9,8 +9,8 @@ use mir.Val.{toZ, ofZ}
 use mir.Facts.{toZ-ofZ}
 use borrow.Author.Needs.{needs}
 use Rattle.laws.specs.Padded.{set-more}
-use Rattle.feasible.proofs.copy_balances.Statement.{statement}
-use Rattle.feasible.proofs.copy_balances.Tie as tie
+use Rattle.flow_test.proofs.copy_balances.Statement.{statement}
+use Rattle.flow_test.proofs.copy_balances.Tie as tie
 
 abbrev Inv-loop : tie.InvT-loop
 Inv-loop balances excess₀ i₀ excess i = (length excess ≡ length excess₀) × (i ≤ length balances) × ((v : ℕ) → v < i → getD excess v (pos 0) ≡ getD balances v (pos 0))

@@ -4,7 +4,6 @@ use mathlib.Core.List.{List, []}
 use Prim.Native.Nat.{ℕ, _≤_, _<_}
 use lib.ListN.{length, getD}
 use lib.IntN.{ℤ, pos}
-use lib.Signed.{_≤ℤ_, _<ℤ_}
 use Rattle.laws.specs.Range.{Bounded}
 use Rattle.network.specs.Network.{Net}
 use Rattle.certificates.specs.Feasible.{lack as excess}
@@ -29,9 +28,3 @@ pub record Excesses (b : List ℤ) (t h f : List ℕ) (l : List ℤ) : Type 0 wh
   pub len : length l ≡ length b
   pub is : (v : ℕ) → v < length b → getD l v (pos 0) ≡ excess (supplies b t h) f v
   pub small : (v : ℕ) → Bounded 3000000000 (getD l v (pos 0))
-
--- r is the first node whose excess is above 0, or the length of the list
-pub record FirstExcess (l : List ℤ) (r : ℕ) : Type 0 where
-  pub in-range : r ≤ length l
-  pub above : r < length l → pos 0 <ℤ getD l r (pos 0)
-  pub none : length l ≤ r → (v : ℕ) → v < length l → getD l v (pos 0) ≤ℤ pos 0

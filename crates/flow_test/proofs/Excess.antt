@@ -1,24 +1,21 @@
--- The turns of `excess_of` and `first_excess`.
+-- The turns of `excess_of`.
 use mathlib.Core.Path.{_≡_, refl, sym, ap, _∙_}
 use mathlib.Core.List.{List}
-use mathlib.Core.Bool.{true, false}
-use Prim.Native.Nat.{ℕ, suc, _+_, _*_, _≤_, _<_}
+use Prim.Native.Nat.{ℕ, suc, _+_, _*_, _<_}
 use native.Mathlib.Omega.{arith}
 use native.Mathlib.Decide.{ℕ-discrete}
 use lib.ListN.{length, getD, set, length-set}
 use lib.Seq.{getD-set-same, getD-set-other}
 use lib.IntN.{ℤ, pos, negℤ, _+ℤ_, _-ℤ_}
-use lib.Signed.{_≤ℤ_, _<ℤ_, ltZ}
 use mir.Syntax.{w64}
 use mir.Val.{SFits}
 use Rattle.laws.specs.Divergence.{at, at-same, at-other, div}
-use Rattle.laws.specs.Integers.{ltZ-true, ltZ-false}
-use Rattle.laws.specs.Linear.{lin, given, given2, given4}
+use Rattle.laws.specs.Linear.{lin, given, given4}
 use Rattle.laws.specs.Range.{Bounded, bounded-add, bounded-neg, bounded-zero, bounded-more, bounded-fits}
 use Rattle.laws.specs.Sum.{sum}
 use Rattle.network.specs.Network.{on}
 use Rattle.certificates.specs.Push.{at-neg}
-use Rattle.feasible.specs.Excess.{SmallNumbers, Excesses, FirstExcess}
+use Rattle.flow_test.specs.Excess.{SmallNumbers, Excesses}
 
 at-bounded : (u v B : ℕ) (x : ℤ) → Bounded B x → Bounded B (at u v x)
 at-bounded u v B x w = go (ℕ-discrete u v)
@@ -109,23 +106,3 @@ module _ (b : List ℤ) (t h f : List ℕ) (s : SmallNumbers b t h f) (a : ℕ) 
 
     pub both-done : (l2 : List ℤ) → l2 ≡ set l1 (getD h a 0) (getD l1 (getD h a 0) (pos 0) +ℤ y) → ExcessTurn b t h f (suc a) l2
     both-done l2 e2 = rw (e2, y-is, e1′) (turn-step b t h f s a k l T)
-
--- ---- the first excess
-pub first-yes : (l : List ℤ) (i : ℕ) (z : ℤ) → i < length l → z ≡ getD l i (pos 0) → ltZ (pos 0) z ≡ true → FirstExcess l i
-first-yes l i z h e t = record { in-range = omega arith; above = λ _. more z (getD l i (pos 0)) e (ltZ-true (pos 0) z t); none = λ k. absurd (omega arith) }
-  where
-    more : (x y : ℤ) → x ≡ y → pos 0 <ℤ x → pos 0 <ℤ y
-    more x y e h = given2 e h (simp lin (omega arith))
-
-pub first-more : (l : List ℤ) (i : ℕ) (z : ℤ) → z ≡ getD l i (pos 0) → ltZ (pos 0) z ≡ false → ((v : ℕ) → v < i → getD l v (pos 0) ≤ℤ pos 0) → (v : ℕ) → v < i + 1 → getD l v (pos 0) ≤ℤ pos 0
-first-more l i z e t f v h = go (ℕ-discrete v i)
-  where
-    less : (x y : ℤ) → x ≡ y → x ≤ℤ pos 0 → y ≤ℤ pos 0
-    less x y e h = given2 e h (simp lin (omega arith))
-
-    go : Dec (v ≡ i) → getD l v (pos 0) ≤ℤ pos 0
-    go (yes q) = rw q (less z (getD l i (pos 0)) e (ltZ-false (pos 0) z t))
-    go (no q) = f v (omega arith)
-
-pub first-none : (l : List ℤ) (i : ℕ) → i ≤ length l → length l ≤ i → ((v : ℕ) → v < i → getD l v (pos 0) ≤ℤ pos 0) → FirstExcess l i
-first-none l i h k f = record { in-range = h; above = λ m. absurd (omega arith); none = λ _ v m. f v (omega arith) }

@@ -5,9 +5,9 @@ use lib.ListN.{length, getD}
 use lib.IntN.{pos}
 use borrow.Author.Needs.{needs}
 use Rattle.laws.specs.Range.{zero-of, zero-bits}
-use Rattle.feasible.proofs.IsFlow.{one-more}
-use Rattle.feasible.proofs.all_zero.Statement.{statement}
-use Rattle.feasible.proofs.all_zero.Tie as tie
+use Rattle.flow_test.proofs.IsFlow.{one-more}
+use Rattle.flow_test.proofs.all_zero.Statement.{statement}
+use Rattle.flow_test.proofs.all_zero.Tie as tie
 
 abbrev Inv-loop : tie.InvT-loop
 Inv-loop excess v₀ v = (v ≤ length excess) × ((w : ℕ) → w < v → getD excess w (pos 0) ≡ pos 0)

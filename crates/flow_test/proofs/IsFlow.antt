@@ -11,8 +11,8 @@ use Rattle.laws.specs.Linear.{lin, given}
 use Rattle.network.specs.Network.{netOut, balance, IsFlow}
 use Rattle.certificates.specs.Push.{InBounds}
 use Rattle.paths.specs.Graph.{graph, netWith}
-use Rattle.feasible.specs.Excess.{supplies, SmallNumbers, Excesses}
-use Rattle.feasible.specs.Answer.{Given, Decides, IsFlowTest}
+use Rattle.flow_test.specs.Excess.{supplies, SmallNumbers, Excesses}
+use Rattle.flow_test.specs.FlowTest.{Given, Decides, IsFlowTest}
 
 pub one-more : (P : ℕ → Type 0) (i : ℕ) → ((k : ℕ) → k < i → P k) → P i → (k : ℕ) → k < i + 1 → P k
 one-more P i all here k h = go (ℕ-discrete k i)

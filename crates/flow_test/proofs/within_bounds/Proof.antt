@@ -3,9 +3,9 @@ use Prim.Native.Nat.{ℕ, _-_, _≤_, _<_}
 use native.Mathlib.Omega.{arith}
 use lib.ListN.{length, getD}
 use borrow.Author.Needs.{needs}
-use Rattle.feasible.proofs.IsFlow.{one-more}
-use Rattle.feasible.proofs.within_bounds.Statement.{statement}
-use Rattle.feasible.proofs.within_bounds.Tie as tie
+use Rattle.flow_test.proofs.IsFlow.{one-more}
+use Rattle.flow_test.proofs.within_bounds.Statement.{statement}
+use Rattle.flow_test.proofs.within_bounds.Tie as tie
 
 abbrev Inv-loop : tie.InvT-loop
 Inv-loop lows ups flow a₀ a = (a ≤ length flow) × ((k : ℕ) → k < a → (getD lows k 0 ≤ getD flow k 0) × (getD flow k 0 ≤ getD ups k 0))

@@ -8,9 +8,9 @@ use lib.IntN.{ℤ}
 use mir.Syntax.{w64}
 use mir.Val.{toZ, ofZ}
 use mir.Facts.{toZ-ofZ}
-use Rattle.feasible.proofs.Excess.{ExcessTurn, turn-start, turn-done, asks-first, asks-second, both-done}
-use Rattle.feasible.proofs.excess_of.Statement.{statement}
-use Rattle.feasible.proofs.excess_of.Tie as tie
+use Rattle.flow_test.proofs.Excess.{ExcessTurn, turn-start, turn-done, asks-first, asks-second, both-done}
+use Rattle.flow_test.proofs.excess_of.Statement.{statement}
+use Rattle.flow_test.proofs.excess_of.Tie as tie
 
 abbrev Inv-loop : tie.InvT-loop
 Inv-loop tails heads balances flow excess₀ a₀ excess a = (a ≤ length tails) × ExcessTurn balances tails heads flow a excess

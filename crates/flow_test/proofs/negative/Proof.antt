@@ -5,9 +5,9 @@ use mir.Syntax.{w64}
 use mir.Val.{toZ, ofZ}
 use mir.Facts.{toZ-ofZ}
 use borrow.Author.Needs.{needs}
-use Rattle.feasible.proofs.Widths.{neg-fits, zero-sub}
-use Rattle.feasible.proofs.negative.Statement.{statement}
-use Rattle.feasible.proofs.negative.Tie as tie
+use Rattle.flow_test.proofs.Widths.{neg-fits, zero-sub}
+use Rattle.flow_test.proofs.negative.Statement.{statement}
+use Rattle.flow_test.proofs.negative.Tie as tie
 
 sub-result : tie.Need-sub-result
 sub-result c = neg-fits (toZ w64 (ofZ w64 (c .signed .result))) (c .before .args .x) (toZ-ofZ (record { sfits = c .signed .ok }) ∙ c .signed .ensures) (omega (arith, c .before .fits .x))

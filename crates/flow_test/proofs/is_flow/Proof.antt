@@ -4,9 +4,9 @@ use borrow.Author.Needs.{needs}
 use borrow.Author.Tests.{not-true, not-false}
 use Rattle.certificates.specs.Push.{InBounds}
 use Rattle.paths.specs.Graph.{graph}
-use Rattle.feasible.proofs.IsFlow.{decided, small-numbers, out-of-bounds, in-bounds}
-use Rattle.feasible.proofs.is_flow.Statement.{statement}
-use Rattle.feasible.proofs.is_flow.Tie as tie
+use Rattle.flow_test.proofs.IsFlow.{decided, small-numbers, out-of-bounds, in-bounds}
+use Rattle.flow_test.proofs.is_flow.Statement.{statement}
+use Rattle.flow_test.proofs.is_flow.Tie as tie
 
 returns : tie.Need-returns
 returns c = let s = c .before .before .before .before .before .before .before in let w = c .before .within-bounds in
