@@ -1,5 +1,5 @@
 -- What the search answers, and why it ends.
-use mathlib.Core.Path.{_≡_, refl, ap, _∙_}
+use mathlib.Core.Path.{_≡_, ap, _∙_}
 use mathlib.Core.Logic.{_⊎_, inl, inr}
 use mathlib.Core.List.{List}
 use mathlib.Core.Bool.{Bool, true, false}
@@ -19,17 +19,12 @@ use Rattle.certificates.specs.Push.{InBounds, all-netOut}
 use Rattle.certificates.specs.Feasible.{lacks as excesses, relieved, all-met}
 use Rattle.certificates.specs.Graph.{graph, netWith}
 use Rattle.certificates.specs.Ready.{Ready}
-use Rattle.feasible.specs.Excess.{supplies, SmallNumbers, Excesses, FirstExcess}
-use Rattle.feasible.specs.Sending.{SentFrom, CutOff}
-use Rattle.feasible.specs.Answer.{Given, AllFree, Answer}
-
-pub low-bounds : (l u f₀ : List ℕ) → length l ≡ length f₀ → ((a : ℕ) → a < length f₀ → getD l a 0 ≤ getD u a 0) → (f : List ℕ) → f ≡ l → InBounds (graph f f l u) f
-low-bounds l u f₀ n o f e = rw e (record { all-arcs = refl; above = λ a k. omega arith; below = λ a k. o a (omega arith) })
+use Rattle.flow_test.specs.Excess.{supplies, SmallNumbers, Excesses}
+use Rattle.flow_test.specs.FlowTest.{Given}
+use Rattle.feasible.specs.Sending.{FirstExcess, SentFrom, CutOff}
+use Rattle.feasible.specs.Answer.{AllFree, Answer}
 
 module _ (b : List ℤ) (t h l u : List ℕ) (f₀ : List ℕ) (G : Given b t h l u f₀) where
-  pub start-bounds : (f : List ℕ) → length f ≡ length f₀ → InBounds (graph f f l u) f → InBounds (graph t h l u) f
-  start-bounds f n B = record { all-arcs = n ∙ G .flow-len; above = λ a k. B .above a (omega (arith, G .flow-len)); below = λ a k. B .below a (omega (arith, G .flow-len)) }
-
   pub small-of : (f : List ℕ) → InBounds (graph t h l u) f → SmallNumbers b t h f
   small-of f k = record {
     few = G .small .few;

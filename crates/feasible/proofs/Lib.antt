@@ -1,5 +1,4 @@
 mod Widths
-mod Excess
+mod FirstExcess
 mod Sending
 mod Answer
-mod IsFlow

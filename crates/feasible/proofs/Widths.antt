@@ -1,10 +1,9 @@
 -- Numbers of 32 and 64 bits.
 use mathlib.Core.Path.{_≡_}
 use mathlib.Core.Bool.{true, false}
-use Prim.Native.Nat.{ℕ, _<_}
 use native.Mathlib.Omega.{arith}
 use lib.Dec.{T}
-use lib.IntN.{ℤ, pos, negsuc, natAbs, negℤ, _-ℤ_}
+use lib.IntN.{ℤ, pos, negsuc, natAbs, _-ℤ_}
 use lib.Signed.{_<ℤ_, leZ, ltZ, nonNeg}
 use mir.Syntax.{w32, w64}
 use mir.Val.{SFits, Fits}
@@ -12,12 +11,6 @@ use Rattle.laws.specs.Integers.{leZ-false, ltZ-true, ltZ-false}
 use Rattle.laws.specs.Linear.{lin, given, given2}
 use Rattle.laws.specs.Range.{Bounded, fits}
 use Rattle.feasible.specs.Sending.{Capped}
-
-pub zero-sub : (z : ℤ) → pos 0 -ℤ z ≡ negℤ z
-zero-sub z = simp lin (omega arith)
-
-pub neg-fits : (z : ℤ) (x : ℕ) → z ≡ pos x → x < 4294967296 → SFits w64 (pos 0 -ℤ z)
-neg-fits z x e h = given e (simp fits (omega arith))
 
 -- ---- a positive number, capped
 pub cap-yes : (x z : ℤ) → z ≡ x → ltZ (pos 1000000) z ≡ true → Capped x 1000000

@@ -12,6 +12,12 @@ use Rattle.certificates.specs.Push.{InBounds, Trail, pushAll}
 use Rattle.certificates.specs.FreeArcs.{goes, Blocked}
 use Rattle.pushing.specs.Pushing.{Pushable}
 
+-- r is the first node whose excess is above 0, or the length of the list
+pub record FirstExcess (l : List ℤ) (r : ℕ) : Type 0 where
+  pub in-range : r ≤ length l
+  pub above : r < length l → pos 0 <ℤ getD l r (pos 0)
+  pub none : length l ≤ r → (v : ℕ) → v < length l → getD l v (pos 0) ≤ℤ pos 0
+
 -- r is at most x, and not 0
 pub record Capped (x : ℤ) (r : ℕ) : Type 0 where
   pub at-most : pos r ≤ℤ x

@@ -1,3 +1,4 @@
 pub mod Premises
+mod Start
 pub mod Marked
 mod Question8

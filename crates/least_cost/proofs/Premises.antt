@@ -10,10 +10,10 @@ use lib.IntN.{ℤ, pos}
 use Rattle.laws.specs.Range.{Bounded, bounded-iff, bounded-more, bounded-zero}
 use Rattle.network.specs.Accepted.{AcceptedNet}
 use Rattle.certificates.specs.Push.{InBounds}
+use Rattle.relaxation.specs.Labels.{costGraph, Relaxable}
 use Rattle.certificates.specs.Graph.{graph, netWith}
 use Rattle.certificates.specs.Ready.{Ready, SmallBounds}
-use Rattle.relaxation.specs.Labels.{costGraph, Relaxable}
-use Rattle.feasible.specs.Answer.{Given}
+use Rattle.flow_test.specs.FlowTest.{Given}
 
 module _ (b : List ℤ) (t h l u : List ℕ) (c : List ℤ) (ok : AcceptedNet (netWith b t h l u c)) where
   small : SmallBounds (graph t h l u)

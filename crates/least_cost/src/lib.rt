@@ -5,8 +5,27 @@ ghost use Rattle.network.specs.Network.{LeastCost};
 ghost use Rattle.network.specs.Accepted.{AcceptedNet};
 ghost use Rattle.search.specs.Search.{QuietLabels};
 ghost use Rattle.certificates.specs.Graph.{netWith};
+ghost use Rattle.flow_test.specs.FlowTest.{Given};
+ghost use Rattle.feasible.specs.Answer.{Answer};
 ghost use Rattle.least_cost.specs.Marked.{Marked};
 ghost use Rattle.least_cost.specs.Answers.{FirstFlow, Tested, MarkedIfLeast};
+
+// A flow, and a least-cost one where the guess is right; false if there is none.
+fn starting_flow(
+    tails: &[u8],
+    heads: &[u8],
+    lows: &[u32],
+    ups: &[u32],
+    costs: &[i32],
+    balances: &[i32],
+    flow: &mut [u32],
+) -> bool
+    requires { ⌜ Given (now balances) (now tails) (now heads) (now lows) (now ups) (now flow) × (length (now costs) ≡ length (now tails)) ⌝ }
+    ensures { λ r. ⌜ Answer (now (balances .entry)) (now (tails .entry)) (now (heads .entry)) (now (lows .entry)) (now (ups .entry)) (now (flow .exit)) r ⌝ }
+{
+    simplex::guess(tails, heads, lows, ups, costs, balances, flow);
+    feasible::feasible(tails, heads, lows, ups, balances, flow)
+}
 
 // Marks the arcs of reduced cost 0 under the labels of a least-cost flow.
 fn mark(
@@ -40,7 +59,7 @@ pub fn first_flow(
     requires { ⌜ AcceptedNet (netWith (now balances) (now tails) (now heads) (now lows) (now ups) (now costs)) × (length (now flow) ≡ length (now tails)) × (length (now tight) ≡ length (now tails)) ⌝ }
     ensures { λ r. ⌜ FirstFlow (netWith (now (balances .entry)) (now (tails .entry)) (now (heads .entry)) (now (lows .entry)) (now (ups .entry)) (now (costs .entry))) (now (flow .exit)) (now (tight .exit)) r ⌝ }
 {
-    if !simplex::starting_flow(tails, heads, lows, ups, costs, balances, flow) {
+    if !starting_flow(tails, heads, lows, ups, costs, balances, flow) {
         return false;
     }
     let mut labels = [0i64; 64];
@@ -75,7 +94,7 @@ fn is_least_cost(
     requires { ⌜ AcceptedNet (netWith (now balances) (now tails) (now heads) (now lows) (now ups) (now costs)) × (length (now flow) ≡ length (now tails)) × (length (now labels) ≡ 64) ⌝ }
     ensures { λ r. ⌜ Tested (netWith (now (balances .entry)) (now (tails .entry)) (now (heads .entry)) (now (lows .entry)) (now (ups .entry)) (now (costs .entry))) (now (flow .entry)) (now (labels .exit)) r ⌝ }
 {
-    if !feasible::is_flow(tails, heads, lows, ups, balances, flow) {
+    if !flow_test::is_flow(tails, heads, lows, ups, balances, flow) {
         return false;
     }
     let mut codes = [0usize; 64];

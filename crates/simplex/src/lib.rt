@@ -1,10 +1,10 @@
-// A good start: the primal network simplex. Its numbers are unsigned and wrap, and nothing is promised of them: the search that is
-// proved starts from what it leaves, and finds it to be a flow, mends it, or shows that there is none.
+// A guess of a least-cost flow: the primal network simplex. Its numbers are unsigned and wrap, and all that is promised of the guess is
+// that it is within the bounds: whoever needs a flow tests it.
 ghost use mathlib.Core.Path.{_≡_};
-ghost use Prim.Native.Nat.{_+_, _≤_, _<_, _%_, _^_};
-ghost use lib.ListN.{length};
-ghost use Rattle.feasible.specs.Answer.{Given, Answer};
+ghost use Prim.Native.Nat.{ℕ, _+_, _≤_, _<_, _%_, _^_};
+ghost use lib.ListN.{length, getD};
 ghost use Rattle.simplex.specs.Lengths.{SameLengths};
+ghost use Rattle.simplex.specs.Bounds.{WithinBounds};
 
 // The nodes of the tree are those of the network and the root; arc m + v joins node v to the root. Code 2a is the arc a from its tail to
 // its head, 2a + 1 the same arc back. What an array says of a code: its head, its room, its cost.
@@ -77,18 +77,18 @@ fn push(room: &mut [u32; 2048], code: usize, d: u32)
     room[other] = more;
 }
 
-// Sends d from x up to `meet`.
+// Sends d from x up to `join`.
 fn push_up(
     head: &[u8; 2048],
     room: &mut [u32; 2048],
     up: &[usize; 256],
     from: u8,
-    meet: u8,
+    join: u8,
     d: u32,
 ) {
     let mut x = from;
     for _ in 0..65usize {
-        if x == meet {
+        if x == join {
             return;
         }
         push(room, up_from(up, x), d);
@@ -96,10 +96,10 @@ fn push_up(
     }
 }
 
-// A walk up the tree: the node where it ended, the least room on the way, and the node whose arc upwards has it; ROOT if no arc of the
-// walk has less than could come.
-struct Walked {
-    meet: u8,
+// A path up the tree to the join: the node where it ends, the least room on it, and the node whose arc upwards has it; ROOT if no arc of
+// the path has less than could come.
+struct PathToJoin {
+    join: u8,
     leave: u8,
     amount: u32,
 }
@@ -113,9 +113,9 @@ fn tree_room(room: &[u32; 2048], up: &[usize; 256], x: u8, upwards: bool) -> u32
     room[back(code)]
 }
 
-// From `from` up to the first node whose subtree has `to`, where `most` can come. Of the arcs with the least room, the last on the way
-// round the cycle is taken: down from `meet`, by the entering arc, and up again. Then no tree comes back.
-fn climb(
+// From `from` up to the join, the first node whose subtree has `to`, where `most` can come. Of the arcs with the least room, the last on
+// the cycle is taken: down from the join, by the entering arc, and up again. Then no tree comes back.
+fn path_to_join(
     head: &[u8; 2048],
     room: &[u32; 2048],
     up: &[usize; 256],
@@ -124,7 +124,7 @@ fn climb(
     to: u8,
     upwards: bool,
     most: u32,
-) -> Walked {
+) -> PathToJoin {
     let mut x = from;
     let mut leave = ROOT;
     let mut amount = most;
@@ -139,23 +139,23 @@ fn climb(
         }
         x = parent_of(head, up, x);
     }
-    Walked {
-        meet: x,
+    PathToJoin {
+        join: x,
         leave,
         amount,
     }
 }
 
 // What leaves the tree: the arc above `leave`, or the entering arc itself if that is ROOT. The code `into` of the entering arc leads into
-// the subtree of `leave`; the cycle is closed at `meet`.
+// the subtree of `leave`; the two sides of the cycle meet at `join`.
 struct Leaving {
     into: usize,
     leave: u8,
-    meet: u8,
+    join: u8,
     amount: u32,
 }
 
-// What leaves when e enters.
+// What leaves the tree when e enters it.
 fn leaving_arc(
     head: &[u8; 2048],
     room: &[u32; 2048],
@@ -169,33 +169,33 @@ fn leaving_arc(
     let other = back(e);
     let u = head[other];
     let w = head[e];
-    let down = climb(head, room, up, below, u, w, false, room[e]);
-    let above = climb(head, room, up, below, w, u, true, down.amount);
-    let meet = above.meet;
+    let down = path_to_join(head, room, up, below, u, w, false, room[e]);
+    let above = path_to_join(head, room, up, below, w, u, true, down.amount);
+    let join = above.join;
     let amount = above.amount;
     if above.leave == ROOT {
         return Leaving {
             into: other,
             leave: down.leave,
-            meet,
+            join,
             amount,
         };
     }
     Leaving {
         into: e,
         leave: above.leave,
-        meet,
+        join,
         amount,
     }
 }
 
-// Sends d round the cycle that e closes at `meet`.
-fn send_round(
+// Sends d round the cycle of e, whose sides meet at `join`.
+fn push_round(
     head: &[u8; 2048],
     room: &mut [u32; 2048],
     up: &[usize; 256],
     e: usize,
-    meet: u8,
+    join: u8,
     d: u32,
 )
     requires { ⌜ e < 2048 ⌝ }
@@ -204,8 +204,8 @@ fn send_round(
         return;
     }
     push(room, e, d);
-    push_up(head, room, up, head[back(e)], meet, negated(d));
-    push_up(head, room, up, head[e], meet, d);
+    push_up(head, room, up, head[back(e)], join, negated(d));
+    push_up(head, room, up, head[e], join, d);
 }
 
 // Takes `part` out of the subtree of x where it is in it, and puts it in where it is not.
@@ -214,18 +214,18 @@ fn change_subtree(below: &mut [u64; 256], x: u8, part: u64) {
     below[x as usize] = s ^ part;
 }
 
-// The same from x up to `meet`.
+// The same from x up to `join`.
 fn change_subtrees(
     head: &[u8; 2048],
     up: &[usize; 256],
     below: &mut [u64; 256],
     from: u8,
-    meet: u8,
+    join: u8,
     part: u64,
 ) {
     let mut x = from;
     for _ in 0..65usize {
-        if x == meet {
+        if x == join {
             return;
         }
         change_subtree(below, x, part);
@@ -233,14 +233,15 @@ fn change_subtrees(
     }
 }
 
-// Hangs x by the code `via`, with its new subtree.
-fn hang(up: &mut [usize; 256], below: &mut [u64; 256], x: u8, via: usize, subtree: u64) {
+// Joins x to its parent by the code `via`, with its new subtree.
+fn set_parent(up: &mut [usize; 256], below: &mut [u64; 256], x: u8, via: usize, subtree: u64) {
     up[x as usize] = via;
     below[x as usize] = subtree;
 }
 
-// Hangs the subtree `part` of `leave` by the code e that leads into it: the arcs from there up to `leave` are turned round.
-fn rehang(
+// Joins the subtree `part` of `leave` to the rest of the tree by the code e that leads into it: the arcs from there up to `leave` are
+// reversed.
+fn update_parents(
     head: &[u8; 2048],
     up: &mut [usize; 256],
     below: &mut [u64; 256],
@@ -256,7 +257,7 @@ fn rehang(
         let x = head[code];
         let next = up_from(up, x);
         let s = subtree_of(below, x);
-        hang(up, below, x, back(code), rest);
+        set_parent(up, below, x, back(code), rest);
         if x == leave {
             return;
         }
@@ -295,14 +296,14 @@ fn exchange(
     below: &mut [u64; 256],
     e: usize,
     leave: u8,
-    meet: u8,
+    join: u8,
 )
     requires { ⌜ e < 2048 ⌝ }
 {
     let part = subtree_of(below, leave);
-    change_subtrees(head, up, below, parent_of(head, up, leave), meet, part);
-    change_subtrees(head, up, below, head[back(e)], meet, part);
-    rehang(head, up, below, leave, part, e);
+    change_subtrees(head, up, below, parent_of(head, up, leave), join, part);
+    change_subtrees(head, up, below, head[back(e)], join, part);
+    update_parents(head, up, below, leave, part, e);
     shift_prices(price, part, reduced(head, cost, price, e));
 }
 
@@ -319,9 +320,9 @@ fn pivot(
     requires { ⌜ e < 2048 ⌝ }
 {
     let l = leaving_arc(head, room, up, below, e);
-    send_round(head, room, up, e, l.meet, l.amount);
+    push_round(head, room, up, e, l.join, l.amount);
     if l.leave != ROOT {
-        exchange(head, cost, up, price, below, l.into, l.leave, l.meet);
+        exchange(head, cost, up, price, below, l.into, l.leave, l.join);
     }
 }
 
@@ -336,8 +337,8 @@ fn cheaper(head: &[u8; 2048], cost: &[u32; 2048], price: &[u32; 256], a: usize) 
     2 * a + 1
 }
 
-// Whether the cost falls if arc a enters.
-fn gains(
+// Whether arc a may enter: the cost falls by it.
+fn is_eligible(
     head: &[u8; 2048],
     room: &[u32; 2048],
     cost: &[u32; 2048],
@@ -349,8 +350,8 @@ fn gains(
     room[cheaper(head, cost, price, a)] != 0 && reduced(head, cost, price, 2 * a) != 0
 }
 
-// The first arc from `from` on that gains; `end` if there is none.
-fn first_gain(
+// The first eligible arc from `from` on; `end` if there is none.
+fn first_eligible(
     head: &[u8; 2048],
     room: &[u32; 2048],
     cost: &[u32; 2048],
@@ -363,7 +364,7 @@ fn first_gain(
 {
     let mut a = from;
     while a < end {
-        if gains(head, room, cost, price, a) {
+        if is_eligible(head, room, cost, price, a) {
             return a;
         }
         a += 1;
@@ -371,8 +372,8 @@ fn first_gain(
     end
 }
 
-// The entering arc: the first that gains, from `from` on and then from 0; m if there is none.
-fn entering(
+// The entering arc: the first eligible one, from `from` on and then from 0; m if there is none.
+fn entering_arc(
     head: &[u8; 2048],
     room: &[u32; 2048],
     cost: &[u32; 2048],
@@ -383,18 +384,18 @@ fn entering(
     requires { ⌜ (from ≤ m) × (m ≤ 1024) ⌝ }
     ensures { λ r. ⌜ r ≤ m ⌝ }
 {
-    let a = first_gain(head, room, cost, price, from, m);
+    let a = first_eligible(head, room, cost, price, from, m);
     if a < m {
         return a;
     }
-    let b = first_gain(head, room, cost, price, 0, from);
+    let b = first_eligible(head, room, cost, price, 0, from);
     if b < from {
         return b;
     }
     m
 }
 
-// Pivots until no arc gains, 20,000 at most: some 1,300 are enough for a random network of 512 arcs.
+// Pivots until no arc is eligible, 20,000 at most: some 1,300 are enough for a random network of 512 arcs.
 fn improve(
     head: &[u8; 2048],
     room: &mut [u32; 2048],
@@ -408,7 +409,7 @@ fn improve(
 {
     let mut from = 0;
     for _ in 0..20000usize {
-        let a = entering(head, room, cost, price, from, m);
+        let a = entering_arc(head, room, cost, price, from, m);
         if a >= m {
             return;
         }
@@ -449,7 +450,7 @@ fn carry(excess: &mut [u32; 256], t: u8, h: u8, x: u32) {
 }
 
 // The two codes of arc a from t to h.
-fn plant_arc(
+fn set_arc(
     head: &mut [u8; 2048],
     room: &mut [u32; 2048],
     cost: &mut [u32; 2048],
@@ -469,7 +470,7 @@ fn plant_arc(
 }
 
 // The arcs of the network, with the room above the lower bounds; the lower bounds themselves are carried.
-fn plant_arcs(
+fn set_arcs(
     tails: &[u8],
     heads: &[u8],
     lows: &[u32],
@@ -488,14 +489,15 @@ fn plant_arcs(
         let h = heads[a];
         let low = lows[a];
         let r = std::num::wrapping_sub_u32(ups[a], low);
-        plant_arc(head, room, cost, a, t, h, r, bytes32::to_unsigned(costs[a]));
+        set_arc(head, room, cost, a, t, h, r, bytes32::to_unsigned(costs[a]));
         carry(excess, t, h, low);
         a += 1;
     }
 }
 
-// Node v hangs on the root by the code given, with the excess x on the arc: from v to the root, or from the root to v.
-fn plant_node(
+// The artificial arc by which the root is the parent of v, with the code given: it carries the excess x, from v to the root or from the
+// root to v.
+fn set_artificial_arc(
     head: &mut [u8; 2048],
     room: &mut [u32; 2048],
     up: &mut [usize; 256],
@@ -517,8 +519,8 @@ fn plant_node(
     below[v as usize] = 1 << v;
 }
 
-// Every node hangs on the root.
-fn plant_nodes(
+// The initial tree: the root is the parent of every node.
+fn initial_tree(
     head: &mut [u8; 2048],
     room: &mut [u32; 2048],
     up: &mut [usize; 256],
@@ -532,7 +534,7 @@ fn plant_nodes(
 {
     let mut v = 0;
     while v < n {
-        plant_node(
+        set_artificial_arc(
             head,
             room,
             up,
@@ -546,7 +548,7 @@ fn plant_nodes(
     }
 }
 
-// From every node hung on the root to the last pivot.
+// From the initial tree to the last pivot.
 fn solve(
     head: &mut [u8; 2048],
     room: &mut [u32; 2048],
@@ -560,23 +562,65 @@ fn solve(
     let mut up = [0usize; 256];
     let mut price = [0u32; 256];
     let mut below = [u64::MAX; 256];
-    plant_nodes(head, room, &mut up, &mut price, &mut below, excess, m, n);
+    initial_tree(head, room, &mut up, &mut price, &mut below, excess, m, n);
     improve(head, room, cost, &mut up, &mut price, &mut below, m);
 }
 
-// What the arcs carry: the room of their codes back, above the lower bounds.
-fn write_flow(lows: &[u32], room: &[u32; 2048], flow: &mut [u32])
-    requires { ⌜ (length (now lows) ≤ 512) × (length (now flow) ≡ length (now lows)) ⌝ }
+// The rooms after the last pivot; as given, where the balances do not sum to 0.
+fn optimise(
+    tails: &[u8],
+    heads: &[u8],
+    lows: &[u32],
+    ups: &[u32],
+    costs: &[i32],
+    balances: &[i32],
+    room: &mut [u32; 2048],
+)
+    requires { ⌜ SameLengths (length (now tails)) (now tails) (now heads) (now lows) (now ups) (now costs) × (length (now balances) ≤ 64) ⌝ }
 {
-    let mut a = 0;
-    while a < lows.len() {
-        flow[a] = std::num::wrapping_add_u32(lows[a], room[2 * a + 1]);
-        a += 1;
+    let mut excess = [0u32; 256];
+    if copy_balances(balances, &mut excess) != 0 {
+        return;
+    }
+    let mut head = [ROOT; 2048];
+    let mut cost = [0u32; 2048];
+    set_arcs(
+        tails,
+        heads,
+        lows,
+        ups,
+        costs,
+        &mut head,
+        room,
+        &mut cost,
+        &mut excess,
+    );
+    solve(&mut head, room, &cost, &excess, tails.len(), balances.len());
+}
+
+// x above the lower bound, or the upper bound where that is less.
+fn clamped(low: u32, up: u32, x: u32) -> u32
+    requires { ⌜ low ≤ up ⌝ }
+    ensures { λ r. ⌜ (low ≤ r) × (r ≤ up) ⌝ }
+{
+    if up - low < x {
+        return up;
+    }
+    low + x
+}
+
+// What the arcs carry: the room of their codes back, above the lower bounds, and no more than the upper bounds.
+fn write_flow(lows: &[u32], ups: &[u32], room: &[u32; 2048], flow: &mut [u32])
+    requires { ⌜ (length (now flow) ≤ 512) × (length (now lows) ≡ length (now flow)) × (length (now ups) ≡ length (now flow)) × ((a : ℕ) → a < length (now flow) → getD (now lows) a 0 ≤ getD (now ups) a 0) ⌝ }
+    ensures { λ _. ⌜ WithinBounds (now (lows .entry)) (now (ups .entry)) (now (flow .exit)) ⌝ }
+{
+    for a in 0..lows.len() {
+        flow[a] = clamped(lows[a], ups[a], room[2 * a + 1]);
     }
 }
 
-// A guess of a least-cost flow. The caller goes on from it.
-fn guess(
+// A list within the bounds, and mostly a least-cost flow where there is a flow.
+pub fn guess(
     tails: &[u8],
     heads: &[u8],
     lows: &[u32],
@@ -585,50 +629,10 @@ fn guess(
     balances: &[i32],
     flow: &mut [u32],
 )
-    requires { ⌜ SameLengths (length (now flow)) (now tails) (now heads) (now lows) (now ups) (now costs) × (length (now balances) ≤ 64) ⌝ }
+    requires { ⌜ SameLengths (length (now flow)) (now tails) (now heads) (now lows) (now ups) (now costs) × (length (now balances) ≤ 64) × ((a : ℕ) → a < length (now flow) → getD (now lows) a 0 ≤ getD (now ups) a 0) ⌝ }
+    ensures { λ _. ⌜ WithinBounds (now (lows .entry)) (now (ups .entry)) (now (flow .exit)) ⌝ }
 {
-    let mut excess = [0u32; 256];
-    if copy_balances(balances, &mut excess) != 0 {
-        return;
-    }
-    let mut head = [ROOT; 2048];
     let mut room = [0u32; 2048];
-    let mut cost = [0u32; 2048];
-    plant_arcs(
-        tails,
-        heads,
-        lows,
-        ups,
-        costs,
-        &mut head,
-        &mut room,
-        &mut cost,
-        &mut excess,
-    );
-    solve(
-        &mut head,
-        &mut room,
-        &cost,
-        &excess,
-        tails.len(),
-        balances.len(),
-    );
-    write_flow(lows, &room, flow);
-}
-
-// A flow, and a least-cost one where the guess is right; false if there is none.
-pub fn starting_flow(
-    tails: &[u8],
-    heads: &[u8],
-    lows: &[u32],
-    ups: &[u32],
-    costs: &[i32],
-    balances: &[i32],
-    flow: &mut [u32],
-) -> bool
-    requires { ⌜ Given (now balances) (now tails) (now heads) (now lows) (now ups) (now flow) × (length (now costs) ≡ length (now tails)) ⌝ }
-    ensures { λ r. ⌜ Answer (now (balances .entry)) (now (tails .entry)) (now (heads .entry)) (now (lows .entry)) (now (ups .entry)) (now (flow .exit)) r ⌝ }
-{
-    guess(tails, heads, lows, ups, costs, balances, flow);
-    feasible::feasible(tails, heads, lows, ups, balances, flow)
+    optimise(tails, heads, lows, ups, costs, balances, &mut room);
+    write_flow(lows, ups, &room, flow);
 }

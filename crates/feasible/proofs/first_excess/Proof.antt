@@ -6,7 +6,7 @@ use lib.Signed.{_≤ℤ_}
 use mir.Syntax.{w64}
 use mir.Facts.{toZ-ofZ}
 use borrow.Author.Needs.{needs}
-use Rattle.feasible.proofs.Excess.{first-yes, first-more, first-none}
+use Rattle.feasible.proofs.FirstExcess.{first-yes, first-more, first-none}
 use Rattle.feasible.proofs.first_excess.Statement.{statement}
 use Rattle.feasible.proofs.first_excess.Tie as tie
 

@@ -14,7 +14,8 @@ use Rattle.certificates.specs.Graph.{graph}
 use Rattle.pushing.proofs.LeastRoom.{way-codes}
 use Rattle.pushing.proofs.Lists.{small-without-heads, bounds-without-heads}
 use Rattle.feasible.proofs.Sending.{sends-to-none, sends-to-blocked, sends-to-yes, able-here}
-use Rattle.feasible.proofs.Widths.{below, turned-fits, zero-sub}
+use Rattle.flow_test.proofs.Widths.{zero-sub}
+use Rattle.feasible.proofs.Widths.{below, turned-fits}
 use Rattle.feasible.proofs.send_to.Statement.{statement}
 use Rattle.feasible.proofs.send_to.Tie as tie
 

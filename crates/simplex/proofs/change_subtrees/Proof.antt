@@ -4,10 +4,10 @@ use Rattle.simplex.proofs.change_subtrees.Statement.{statement}
 use Rattle.simplex.proofs.change_subtrees.Tie as tie
 
 abbrev Inv-loop : tie.InvT-loop
-Inv-loop head up below₀ from meet part x₀ counter₀ below x counter = counter ≤ 65
+Inv-loop head up below₀ from join part x₀ counter₀ below x counter = counter ≤ 65
 
 abbrev μ-loop : tie.MeasureT-loop
-μ-loop head up below₀ from meet part x₀ counter₀ below x counter = 65 - counter
+μ-loop head up below₀ from join part x₀ counter₀ below x counter = 65 - counter
 
 pub change-subtrees-spec : {M : Type 1} → statement M
 change-subtrees-spec =

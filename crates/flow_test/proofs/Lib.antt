@@ -1,0 +1,3 @@
+pub mod Widths
+mod Excess
+mod IsFlow
