@@ -1,4 +1,3 @@
-mod Lookup
 mod Progress
 mod Balances
 mod Network

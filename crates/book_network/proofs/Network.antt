@@ -15,7 +15,8 @@ use Rattle.allocation.specs.BookNet.{Arc, balancesOf, sources, joinArc, joinArc
 use Rattle.allocation.proofs.Nodes.{count-arcs, nodes-count}
 use Rattle.allocation.proofs.Rows.{rows-length}
 use Rattle.allocation.proofs.Size.{arcs-few}
-use Rattle.book_network.specs.Held.{Holds, Held, Tables, HasBook}
+use Rattle.follow.specs.Tables.{Tables}
+use Rattle.book_network.specs.Held.{Holds, Held, HasBook}
 use Rattle.book_network.specs.Arrays.{Arrays, Long, rowsBy, Progress, Adds, AddsJoins, blank, AddsAll, MakesNet}
 
 pub progress-room : (l : List Arc) (A : Arrays) (m : ℕ) (ahead : List Arc) → Progress l A m ahead → m + length ahead ≡ length l

@@ -15,12 +15,13 @@ use Rattle.book.specs.Book.{Book}
 use Rattle.allocation.specs.Ways.{offer, given?, orNone, permits, oneIf}
 use Rattle.allocation.specs.BookNet.{Arc, down, sources, price, joinArc}
 use Rattle.allocation.proofs.Nodes.{noArc}
-use Rattle.book_network.specs.declared.Join.{Join}
+use Rattle.allocation.proofs.Accepted.{price-small}
+use Rattle.follow.specs.declared.Join.{Join}
+use Rattle.follow.specs.declared.Join.the-variants.{No, At}
+use Rattle.follow.specs.Tables.{Tables, HasTables}
+use Rattle.follow.specs.Joins.{joinOf, Joins}
 use Rattle.book_network.specs.declared.NetworkArc.{NetworkArc}
-use Rattle.book_network.specs.declared.Join.the-variants.{No, At}
-use Rattle.book_network.specs.Held.{Tables}
-use Rattle.book_network.specs.Joins.{joinOf, isJoin, Joins}
-use Rattle.book_network.specs.Arrays.{Arrays, Long, arcOf, put, arcBy, putIf, Progress, Adds, AddsJoins}
+use Rattle.book_network.specs.Arrays.{Arrays, Long, arcOf, put, isJoin, costIn, arcBy, putIf, Progress, Adds, AddsJoins}
 
 pub put-long : (A : Arrays) (m : ℕ) (a : NetworkArc) → Long A → Long (put A m a)
 put-long A m a h = record {
@@ -44,6 +45,14 @@ progress-put l A m a rest few p =
       costs-are = filled-more (λ a. pos (a .cost)) l 512 (pos 0) noArc m (A .costs) (pos (a .cost)) (p .costs-are) k (omega arith) (ap (λ a. pos (a .cost)) (sym (n .here)));
       is-ahead = rw add-one (n .later);
     }
+
+pub cost-small : {fee e : ℕ} {ticks costs instruments starts finishes : List ℕ} (i j : ℕ) (o : Join) → HasTables fee e ticks costs instruments starts finishes
+    → Joins fee e ticks costs instruments starts finishes i j o → costIn o ≤ 1000000
+cost-small i j o h w = rw (w .each (h .book) (h .tables)) (go (offer (h .book) i j) (price-small (h .book) (h .tables .accepted) i j))
+  where
+    go : (x : Option ℕ) → orNone x ≤ 1000000 → costIn (joinOf x) ≤ 1000000
+    go none k = k
+    go (some c) k = k
 
 -- the two ways through `put_join`
 pub put-none : (o : Join) (i j : ℕ) (A : Arrays) (m : ℕ) → o ≡ No → (A ≡ putIf o i j A m) × (m ≡ m + oneIf (isJoin o))

@@ -1,6 +1,6 @@
 -- The arrays of a network, filled arc after arc.
 use mathlib.Core.Path.{_≡_}
-use mathlib.Core.Bool.{cond}
+use mathlib.Core.Bool.{Bool, true, false, cond}
 use mathlib.Core.List.{List, [], _∷_, _++_, map}
 use Prim.Native.Nat.{ℕ, _+_, _*_, _-_, _≤_}
 use lib.ListN.{length, set, drop, replicate}
@@ -12,10 +12,11 @@ use Rattle.network.specs.declared.Network.{Network}
 use Rattle.book.specs.Book.{Book}
 use Rattle.book.specs.declared.CheckedBook.{CheckedBook}
 use Rattle.allocation.specs.BookNet.{Arc, sources, joinArc, entryArc, bookArcs, bookNet}
-use Rattle.book_network.specs.declared.Join.{Join}
+use Rattle.follow.specs.declared.Join.{Join}
+use Rattle.follow.specs.declared.Join.the-variants.{No, At}
+use Rattle.follow.specs.Tables.{Tables}
 use Rattle.book_network.specs.declared.NetworkArc.{NetworkArc}
-use Rattle.book_network.specs.Held.{Holds, Tables}
-use Rattle.book_network.specs.Joins.{isJoin, costIn}
+use Rattle.book_network.specs.Held.{Holds}
 
 pub record Arrays : Type 0 where
   pub tails : List ℕ
@@ -42,6 +43,14 @@ arcOf a = record { tail = a .tail; head = a .head; low = a .low; up = a .up; cos
 -- an arc put at m
 abbrev pub put : Arrays → ℕ → NetworkArc → Arrays
 put A m a = arrays (set (A .tails) m (a .tail)) (set (A .heads) m (a .head)) (set (A .lows) m (a .low)) (set (A .ups) m (a .up)) (set (A .costs) m (a .cost))
+
+abbrev pub isJoin : Join → Bool
+isJoin No = false
+isJoin (At c) = true
+
+abbrev pub costIn : Join → ℕ
+costIn No = 0
+costIn (At c) = c
 
 -- the join from i to j, put at m if there is one
 abbrev pub arcBy : Join → ℕ → ℕ → Arc

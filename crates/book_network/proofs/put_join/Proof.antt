@@ -4,10 +4,9 @@ use Rattle.book_network.proofs.put_join.Tie as tie
 use mathlib.Core.Path.{_≡_}
 use Prim.Native.Nat.{ℕ, _≤_}
 use native.Mathlib.Omega.{arith}
-use Rattle.book_network.specs.declared.Join.{Join}
-use Rattle.book_network.specs.declared.Join.the-variants.{At}
-use Rattle.book_network.specs.Joins.{costIn}
-use Rattle.book_network.specs.Arrays.{arrays}
+use Rattle.follow.specs.declared.Join.{Join}
+use Rattle.follow.specs.declared.Join.the-variants.{At}
+use Rattle.book_network.specs.Arrays.{arrays, costIn}
 use Rattle.book_network.proofs.Progress.{put-none, put-one}
 
 -- from one place to an earlier one

@@ -2,8 +2,7 @@ use Prim.Native.Nat.{_≤_}
 use native.Mathlib.Omega.{arith}
 use borrow.Author.Needs.{needs}
 use Rattle.book_network.specs.Arrays.{arrays}
-use Rattle.book_network.proofs.Lookup.{cost-small}
-use Rattle.book_network.proofs.Progress.{Going, going-start, going-on, going-done}
+use Rattle.book_network.proofs.Progress.{cost-small, Going, going-start, going-on, going-done}
 use Rattle.book_network.proofs.put_joins.Statement.{statement}
 use Rattle.book_network.proofs.put_joins.Tie as tie
 
