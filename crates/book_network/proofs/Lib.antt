@@ -1,4 +1,5 @@
 mod Progress
 mod Balances
+mod Bounds
 mod Network
 pub mod Made
