@@ -1,4 +1,5 @@
 mod Progress
+mod Padding
 mod Balances
 mod Bounds
 mod Network

@@ -1,4 +1,4 @@
--- The arrays of a network: tails, heads and costs, filled arc after arc, and the bounds.
+-- The tails, heads and costs of a network, in arrays that are filled arc after arc.
 use mathlib.Core.Path.{_≡_}
 use mathlib.Core.Bool.{Bool, true, false, cond}
 use mathlib.Core.List.{List, [], _∷_, _++_, map}
@@ -32,7 +32,7 @@ pub record Long (A : Arrays) : Type 0 where
   pub heads-long : length (A .heads) ≡ 512
   pub costs-long : length (A .costs) ≡ 512
 
--- an arc as the arrays hold it
+-- an arc as these arrays hold it
 abbrev pub arcWith : ℕ → ℕ → ℕ → NetworkArc
 arcWith t h c = record { tail = t; head = h; cost = pos c }
 

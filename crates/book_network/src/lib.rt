@@ -222,6 +222,7 @@ pub fn network_of(book: CheckedBook) -> Network
         &mut costs,
     );
     let balances = balances_of(players, e);
+    // 1 is the lower bound of the entry arcs, and the upper bound of each arc but the last.
     let lows = ones(m, e);
     let n = m + 2 * e;
     let ups = ups_of(players, n);

@@ -4,7 +4,7 @@ use Prim.Native.Nat.{ℕ}
 use native.Mathlib.Omega.{arith}
 use lib.ListN.{set, replicate, length-replicate}
 use borrow.Author.Needs.{needs}
-use Rattle.book_network.proofs.Bounds.{padded-set}
+use Rattle.book_network.proofs.Padding.{padded-set}
 use Rattle.book_network.proofs.ups_of.Statement.{statement}
 use Rattle.book_network.proofs.ups_of.Tie as tie
 
