@@ -1,3 +1,4 @@
+-- `ones` meets its contract: one place more in each round.
 use mathlib.Core.Path.{_≡_, subst}
 use mathlib.Core.List.{_++_}
 use Prim.Native.Nat.{_-_, _≤_}
