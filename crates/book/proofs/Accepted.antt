@@ -2,7 +2,7 @@
 use Prim.Native.Nat.{ℕ, zero, suc, _≤_, _<_}
 use mathlib.Core.Path.{_≡_, refl}
 use mathlib.Core.Bool.{Bool, true, false, _&&_}
-use mathlib.Core.Option.{Option, none, some}
+use mathlib.Core.Option.{some}
 use mathlib.Core.List.{List, [], _∷_, _++_}
 use native.Mathlib.Omega.{arith}
 use lib.ListN.{length, getD}
@@ -14,7 +14,6 @@ use Rattle.lines.specs.Lines.{Entry}
 use Rattle.book.specs.Book.{Book, parse}
 use Rattle.book.specs.Questions.{header, askBook, askForm, refusal}
 use Rattle.lines.specs.Questions.{moveOf, fairMove, none?, stands, moves, fairEntry, entries, all}
-use Rattle.book.specs.Checked.{checkedBook, unlessRefused}
 use Rattle.lines.specs.Columns.{nobody}
 
 asked : (t : Bool) (n next : ℕ) → ask t (suc n) next ≡ 0 → (t ≡ true) × (next ≡ 0)
@@ -72,11 +71,3 @@ accepted s b e p =
       fair-entries = all-fair (b .entries) (q3 .0);
       few = leb-true _ _ (q4 .0);
     }
-
-pub count-few : (s : List ℕ) → checkedBook s .count ≤ 28
-count-few s = go (refusal s) refl (parse s) refl
-  where
-    go : (q : ℕ) → refusal s ≡ q → (o : Option Book) → parse s ≡ o → unlessRefused q (length s) o .count ≤ 28
-    go zero e none p = omega arith
-    go zero e (some b) p = accepted s b e p .few
-    go (suc q) e o p = omega arith

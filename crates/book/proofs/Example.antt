@@ -8,7 +8,6 @@ use Rattle.lines.specs.Lines.{move, entry}
 use Rattle.lines.specs.Questions.{moves, all}
 use Rattle.book.specs.Book.{opening, book, whole, parse}
 use Rattle.book.specs.Questions.{refusal}
-use Rattle.book.specs.Name.{nameRefusal, nameOf}
 
 abbrev pub sample : List ℕ
 sample =
@@ -30,7 +29,3 @@ sample-read = refl
 sample-accepted : refusal sample ≡ 0
 unfolding bytes after _>>=_ _>>_ give guard remaining begins text front run valueFrom number word row more upTo many move entry opening book whole parse moves all
 sample-accepted = refl
-
-sample-named : (nameOf sample 2 ≡ bytes "xylo") × (nameRefusal sample 4 ≡ 19)
-unfolding bytes after _>>=_ _>>_ give guard remaining begins text front run valueFrom number word row more upTo many move entry opening book whole parse moves all
-sample-named = (refl, refl)

@@ -1,5 +1,4 @@
 pub mod Form
 pub mod Judging
-pub mod Naming
 pub mod Accepted
 pub mod Example

@@ -1,5 +1,4 @@
 pub mod Book
 pub mod Questions
 pub mod Checked
-pub mod Name
 pub mod Steps

@@ -1,4 +1,4 @@
-// Books: whether a book keeps the form and passes its questions, what it says, and the names of its entries.
+// Books: whether a book keeps the form and passes its questions, and what it says.
 use lines::entries::Entries;
 use lines::entries::read_entries;
 use lines::moves::Moves;
@@ -11,7 +11,6 @@ ghost use Rattle.text.specs.Reader.{Right};
 ghost use Rattle.book.specs.Book.{opening};
 ghost use Rattle.book.specs.Questions.{questionOf, lineOf};
 ghost use Rattle.book.specs.Checked.{empty, Judged};
-ghost use Rattle.book.specs.Name.{Given, nameRefusal};
 ghost use Rattle.book.specs.Steps.{Closing, answerOf, headerBad, heldOf, judgedOf};
 
 // The first question that a book fails, and for 13 to 15 a line that fails it.
@@ -234,43 +233,4 @@ pub fn check(book: &[u8]) -> Checked
         return refused(Answer::Malformed);
     }
     judge(o, m, e)
-}
-
-// The name of an entry of a book, counted from 1; the empty part if it is refused.
-pub fn name(book: &[u8], entry: u32) -> &[u8]
-    ensures { λ r. ⌜ Given (now (book .entry)) entry (now r) ⌝ }
-{
-    let c = check(book);
-    let b = c.book;
-    let n = entry as usize;
-    if n < 1 {
-        return &book[..0];
-    }
-    if b.count < n {
-        return &book[..0];
-    }
-    let start = b.names[n - 1];
-    let end = start + b.lengths[n - 1];
-    &book[start..end]
-}
-
-// The number of the question that refuses that name, 0 if none.
-pub fn name_refusal(book: &[u8], entry: u32) -> u32
-    ensures { λ r. ⌜ r ≡ nameRefusal (now (book .entry)) entry ⌝ }
-{
-    let c = check(book);
-    let answer = c.answer;
-    let q = question(answer);
-    if q != 0 {
-        return q;
-    }
-    let b = c.book;
-    let n = entry as usize;
-    if n < 1 {
-        return 19;
-    }
-    if b.count < n {
-        return 19;
-    }
-    0
 }

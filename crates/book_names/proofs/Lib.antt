@@ -1,1 +1,3 @@
+mod Naming
 mod Places
+mod NameExample

@@ -6,7 +6,7 @@ use lib.ListN.{length, take, drop, getD}
 use Rattle.lines.specs.Columns.{nobody}
 use Rattle.book.specs.Book.{parse}
 use Rattle.book.specs.Checked.{entriesOf}
-use Rattle.book.specs.Name.{Given, nameRefusal}
+use Rattle.book_names.specs.Name.{Given, nameRefusal}
 use Rattle.book_names.specs.declared.Span.{Span}
 
 -- the part of s that a span tells of

@@ -1,4 +1,6 @@
-// Where the names of a book's entries lie.
+// The names of a book's entries: where one lies, the name, and the question that refuses it.
+ghost use mathlib.Core.Path.{_≡_};
+ghost use Rattle.book_names.specs.Name.{Given, nameRefusal};
 ghost use Rattle.book_names.specs.BookNames.{Names};
 
 // A part of a book.
@@ -9,26 +11,48 @@ pub struct Span {
 }
 
 // Where the name of an entry lies in the book. Questions 11 to 16 and 19.
-pub fn name(book: &[u8], entry: u32) -> Span
+pub fn place(book: &[u8], entry: u32) -> Span
     ensures { λ r. ⌜ Names (now (book .entry)) entry r ⌝ }
 {
     let checked = book::check(book);
     let b = checked.book;
     let n = entry as usize;
-    if n < 1 {
+    if (1 <= n) & (n <= b.count) {
         return Span {
-            start: 0,
-            length: 0,
-        };
-    }
-    if b.count < n {
-        return Span {
-            start: 0,
-            length: 0,
+            start: b.names[n - 1],
+            length: b.lengths[n - 1],
         };
     }
     Span {
-        start: b.names[n - 1],
-        length: b.lengths[n - 1],
+        start: 0,
+        length: 0,
     }
+}
+
+// The name of an entry of a book, counted from 1; the empty part if it is refused.
+pub fn name(book: &[u8], entry: u32) -> &[u8]
+    ensures { λ r. ⌜ Given (now (book .entry)) entry (now r) ⌝ }
+{
+    let at = place(book, entry);
+    let start = at.start;
+    let end = start + at.length;
+    &book[start..end]
+}
+
+// The number of the question that refuses that name, 0 if none.
+pub fn name_refusal(book: &[u8], entry: u32) -> u32
+    ensures { λ r. ⌜ r ≡ nameRefusal (now (book .entry)) entry ⌝ }
+{
+    let checked = book::check(book);
+    let answer = checked.answer;
+    let q = book::question(answer);
+    if q != 0 {
+        return q;
+    }
+    let b = checked.book;
+    let n = entry as usize;
+    if (1 <= n) & (n <= b.count) {
+        return 0;
+    }
+    19
 }

@@ -1,5 +1,6 @@
-mod Lookup
 mod Progress
+mod Padding
 mod Balances
+mod Bounds
 mod Network
 pub mod Made

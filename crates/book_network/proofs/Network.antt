@@ -15,8 +15,10 @@ use Rattle.allocation.specs.BookNet.{Arc, balancesOf, sources, joinArc, joinArc
 use Rattle.allocation.proofs.Nodes.{count-arcs, nodes-count}
 use Rattle.allocation.proofs.Rows.{rows-length}
 use Rattle.allocation.proofs.Size.{arcs-few}
-use Rattle.book_network.specs.Held.{Holds, Held, Tables, HasBook}
-use Rattle.book_network.specs.Arrays.{Arrays, Long, rowsBy, Progress, Adds, AddsJoins, blank, AddsAll, MakesNet}
+use Rattle.follow.specs.Tables.{Tables, HasTables}
+use Rattle.book_network.specs.Held.{Holds, Held}
+use Rattle.book_network.proofs.Bounds.{lows-are, ups-are}
+use Rattle.book_network.specs.Arrays.{Arrays, Long, rowsBy, Progress, AddsJoins, AddsRows, blank, AddsAll, MakesNet}
 
 pub progress-room : (l : List Arc) (A : Arrays) (m : ℕ) (ahead : List Arc) → Progress l A m ahead → m + length ahead ≡ length l
 progress-room l A m ahead p = ap (λ k. m + length k) (sym (p .is-ahead)) ∙ omega (arith, length-drop m l, p .upto)
@@ -26,7 +28,7 @@ abbrev pub rowsOf : Book → List Arc
 rowsOf b = rowsBy (size b) (b .players)
 
 pub blank-long : (A : Arrays) → A ≡ blank → Long A
-blank-long A q = rw q (record { tails-long = refl; heads-long = refl; lows-long = refl; ups-long = refl; costs-long = refl })
+blank-long A q = rw q (record { tails-long = refl; heads-long = refl; costs-long = refl })
 
 module _ (fee e : ℕ) (ticks costs instruments starts finishes : List ℕ) where
   few-arcs : (b : Book) → Tables b fee e ticks costs instruments starts finishes → length (bookArcs b) ≤ 463
@@ -46,7 +48,7 @@ module _ (fee e : ℕ) (ticks costs instruments starts finishes : List ℕ) wher
     long = blank-long A q;
     each = λ b T.
         (let n : e + 1 - 1 ≡ size b = omega (arith, T .entries-are) in
-        rw (q, n) (record { upto = omega arith; tails-are = refl; heads-are = refl; lows-are = refl; ups-are = refl; costs-are = refl; is-ahead = refl }));
+        rw (q, n) (record { upto = omega arith; tails-are = refl; heads-are = refl; costs-are = refl; is-ahead = refl }));
   }
 
   pub outer-on : (A B : Arrays) (m r j : ℕ) → Outer A m j → j ≤ e → AddsJoins fee e ticks costs instruments starts finishes j A m B r → Outer B r (j + 1)
@@ -67,7 +69,7 @@ module _ (fee e : ℕ) (ticks costs instruments starts finishes : List ℕ) wher
       let n : e + 1 - j ≡ 0 = omega arith in
       subst (λ k. Progress (bookArcs b) A m (joinArcs b k j ++ rowsOf b)) n (o .each b T)
 
-  module _ (players : ℕ) (has : HasBook players fee e ticks costs instruments starts finishes) where
+  module _ (has : HasTables fee e ticks costs instruments starts finishes) where
     pub outer-room : (A : Arrays) (m j : ℕ) → Outer A m j → m ≤ 463
     outer-room A m j o = omega (arith, o .each (has .book) (has .tables) .upto, few-arcs (has .book) (has .tables))
 
@@ -78,16 +80,16 @@ module _ (fee e : ℕ) (ticks costs instruments starts finishes : List ℕ) wher
         let x = rows-length entryArc (endArc b) (lastArc b) (size b) in
         omega (arith, few-arcs b (has .tables), has .tables .entries-are)
 
-  pub all-done : (players : ℕ) (A B : Arrays) (m j : ℕ) → Outer A m j → e < j → Adds A m B (m + e + e + 1) (rowsBy e players) → AddsAll players fee e ticks costs instruments starts finishes B (m + e + e + 1)
-  all-done players A B m j o h x = record {
+  pub all-done : (A B : Arrays) (m j : ℕ) → Outer A m j → e < j → AddsRows e A m B (m + e + e + 1) → AddsAll fee e ticks costs instruments starts finishes B m
+  all-done A B m j o h x = record {
     long = x .long;
-    each = λ b T g.
-        (let q : rowsOf b ≡ rowsBy e players ++ [] = ap₂ rowsBy (sym (T .entries-are)) (sym g) ∙ sym (append-nil (rowsBy e players)) in
-        x .adds (bookArcs b) [] (omega (arith, few-arcs b T)) (subst (λ k. Progress (bookArcs b) A m k) q (outer-done A m j o h b T)));
+    each = λ b T.
+        (let q : rowsOf b ≡ rowsBy e (b .players) ++ [] = ap (λ n. rowsBy n (b .players)) (sym (T .entries-are)) ∙ sym (append-nil (rowsBy e (b .players))) in
+        x .each (b .players) (bookArcs b) [] (omega (arith, few-arcs b T)) (subst (λ k. Progress (bookArcs b) A m k) q (outer-done A m j o h b T)));
   }
 
-pub few-of : (players fee e : ℕ) (ticks costs instruments starts finishes : List ℕ) → HasBook players fee e ticks costs instruments starts finishes → e ≤ 28
-few-of players fee e ticks costs instruments starts finishes h = omega (arith, h .tables .entries-are, h .tables .accepted .few)
+pub few-of : (fee e : ℕ) (ticks costs instruments starts finishes : List ℕ) → HasTables fee e ticks costs instruments starts finishes → e ≤ 28
+few-of fee e ticks costs instruments starts finishes h = omega (arith, h .tables .entries-are, h .tables .accepted .few)
 
 -- the struct
 same : {n n′ m m′ : ℕ} {b b′ c c′ : List ℤ} {t t′ d d′ l l′ u u′ : List ℕ} → n ≡ n′ → m ≡ m′ → b ≡ b′ → t ≡ t′ → d ≡ d′ → l ≡ l′ → u ≡ u′ → c ≡ c′
@@ -110,34 +112,43 @@ tables-of b s h = record {
 players-of : (b : Book) (s : CheckedBook) → Holds b s → s .players ≡ b .players
 players-of b s h = ap (λ (x : CheckedBook). x .players) (h .is)
 
-struct-made : (b : Book) (e : ℕ) (A : Arrays) (r : ℕ) (balances : List ℤ) → e ≡ size b → balances ≡ padded 64 (pos 0) (balancesOf b) → Progress (bookArcs b) A r []
-    → _≡_ {A = Network} (record { nodes = 2 * e + 2; arcs = r; balances = balances; tails = A .tails; heads = A .heads; lows = A .lows; ups = A .ups; costs = A .costs }) (structOf (bookNet b))
-struct-made b e A r balances n w p =
-    let all : r ≡ length (bookArcs b) = (let q = progress-room (bookArcs b) A r [] p in omega arith) in
-    same (ap (λ k. 2 * k + 2) n ∙ sym (nodes-count b)) (all ∙ sym (count-arcs b)) w
-    (p .tails-are ∙ filled-all (λ a. a .tail) (bookArcs b) 512 0 r all) (p .heads-are ∙ filled-all (λ a. a .head) (bookArcs b) 512 0 r all)
-    (p .lows-are ∙ filled-all (λ a. a .low) (bookArcs b) 512 0 r all) (p .ups-are ∙ filled-all (λ a. a .up) (bookArcs b) 512 0 r all)
-    (p .costs-are ∙ filled-all (λ a. pos (a .cost)) (bookArcs b) 512 (pos 0) r all)
+struct-made : (b : Book) (e : ℕ) (A : Arrays) (m : ℕ) (balances : List ℤ) (lows ups : List ℕ) → e ≡ size b → balances ≡ padded 64 (pos 0) (balancesOf b)
+    → lows ≡ padded 512 0 (replicate m 0 ++ replicate e 1) → ups ≡ padded 512 0 (replicate (m + 2 * e) 1 ++ (b .players ∷ [])) → length (bookArcs b) ≤ 463 → Progress (bookArcs b) A (m + e + e + 1) []
+    → _≡_ {A = Network} (record { nodes = 2 * e + 2; arcs = m + 2 * e + 1; balances = balances; tails = A .tails; heads = A .heads; lows = lows; ups = ups; costs = A .costs }) (structOf (bookNet b))
+struct-made b e A m balances lows ups n w x y few p =
+    let all : m + e + e + 1 ≡ length (bookArcs b) = (let q = progress-room (bookArcs b) A (m + e + e + 1) [] p in omega arith) in
+    same (ap (λ k. 2 * k + 2) n ∙ sym (nodes-count b)) (omega (arith, all, count-arcs b)) w
+    (p .tails-are ∙ filled-all (λ a. a .tail) (bookArcs b) 512 0 (m + e + e + 1) all) (p .heads-are ∙ filled-all (λ a. a .head) (bookArcs b) 512 0 (m + e + e + 1) all)
+    (x ∙ sym (lows-are b m e n all (omega (arith, p .upto)))) (y ∙ sym (ups-are b m e n all))
+    (p .costs-are ∙ filled-all (λ a. pos (a .cost)) (bookArcs b) 512 (pos 0) (m + e + e + 1) all)
 
-pub has-book : (s : CheckedBook) → Held s → HasBook (s .players) (s .fee) (s .count) (s .ticks) (s .costs) (s .instruments) (s .starts) (s .finishes)
-has-book s h = record { book = h .book; tables = tables-of (h .book) s (h .holds); players-is = players-of (h .book) s (h .holds) }
+module _ (s : CheckedBook) (h : Held s) where
+  pub has-tables : HasTables (s .fee) (s .count) (s .ticks) (s .costs) (s .instruments) (s .starts) (s .finishes)
+  has-tables = record { book = h .book; tables = tables-of (h .book) s (h .holds) }
 
-pub few-entries : (s : CheckedBook) → Held s → s .count ≤ 28
-few-entries s h = few-of (s .players) (s .fee) (s .count) (s .ticks) (s .costs) (s .instruments) (s .starts) (s .finishes) (has-book s h)
+  pub few-entries : s .count ≤ 28
+  few-entries = few-of (s .fee) (s .count) (s .ticks) (s .costs) (s .instruments) (s .starts) (s .finishes) has-tables
 
-pub few-players : (s : CheckedBook) → Held s → s .players ≤ 8
-few-players s h = omega (arith, players-of (h .book) s (h .holds), h .holds .accepted .players-high)
+  pub few-players : s .players ≤ 8
+  few-players = omega (arith, players-of (h .book) s (h .holds), h .holds .accepted .players-high)
 
 -- the struct of the arrays is that of the network of each book that s holds
-pub makes-net : (s : CheckedBook) (A : Arrays) (r : ℕ) (balances : List ℤ)
-    → balances ≡ padded 64 (pos 0) (pos (s .players) ∷ (replicate (2 * s .count) (pos 0) ++ (negℤ (pos (s .players)) ∷ [])))
-    → AddsAll (s .players) (s .fee) (s .count) (s .ticks) (s .costs) (s .instruments) (s .starts) (s .finishes) A r
-    → MakesNet s (record { nodes = 2 * s .count + 2; arcs = r; balances = balances; tails = A .tails; heads = A .heads; lows = A .lows; ups = A .ups; costs = A .costs })
-makes-net s A r balances w a = record {
-  each = λ b h.
-      (let T = tables-of b s h in
-      let p = players-of b s h in
-      let n = T .entries-are in
-      struct-made b (s .count) A r balances n
-      (w ∙ ap₂ (λ p n. padded 64 (pos 0) (pos p ∷ (replicate (2 * n) (pos 0) ++ (negℤ (pos p) ∷ [])))) p n) (a .each b T p));
-}
+module _ (s : CheckedBook) (A : Arrays) (m : ℕ) (a : AddsAll (s .fee) (s .count) (s .ticks) (s .costs) (s .instruments) (s .starts) (s .finishes) A m) where
+  pub arcs-room : Held s → m + s .count + s .count + 1 ≤ 463
+  arcs-room h =
+      let T = tables-of (h .book) s (h .holds) in
+      omega (arith, a .each (h .book) T .upto, few-arcs (s .fee) (s .count) (s .ticks) (s .costs) (s .instruments) (s .starts) (s .finishes) (h .book) T)
+
+  pub makes-net : (balances : List ℤ) (lows ups : List ℕ)
+      → balances ≡ padded 64 (pos 0) (pos (s .players) ∷ (replicate (2 * s .count) (pos 0) ++ (negℤ (pos (s .players)) ∷ [])))
+      → lows ≡ padded 512 0 (replicate m 0 ++ replicate (s .count) 1) → ups ≡ padded 512 0 (replicate (m + 2 * s .count) 1 ++ (s .players ∷ []))
+      → MakesNet s (record { nodes = 2 * s .count + 2; arcs = m + 2 * s .count + 1; balances = balances; tails = A .tails; heads = A .heads; lows = lows; ups = ups; costs = A .costs })
+  makes-net balances lows ups w x y = record {
+    each = λ b h.
+        (let T = tables-of b s h in
+        let p = players-of b s h in
+        let n = T .entries-are in
+        struct-made b (s .count) A m balances lows ups n
+        (w ∙ ap₂ (λ p n. padded 64 (pos 0) (pos p ∷ (replicate (2 * n) (pos 0) ++ (negℤ (pos p) ∷ [])))) p n) x
+        (y ∙ ap (λ p. padded 512 0 (replicate (m + 2 * s .count) 1 ++ (p ∷ []))) p) (few-arcs (s .fee) (s .count) (s .ticks) (s .costs) (s .instruments) (s .starts) (s .finishes) b T) (a .each b T));
+  }

@@ -1,13 +1,10 @@
 -- A checked book that holds a book: what the functions take.
 use mathlib.Core.Path.{_≡_}
-use mathlib.Core.List.{List}
-use Prim.Native.Nat.{ℕ, _+_}
-use Rattle.lines.specs.Columns.{table, column}
+use Prim.Native.Nat.{ℕ}
 use Rattle.book.specs.Book.{Book}
 use Rattle.book.specs.declared.CheckedBook.{CheckedBook}
 use Rattle.book.specs.Checked.{filled}
 use Rattle.book.proofs.Accepted.{Accepted}
-use Rattle.allocation.specs.Follow.{size}
 
 pub record Holds (b : Book) (s : CheckedBook) : Type 0 where
   pub accepted : Accepted b
@@ -17,23 +14,3 @@ pub record Holds (b : Book) (s : CheckedBook) : Type 0 where
 pub record Held (s : CheckedBook) : Type 0 where
   pub book : Book
   pub holds : Holds book s
-
--- its numbers and arrays, lent one by one
-pub record Tables (b : Book) (fee e : ℕ) (ticks costs instruments starts finishes : List ℕ) : Type 0 where
-  pub accepted : Accepted b
-  pub fee-is : fee ≡ b .fee
-  pub entries-are : e ≡ size b
-  pub ticks-are : ticks ≡ table (λ m. m .ticks + 1) (b .moves)
-  pub costs-are : costs ≡ table (λ m. m .cost) (b .moves)
-  pub instruments-are : instruments ≡ column (λ e. e .instrument) (b .entries)
-  pub starts-are : starts ≡ column (λ e. e .start) (b .entries)
-  pub finishes-are : finishes ≡ column (λ e. e .finish) (b .entries)
-
-pub record HasTables (fee e : ℕ) (ticks costs instruments starts finishes : List ℕ) : Type 0 where
-  pub book : Book
-  pub tables : Tables book fee e ticks costs instruments starts finishes
-
-pub record HasBook (players fee e : ℕ) (ticks costs instruments starts finishes : List ℕ) : Type 0 where
-  pub book : Book
-  pub tables : Tables book fee e ticks costs instruments starts finishes
-  pub players-is : players ≡ book .players

@@ -1,3 +1,2 @@
 pub mod Held
-pub mod Joins
 pub mod Arrays

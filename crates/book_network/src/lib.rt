@@ -1,119 +1,45 @@
 // The network of a checked book.
 use book::CheckedBook;
+use follow::Join;
 use network::Network;
 ghost use mathlib.Core.Path.{_≡_};
 ghost use mathlib.Core.List.{[], _∷_, _++_};
 ghost use Prim.Native.Nat.{_+_, _*_, _-_, _≤_, _<_};
 ghost use lib.IntN.{pos, negℤ};
-ghost use lib.ListN.{getD, replicate};
+ghost use lib.ListN.{replicate};
 ghost use Rattle.laws.specs.Padded.{padded};
-ghost use Rattle.allocation.specs.Follow.{inTime};
 ghost use Rattle.allocation.specs.Ways.{oneIf};
-ghost use Rattle.book_network.specs.Held.{Held, HasTables, HasBook};
-ghost use Rattle.book_network.specs.Joins.{joinOf, isJoin, costIn, linkBy, Joins};
-ghost use Rattle.book_network.specs.Arrays.{arrays, arcOf, Long, put, putIf, lastTo, rowsBy, Adds, AddsJoins, blank, AddsAll, MakesNet};
+ghost use Rattle.follow.specs.Tables.{HasTables};
+ghost use Rattle.book_network.specs.Held.{Held};
+ghost use Rattle.book_network.specs.Arrays.{arrays, arcWith, Long, put, isJoin, costIn, putIf, IsRow, AddsRows, AddsJoins, blank, AddsAll, MakesNet};
 
-// The cost of a join, or that there is none.
-enum Join {
-    No,
-    At(u32),
-}
-
-// The join from instrument a to b: t is one more than the ticks of the move, 0 for no move, and c its cost.
-fn join_by(a: u32, b: u32, t: u32, c: u32, finish: u32, start: u32) -> Join
-    requires { ⌜ (t ≤ 1000001) × (finish ≤ 1000000) ⌝ }
-    ensures { λ r. ⌜ r ≡ joinOf (inTime (linkBy a b t c) finish start) ⌝ }
-{
-    if a == b {
-        if finish <= start {
-            return Join::At(0);
-        }
-        return Join::No;
-    }
-    if t == 0 {
-        return Join::No;
-    }
-    if finish + (t - 1) <= start {
-        return Join::At(c);
-    }
-    Join::No
-}
-
-// The join from entry i to entry j; from 0, the opening of j.
-fn join_of<'a>(
-    fee: u32,
-    e: usize,
-    ticks: &'a [u32],
-    costs: &'a [u32],
-    instruments: &'a [u32],
-    starts: &'a [u32],
-    finishes: &'a [u32],
-    i: usize,
-    j: usize,
-) -> Join
-    requires { ⌜ HasTables fee e (now ticks) (now costs) (now instruments) (now starts) (now finishes) × (i ≤ e) × (1 ≤ j) × (j ≤ e) ⌝ }
-    ensures { λ r. ⌜ Joins fee e (now (ticks .entry)) (now (costs .entry)) (now (instruments .entry)) (now (starts .entry)) (now (finishes .entry)) i j r ⌝ }
-{
-    if i == 0 {
-        return Join::At(fee);
-    }
-    if i == j {
-        return Join::No;
-    }
-    let a = instruments[i - 1];
-    let b = instruments[j - 1];
-    let place = ((a - 1) * 16 + (b - 1)) as usize;
-    join_by(
-        a,
-        b,
-        ticks[place],
-        costs[place],
-        finishes[i - 1],
-        starts[j - 1],
-    )
-}
-
-// An arc in the types of the arrays.
+// An arc in the types of the arrays, without its bounds.
 struct NetworkArc {
     tail: u8,
     head: u8,
-    low: u32,
-    up: u32,
     cost: i32,
 }
 
 // The arc with these numbers.
-fn arc_of(tail: usize, head: usize, low: u32, up: u32, cost: u32) -> NetworkArc
+fn arc_of(tail: usize, head: usize, cost: u32) -> NetworkArc
     requires { ⌜ (tail ≤ 57) × (head ≤ 57) × (cost ≤ 1000000) ⌝ }
-    ensures { λ r. ⌜ r ≡ arcOf (record { tail = tail; head = head; low = low; up = up; cost = cost }) ⌝ }
+    ensures { λ r. ⌜ r ≡ arcWith tail head cost ⌝ }
 {
     NetworkArc {
         tail: tail as u8,
         head: head as u8,
-        low: low,
-        up: up,
         cost: cost as i32,
     }
 }
 
 // An arc, put at m.
-fn put_arc(
-    a: NetworkArc,
-    tails: &mut [u8],
-    heads: &mut [u8],
-    lows: &mut [u32],
-    ups: &mut [u32],
-    costs: &mut [i32],
-    m: usize,
-)
-    requires { ⌜ Long (arrays (now tails) (now heads) (now lows) (now ups) (now costs)) × (m < 512) ⌝ }
-    ensures { λ _. ⌜ arrays (now (tails .exit)) (now (heads .exit)) (now (lows .exit)) (now (ups .exit)) (now (costs .exit)) ≡ put (arrays (now (tails .entry)) (now (heads .entry)) (now (lows .entry)) (now (ups .entry)) (now (costs .entry))) m a ⌝ }
+fn put_arc(a: NetworkArc, tails: &mut [u8], heads: &mut [u8], costs: &mut [i32], m: usize)
+    requires { ⌜ Long (arrays (now tails) (now heads) (now costs)) × (m < 512) ⌝ }
+    ensures { λ _. ⌜ arrays (now (tails .exit)) (now (heads .exit)) (now (costs .exit)) ≡ put (arrays (now (tails .entry)) (now (heads .entry)) (now (costs .entry))) m a ⌝ }
 {
     let cost = a.cost;
     tails[m] = a.tail;
     heads[m] = a.head;
-    lows[m] = a.low;
-    ups[m] = a.up;
     costs[m] = cost;
 }
 
@@ -124,19 +50,17 @@ fn put_join(
     j: usize,
     tails: &mut [u8],
     heads: &mut [u8],
-    lows: &mut [u32],
-    ups: &mut [u32],
     costs: &mut [i32],
     m: usize,
 ) -> usize
-    requires { ⌜ Long (arrays (now tails) (now heads) (now lows) (now ups) (now costs)) × (m < 512) × (i ≤ 28) × (1 ≤ j) × (j ≤ 28) × (costIn o ≤ 1000000) ⌝ }
-    ensures { λ r. ⌜ (arrays (now (tails .exit)) (now (heads .exit)) (now (lows .exit)) (now (ups .exit)) (now (costs .exit)) ≡ putIf o i j (arrays (now (tails .entry)) (now (heads .entry)) (now (lows .entry)) (now (ups .entry)) (now (costs .entry))) m) × (r ≡ m + oneIf (isJoin o)) ⌝ }
+    requires { ⌜ Long (arrays (now tails) (now heads) (now costs)) × (m < 512) × (i ≤ 28) × (1 ≤ j) × (j ≤ 28) × (costIn o ≤ 1000000) ⌝ }
+    ensures { λ r. ⌜ (arrays (now (tails .exit)) (now (heads .exit)) (now (costs .exit)) ≡ putIf o i j (arrays (now (tails .entry)) (now (heads .entry)) (now (costs .entry))) m) × (r ≡ m + oneIf (isJoin o)) ⌝ }
 {
     match o {
         Join::No => m,
         Join::At(c) => {
-            let a = arc_of(2 * i, 2 * j - 1, 0, 1, c);
-            put_arc(a, tails, heads, lows, ups, costs, m);
+            let a = arc_of(2 * i, 2 * j - 1, c);
+            put_arc(a, tails, heads, costs, m);
             m + 1
         }
     }
@@ -154,57 +78,46 @@ fn put_joins<'a>(
     j: usize,
     tails: &mut [u8],
     heads: &mut [u8],
-    lows: &mut [u32],
-    ups: &mut [u32],
     costs: &mut [i32],
     m: usize,
 ) -> usize
-    requires { ⌜ HasTables fee e (now ticks) (now prices) (now instruments) (now starts) (now finishes) × (1 ≤ j) × (j ≤ e) × Long (arrays (now tails) (now heads) (now lows) (now ups) (now costs)) × (m ≤ 463) ⌝ }
-    ensures { λ r. ⌜ AddsJoins fee e (now (ticks .entry)) (now (prices .entry)) (now (instruments .entry)) (now (starts .entry)) (now (finishes .entry)) j (arrays (now (tails .entry)) (now (heads .entry)) (now (lows .entry)) (now (ups .entry)) (now (costs .entry))) m (arrays (now (tails .exit)) (now (heads .exit)) (now (lows .exit)) (now (ups .exit)) (now (costs .exit))) r ⌝ }
+    requires { ⌜ HasTables fee e (now ticks) (now prices) (now instruments) (now starts) (now finishes) × (1 ≤ j) × (j ≤ e) × Long (arrays (now tails) (now heads) (now costs)) × (m ≤ 463) ⌝ }
+    ensures { λ r. ⌜ AddsJoins fee e (now (ticks .entry)) (now (prices .entry)) (now (instruments .entry)) (now (starts .entry)) (now (finishes .entry)) j (arrays (now (tails .entry)) (now (heads .entry)) (now (costs .entry))) m (arrays (now (tails .exit)) (now (heads .exit)) (now (costs .exit))) r ⌝ }
 {
     let mut at = m;
     let mut i = e + 1;
     while i > 0 {
         i -= 1;
-        let o = join_of(fee, e, ticks, prices, instruments, starts, finishes, i, j);
-        at = put_join(o, i, j, tails, heads, lows, ups, costs, at);
+        let o = follow::join_of(fee, e, ticks, prices, instruments, starts, finishes, i, j);
+        at = put_join(o, i, j, tails, heads, costs, at);
     }
     at
 }
 
 // Arc k behind the joins: the entry arcs, the arcs to the last node, and the arc from the first node to the last.
-fn row_arc(players: u32, e: usize, k: usize) -> NetworkArc
+fn row_arc(e: usize, k: usize) -> NetworkArc
     requires { ⌜ (e ≤ 28) × (k ≤ 2 * e) ⌝ }
-    ensures { λ r. ⌜ r ≡ arcOf (getD (rowsBy e players) k (lastTo e players)) ⌝ }
+    ensures { λ r. ⌜ IsRow e k r ⌝ }
 {
     if k < e {
         let j = k + 1;
-        return arc_of(2 * j - 1, 2 * j, 1, 1, 0);
+        return arc_of(2 * j - 1, 2 * j, 0);
     }
     if k < 2 * e {
         let j = k - e + 1;
-        return arc_of(2 * j, 2 * e + 1, 0, 1, 0);
+        return arc_of(2 * j, 2 * e + 1, 0);
     }
-    arc_of(0, 2 * e + 1, 0, players, 0)
+    arc_of(0, 2 * e + 1, 0)
 }
 
 // The arcs behind the joins, put from m on.
-fn put_rows(
-    players: u32,
-    e: usize,
-    tails: &mut [u8],
-    heads: &mut [u8],
-    lows: &mut [u32],
-    ups: &mut [u32],
-    costs: &mut [i32],
-    m: usize,
-)
-    requires { ⌜ Long (arrays (now tails) (now heads) (now lows) (now ups) (now costs)) × (e ≤ 28) × (m + 2 * e < 512) ⌝ }
-    ensures { λ _. ⌜ Adds (arrays (now (tails .entry)) (now (heads .entry)) (now (lows .entry)) (now (ups .entry)) (now (costs .entry))) m (arrays (now (tails .exit)) (now (heads .exit)) (now (lows .exit)) (now (ups .exit)) (now (costs .exit))) (m + e + e + 1) (rowsBy e players) ⌝ }
+fn put_rows(e: usize, tails: &mut [u8], heads: &mut [u8], costs: &mut [i32], m: usize)
+    requires { ⌜ Long (arrays (now tails) (now heads) (now costs)) × (e ≤ 28) × (m + 2 * e < 512) ⌝ }
+    ensures { λ _. ⌜ AddsRows e (arrays (now (tails .entry)) (now (heads .entry)) (now (costs .entry))) m (arrays (now (tails .exit)) (now (heads .exit)) (now (costs .exit))) (m + e + e + 1) ⌝ }
 {
     for k in 0..2 * e + 1 {
-        let a = row_arc(players, e, k);
-        put_arc(a, tails, heads, lows, ups, costs, m + k);
+        let a = row_arc(e, k);
+        put_arc(a, tails, heads, costs, m + k);
     }
 }
 
@@ -220,9 +133,30 @@ fn balances_of(players: u32, e: usize) -> [i32; 64]
     r
 }
 
-// All arcs, put into arrays of zeros; gives how many there are.
+// An array with 1 in `count` places from `first` on, and 0 in the others.
+fn ones(first: usize, count: usize) -> [u32; 512]
+    requires { ⌜ first + count ≤ 512 ⌝ }
+    ensures { λ r. ⌜ r ≡ padded 512 0 (replicate first 0 ++ replicate count 1) ⌝ }
+{
+    let mut r = [0u32; 512];
+    for k in 0..count {
+        r[first + k] = 1;
+    }
+    r
+}
+
+// The upper bounds of n arcs and the last one behind them: 1 for each, and the players for the last.
+fn ups_of(players: u32, n: usize) -> [u32; 512]
+    requires { ⌜ n < 512 ⌝ }
+    ensures { λ r. ⌜ r ≡ padded 512 0 (replicate n 1 ++ (players ∷ [])) ⌝ }
+{
+    let mut r = ones(0, n);
+    r[n] = players;
+    r
+}
+
+// All arcs, put into arrays of zeros; gives how many of them are joins and openings.
 fn put_arcs<'a>(
-    players: u32,
     fee: u32,
     e: usize,
     ticks: &'a [u32],
@@ -232,12 +166,10 @@ fn put_arcs<'a>(
     finishes: &'a [u32],
     tails: &mut [u8],
     heads: &mut [u8],
-    lows: &mut [u32],
-    ups: &mut [u32],
     costs: &mut [i32],
 ) -> usize
-    requires { ⌜ HasBook players fee e (now ticks) (now prices) (now instruments) (now starts) (now finishes) × (arrays (now tails) (now heads) (now lows) (now ups) (now costs) ≡ blank) ⌝ }
-    ensures { λ r. ⌜ AddsAll players fee e (now (ticks .entry)) (now (prices .entry)) (now (instruments .entry)) (now (starts .entry)) (now (finishes .entry)) (arrays (now (tails .exit)) (now (heads .exit)) (now (lows .exit)) (now (ups .exit)) (now (costs .exit))) r ⌝ }
+    requires { ⌜ HasTables fee e (now ticks) (now prices) (now instruments) (now starts) (now finishes) × (arrays (now tails) (now heads) (now costs) ≡ blank) ⌝ }
+    ensures { λ r. ⌜ AddsAll fee e (now (ticks .entry)) (now (prices .entry)) (now (instruments .entry)) (now (starts .entry)) (now (finishes .entry)) (arrays (now (tails .exit)) (now (heads .exit)) (now (costs .exit))) r ⌝ }
 {
     let mut m = 0;
     let mut j = 1;
@@ -253,15 +185,13 @@ fn put_arcs<'a>(
             j,
             tails,
             heads,
-            lows,
-            ups,
             costs,
             m,
         );
         j += 1;
     }
-    put_rows(players, e, tails, heads, lows, ups, costs, m);
-    m + e + e + 1
+    put_rows(e, tails, heads, costs, m);
+    m
 }
 
 // The network of a book.
@@ -278,11 +208,8 @@ pub fn network_of(book: CheckedBook) -> Network
     let finishes = book.finishes;
     let mut tails = [0u8; 512];
     let mut heads = [0u8; 512];
-    let mut lows = [0u32; 512];
-    let mut ups = [0u32; 512];
     let mut costs = [0i32; 512];
     let m = put_arcs(
-        players,
         book.fee,
         e,
         &ticks,
@@ -292,14 +219,16 @@ pub fn network_of(book: CheckedBook) -> Network
         &finishes,
         &mut tails,
         &mut heads,
-        &mut lows,
-        &mut ups,
         &mut costs,
     );
     let balances = balances_of(players, e);
+    // 1 is the lower bound of the entry arcs, and the upper bound of each arc but the last.
+    let lows = ones(m, e);
+    let n = m + 2 * e;
+    let ups = ups_of(players, n);
     Network {
         nodes: 2 * e + 2,
-        arcs: m,
+        arcs: n + 1,
         balances: balances,
         tails: tails,
         heads: heads,

@@ -4,13 +4,13 @@ ghost use mathlib.Core.Option.{none, some};
 ghost use Rattle.laws.specs.Run.{first, next};
 ghost use Rattle.network.specs.FullList.{countFlows};
 ghost use Rattle.network_questions.specs.Questions.{refusal};
-ghost use Rattle.book.specs.Name.{nameRefusal};
 ghost use Rattle.calls.specs.Replies.{sees, countUnless};
 ghost use Rattle.flow_bytes.specs.NetworkBytes.{net};
 ghost use Rattle.network_calls.specs.NetworkCalls.{lends};
 ghost use Rattle.network_calls.specs.NetworkRun.{Answers};
 ghost use Rattle.book_calls.specs.BookCalls.{CountsBook};
 ghost use Rattle.book_calls.specs.BookRun.{AnswersBook};
+ghost use Rattle.book_names.specs.Name.{nameRefusal};
 ghost use Rattle.book_names.specs.BookNames.{Names};
 ghost use Rattle.book_listing.specs.Listing.{Listed};
 use book_names::Span;
@@ -89,12 +89,12 @@ pub extern "C" fn desk_listing(book: &[u8], text: &mut [u8]) -> usize
 pub extern "C" fn desk_name(book: &[u8], entry: u32) -> Span
     ensures { λ r. ⌜ Names (now (book .entry)) entry r ⌝ }
 {
-    book_names::name(book, entry)
+    book_names::place(book, entry)
 }
 
 #[no_mangle]
 pub extern "C" fn desk_name_refusal(book: &[u8], entry: u32) -> u32
     ensures { λ r. ⌜ r ≡ nameRefusal (now (book .entry)) entry ⌝ }
 {
-    book::name_refusal(book, entry)
+    book_names::name_refusal(book, entry)
 }

@@ -10,7 +10,7 @@ fn text_buffer() -> [u8; 98304] {
 
 // The listing of the first n bytes, written to standard output.
 fn print(book: &[u8], text: &mut [u8]) {
-    let n = desk::desk_listing(book, text);
+    let n = book_listing::list(book, text);
     if n <= text.len() {
         io::write_all(1, &text[..n]);
     }

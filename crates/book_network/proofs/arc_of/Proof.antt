@@ -8,7 +8,7 @@ use Rattle.book_network.proofs.arc_of.Statement.{statement}
 use Rattle.book_network.proofs.arc_of.Tie as tie
 
 returns : tie.Need-returns
-returns c = ap (λ z. (let r : NetworkArc = record { tail = c .args .tail; head = c .args .head; low = c .args .low; up = c .args .up; cost = z } in r)) (toZ-pos w32 (omega arith))
+returns c = ap (λ z. (let r : NetworkArc = record { tail = c .args .tail; head = c .args .head; cost = z } in r)) (toZ-pos w32 (omega arith))
 
 pub arc-of-spec : {M : Type 1} → statement M
 arc-of-spec = tie.close (tie.spec (λ c. search needs) (λ c. search needs) (λ c. search needs) returns)

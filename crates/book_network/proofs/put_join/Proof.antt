@@ -4,21 +4,20 @@ use Rattle.book_network.proofs.put_join.Tie as tie
 use mathlib.Core.Path.{_≡_}
 use Prim.Native.Nat.{ℕ, _≤_}
 use native.Mathlib.Omega.{arith}
-use Rattle.book_network.specs.declared.Join.{Join}
-use Rattle.book_network.specs.declared.Join.the-variants.{At}
-use Rattle.book_network.specs.Joins.{costIn}
-use Rattle.book_network.specs.Arrays.{arrays}
+use Rattle.follow.specs.declared.Join.{Join}
+use Rattle.follow.specs.declared.Join.the-variants.{At}
+use Rattle.book_network.specs.Arrays.{arrays, costIn}
 use Rattle.book_network.proofs.Progress.{put-none, put-one}
 
 -- from one place to an earlier one
 abbrev start : tie.After-known-told → tie.Start
-start c = c .before .before .before .before .before .before .before
+start c = c .before .before .before .before .before
 
 abbrev put : tie.After-costs → tie.After-put-arc
-put c = c .before .before .before .before .before .before .before .before .before
+put c = c .before .before .before .before .before
 
 abbrev made : tie.After-put-arc → tie.After-arc-of
-made c = c .before .before .before .before .before .before
+made c = c .before .before .before .before
 
 small-cost : (o : Join) (c : ℕ) → o ≡ At c → costIn o ≤ 1000000 → c ≤ 1000000
 small-cost o c e h = rw e at h
@@ -33,7 +32,7 @@ returns-2 : tie.Need-returns-2
 returns-2 c =
     let a = made (put c) in
     let x = start (a .before) .args in
-    put-one (x .o) (x .i) (x .j) (arrays (x .tails .now) (x .heads .now) (x .lows .now) (x .ups .now) (x .costs .now)) _ (x .m) _ (a .arc-of .result) (a .before .before .o .given .1) (a .arc-of .ensures) (put c .put-arc .ensures)
+    put-one (x .o) (x .i) (x .j) (arrays (x .tails .now) (x .heads .now) (x .costs .now)) _ (x .m) _ (a .arc-of .result) (a .before .before .o .given .1) (a .arc-of .ensures) (put c .put-arc .ensures)
 
 pub put-join-spec : {M : Type 1} → statement M
 put-join-spec =
@@ -41,4 +40,4 @@ put-join-spec =
     (tie.spec
     (λ c. search needs) (λ c. search needs) (λ c. search needs) (λ c. search needs) (λ c. search needs) arc-of-requires
     (λ c κs. search needs) (λ c. search needs) returns
-    (λ c. search needs) (λ c. search needs) (λ c. search needs) (λ c. search needs) (λ c. search needs) returns-2)
+    (λ c. search needs) (λ c. search needs) (λ c. search needs) returns-2)

@@ -2,34 +2,33 @@ use Prim.Native.Nat.{_≤_}
 use native.Mathlib.Omega.{arith}
 use borrow.Author.Needs.{needs}
 use Rattle.book_network.specs.Arrays.{arrays}
-use Rattle.book_network.proofs.Lookup.{cost-small}
-use Rattle.book_network.proofs.Progress.{Going, going-start, going-on, going-done}
+use Rattle.book_network.proofs.Progress.{cost-small, Going, going-start, going-on, going-done}
 use Rattle.book_network.proofs.put_joins.Statement.{statement}
 use Rattle.book_network.proofs.put_joins.Tie as tie
 
 abbrev Inv-loop : tie.InvT-loop
-Inv-loop fee e ticks prices instruments starts finishes j tails₀ heads₀ lows₀ ups₀ costs₀ m at₀ i₀ tails heads lows ups costs at i =
-    Going ticks prices instruments starts finishes fee e j (arrays tails₀ heads₀ lows₀ ups₀ costs₀) m (arrays tails heads lows ups costs) at i
+Inv-loop fee e ticks prices instruments starts finishes j tails₀ heads₀ costs₀ m at₀ i₀ tails heads costs at i =
+    Going ticks prices instruments starts finishes fee e j (arrays tails₀ heads₀ costs₀) m (arrays tails heads costs) at i
 
 abbrev μ-loop : tie.MeasureT-loop
-μ-loop fee e ticks prices instruments starts finishes j tails₀ heads₀ lows₀ ups₀ costs₀ m at₀ i₀ tails heads lows ups costs at i = i
+μ-loop fee e ticks prices instruments starts finishes j tails₀ heads₀ costs₀ m at₀ i₀ tails heads costs at i = i
 
 -- from one place to an earlier one
 abbrev start : tie.At-loop Inv-loop μ-loop → tie.Start Inv-loop μ-loop
-start c = c .before .before .before .before .before .before .before .before .before .before
+start c = c .before .before .before .before .before .before .before .before
 
-abbrev found : tie.After-put-join-arg5 Inv-loop μ-loop → tie.After-join-of Inv-loop μ-loop
-found c = c .before .before .before .before .before
+abbrev found : tie.After-put-join-arg3 Inv-loop μ-loop → tie.After-join-of Inv-loop μ-loop
+found c = c .before .before .before
 
 abbrev joined : tie.After-costs Inv-loop μ-loop → tie.After-put-join Inv-loop μ-loop
-joined c = c .before .before .before .before .before .before .before .before .before
+joined c = c .before .before .before .before .before
 
 few : (c : tie.Start Inv-loop μ-loop) → c .args .e ≤ 28
 few c = omega (arith, c .pre .0 .tables .accepted .few, c .pre .0 .tables .entries-are)
 
 loop-holds : tie.Need-loop-holds Inv-loop μ-loop
 loop-holds c =
-    let s = c .before .before .before .before .before .before .before .before .before in
+    let s = c .before .before .before .before .before .before .before in
     let x = s .args in
     going-start (x .ticks .now) (x .prices .now) (x .instruments .now) (x .starts .now) (x .finishes .now) (x .fee) (x .e) (x .j) _ (x .m) (s .pre .3)
 
@@ -56,13 +55,13 @@ loop-again c =
     let f = found (p .before) in
     let x = start (f .before .before) .args in
     let l = f .before .before .loop in
-    going-on (x .ticks .now) (x .prices .now) (x .instruments .now) (x .starts .now) (x .finishes .now) (x .fee) (x .e) (x .j) _ (x .m) (arrays (l .tails) (l .heads) (l .lows) (l .ups) (l .costs)) _ (l .at) _ (l .i) (f .join-of .result) (l .inv) (omega (arith, f .before .loop-test .taken)) (f .join-of .ensures) (p .put-join .ensures .0) (p .put-join .ensures .1)
+    going-on (x .ticks .now) (x .prices .now) (x .instruments .now) (x .starts .now) (x .finishes .now) (x .fee) (x .e) (x .j) _ (x .m) (arrays (l .tails) (l .heads) (l .costs)) _ (l .at) _ (l .i) (f .join-of .result) (l .inv) (omega (arith, f .before .loop-test .taken)) (f .join-of .ensures) (p .put-join .ensures .0) (p .put-join .ensures .1)
 
 returns : tie.Need-returns Inv-loop μ-loop
 returns c =
     let x = start (c .before) .args in
     let l = c .before .loop in
-    going-done (x .ticks .now) (x .prices .now) (x .instruments .now) (x .starts .now) (x .finishes .now) (x .fee) (x .e) (x .j) _ (x .m) (arrays (l .tails) (l .heads) (l .lows) (l .ups) (l .costs)) (l .at) (l .i) (l .inv) (omega (arith, c .loop-test .left))
+    going-done (x .ticks .now) (x .prices .now) (x .instruments .now) (x .starts .now) (x .finishes .now) (x .fee) (x .e) (x .j) _ (x .m) (arrays (l .tails) (l .heads) (l .costs)) (l .at) (l .i) (l .inv) (omega (arith, c .loop-test .left))
 
 pub put-joins-spec : {M : Type 1} → statement M
 put-joins-spec =
@@ -70,9 +69,9 @@ put-joins-spec =
     (tie.spec
     Inv-loop
     μ-loop
-    (λ c. omega (arith, few (c .before .before .before .before .before .before .before .before .before)))
+    (λ c. omega (arith, few (c .before .before .before .before .before .before .before)))
     loop-holds
     (λ c. search needs) join-of-requires
     put-join-requires
     (λ c. search needs) loop-again
-    (λ c. search needs) (λ c. search needs) (λ c. search needs) (λ c. search needs) (λ c. search needs) returns)
+    (λ c. search needs) (λ c. search needs) (λ c. search needs) returns)

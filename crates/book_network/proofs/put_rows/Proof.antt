@@ -1,37 +1,30 @@
-use mathlib.Core.Path.{_≡_}
-use Prim.Native.Nat.{_+_, _*_, _-_}
+use Prim.Native.Nat.{_-_}
 use native.Mathlib.Omega.{arith}
-use lib.ListN.{length}
 use borrow.Author.Needs.{needs}
-use Rattle.allocation.specs.BookNet.{entryArc}
-use Rattle.allocation.proofs.Rows.{rows-length}
-use Rattle.book_network.specs.Arrays.{arrays, endTo, lastTo, rowsBy}
+use Rattle.book_network.specs.Arrays.{arrays}
 use Rattle.book_network.proofs.Progress.{Row, row-start, row-more, row-done}
 use Rattle.book_network.proofs.put_rows.Statement.{statement}
 use Rattle.book_network.proofs.put_rows.Tie as tie
 
 abbrev Inv-loop : tie.InvT-loop
-Inv-loop players e tails₀ heads₀ lows₀ ups₀ costs₀ m k₀ k-end tails heads lows ups costs k =
-    Row (rowsBy e players) (arrays tails₀ heads₀ lows₀ ups₀ costs₀) m (arrays tails heads lows ups costs) k
+Inv-loop e tails₀ heads₀ costs₀ m k₀ k-end tails heads costs k =
+    Row e (arrays tails₀ heads₀ costs₀) m (arrays tails heads costs) k
 
 abbrev μ-loop : tie.MeasureT-loop
-μ-loop players e tails₀ heads₀ lows₀ ups₀ costs₀ m k₀ k-end tails heads lows ups costs k = k-end - k
+μ-loop e tails₀ heads₀ costs₀ m k₀ k-end tails heads costs k = k-end - k
 
 -- from one place to an earlier one
 abbrev start : tie.At-loop Inv-loop μ-loop → tie.Start Inv-loop μ-loop
-start c = c .before .before .before .before .before
+start c = c .before .before .before
 
-abbrev made : tie.After-put-arc-arg5 Inv-loop μ-loop → tie.After-row-arc Inv-loop μ-loop
-made c = c .before .before .before .before .before
+abbrev made : tie.After-put-arc-arg3 Inv-loop μ-loop → tie.After-row-arc Inv-loop μ-loop
+made c = c .before .before .before
 
 abbrev put : tie.After-costs Inv-loop μ-loop → tie.After-put-arc Inv-loop μ-loop
-put c = c .before .before .before .before .before .before .before .before .before
-
-count : (c : tie.Start Inv-loop μ-loop) → length (rowsBy (c .args .e) (c .args .players)) ≡ 2 * c .args .e + 1
-count c = rows-length entryArc (endTo (c .args .e)) (lastTo (c .args .e) (c .args .players)) (c .args .e)
+put c = c .before .before .before .before .before
 
 loop-holds : tie.Need-loop-holds Inv-loop μ-loop
-loop-holds c = let s = c .before .before .before .before in row-start (rowsBy (s .args .e) (s .args .players)) _ (s .args .m) (s .pre .0)
+loop-holds c = let s = c .before .before in row-start (s .args .e) _ (s .args .m) (s .pre .0)
 
 row-arc-requires : tie.Need-row-arc-requires Inv-loop μ-loop
 row-arc-requires c κs = (start (c .before) .pre .1, omega (arith, c .loop-test .taken))
@@ -47,12 +40,12 @@ loop-again c =
     let i = r .before in
     let s = start (i .before) in
     let l = i .before .loop in
-    row-more (rowsBy (s .args .e) (s .args .players)) _ (s .args .m) (arrays (l .tails) (l .heads) (l .lows) (l .ups) (l .costs)) _ (l .k) (r .row-arc .result) (lastTo (s .args .e) (s .args .players)) (l .inv) (omega (arith, i .loop-test .taken, count s)) (r .row-arc .ensures) (put c .put-arc .ensures)
+    row-more (s .args .e) _ (s .args .m) (arrays (l .tails) (l .heads) (l .costs)) _ (l .k) (r .row-arc .result) (l .inv) (omega (arith, i .loop-test .taken)) (r .row-arc .ensures) (put c .put-arc .ensures)
 
 returns : tie.Need-returns Inv-loop μ-loop
 returns c =
     let s = start (c .before) in
-    row-done (rowsBy (s .args .e) (s .args .players)) _ (s .args .m) _ (c .before .loop .k) _ (c .before .loop .inv) (omega (arith, c .loop-test .left, count s)) (omega (arith, count s))
+    row-done (s .args .e) _ (s .args .m) _ (c .before .loop .k) (c .before .loop .inv) (omega (arith, c .loop-test .left))
 
 pub put-rows-spec : {M : Type 1} → statement M
 put-rows-spec =
@@ -64,4 +57,4 @@ put-rows-spec =
     row-arc-requires
     (λ c. search needs) put-arc-requires
     (λ c. search needs) (λ c. search needs) loop-again
-    (λ c. search needs) (λ c. search needs) (λ c. search needs) (λ c. search needs) (λ c. search needs) returns)
+    (λ c. search needs) (λ c. search needs) (λ c. search needs) returns)

@@ -8,13 +8,18 @@ use Rattle.book_network.proofs.row_arc.Statement.{statement}
 use Rattle.book_network.proofs.row_arc.Tie as tie
 
 returns : tie.Need-returns
-returns c = let x = c .before .before .args in c .arc-of .ensures ∙ ap arcOf (sym (in-first entryArc (endTo (x .e)) (lastTo (x .e) (x .players)) (x .e) (x .k) _ (c .before .if1 .taken)))
+returns c = let x = c .before .before .args in record { each = λ p. c .arc-of .ensures ∙ ap arcOf (sym (in-first entryArc (endTo (x .e)) (lastTo (x .e) p) (x .e) (x .k) _ (c .before .if1 .taken))) }
 
 returns-2 : tie.Need-returns-2
-returns-2 c = let x = c .before .before .before .args in c .arc-of2 .ensures ∙ ap arcOf (sym (in-second entryArc (endTo (x .e)) (lastTo (x .e) (x .players)) (x .e) (x .k) _ (c .before .before .if1 .left) (c .before .if2 .taken)))
+returns-2 c =
+    let x = c .before .before .before .args in
+    record { each = λ p. c .arc-of2 .ensures ∙ ap arcOf (sym (in-second entryArc (endTo (x .e)) (lastTo (x .e) p) (x .e) (x .k) _ (c .before .before .if1 .left) (c .before .if2 .taken))) }
 
 returns-3 : tie.Need-returns-3
-returns-3 c = let s = c .before .before .before in let x = s .args in c .arc-of3 .ensures ∙ ap arcOf (sym (in-last entryArc (endTo (x .e)) (lastTo (x .e) (x .players)) (x .e) (x .k) _ (omega (arith, c .before .if2 .left, s .pre .1))))
+returns-3 c =
+    let s = c .before .before .before in
+    let x = s .args in
+    record { each = λ p. c .arc-of3 .ensures ∙ ap arcOf (sym (in-last entryArc (endTo (x .e)) (lastTo (x .e) p) (x .e) (x .k) _ (omega (arith, c .before .if2 .left, s .pre .1)))) }
 
 pub row-arc-spec : {M : Type 1} → statement M
 row-arc-spec =

@@ -4,14 +4,14 @@ use borrow.Author.Needs.{needs}
 use Rattle.ways.proofs.print.Statement.{statement}
 use Rattle.ways.proofs.print.Tie as tie
 
-desk-listing-requires : tie.Need-desk-listing-requires
-desk-listing-requires c κs = search needs
+list-requires : tie.Need-list-requires
+list-requires c κs = search needs
 
 slice-reshare-prefix-write-all : tie.Need-slice-reshare-prefix-write-all
 slice-reshare-prefix-write-all c = search needs
 
 slice-aggregate-write-all : tie.Need-slice-aggregate-write-all
-slice-aggregate-write-all c = let l = c .before .before .before .before .desk-listing in sym (length-take-le (l .result) (l .last .1 .0) (c .before .if1 .taken))
+slice-aggregate-write-all c = let l = c .before .before .before .before .list in sym (length-take-le (l .result) (l .last .1 .0) (c .before .if1 .taken))
 
 write-all-requires : tie.Need-write-all-requires
 write-all-requires c κs = search needs
@@ -32,7 +32,7 @@ pub print-spec : {M : Type 1} → statement M
 print-spec =
     tie.close
     (tie.spec
-    desk-listing-requires
+    list-requires
     slice-reshare-prefix-write-all
     slice-aggregate-write-all
     write-all-requires

@@ -1,7 +1,7 @@
 use borrow.Author.Needs.{needs}
-use Rattle.book_network.proofs.Lookup.{by-stay, by-late, by-none, by-move, by-slow}
-use Rattle.book_network.proofs.join_by.Statement.{statement}
-use Rattle.book_network.proofs.join_by.Tie as tie
+use Rattle.follow.proofs.Lookup.{by-stay, by-late, by-none, by-move, by-slow}
+use Rattle.follow.proofs.join_by.Statement.{statement}
+use Rattle.follow.proofs.join_by.Tie as tie
 
 returns : tie.Need-returns
 returns c = by-stay _ _ (c .before .before .args .t) (c .before .before .args .c) _ _ (c .before .if1 .taken) (c .if2 .taken)

@@ -1,9 +1,9 @@
 use mathlib.Core.Path.{refl, _∙_}
 use native.Mathlib.Omega.{arith}
 use borrow.Author.Needs.{needs}
-use Rattle.book_network.proofs.Lookup.{CanRead, can-read, join-opening, join-self, join-told}
-use Rattle.book_network.proofs.join_of.Statement.{statement}
-use Rattle.book_network.proofs.join_of.Tie as tie
+use Rattle.follow.proofs.Lookup.{CanRead, can-read, join-opening, join-self, join-told}
+use Rattle.follow.proofs.join_of.Statement.{statement}
+use Rattle.follow.proofs.join_of.Tie as tie
 
 -- from a place behind the tests to the start
 abbrev start : tie.Else2 → tie.Start

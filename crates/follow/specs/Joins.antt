@@ -1,6 +1,6 @@
 -- The cost of a join, or that there is none.
 use mathlib.Core.Path.{_≡_}
-use mathlib.Core.Bool.{Bool, true, false, cond}
+use mathlib.Core.Bool.{cond}
 use mathlib.Core.Option.{Option, none, some}
 use mathlib.Core.List.{List}
 use Prim.Native.Nat.{ℕ, zero, suc}
@@ -9,21 +9,13 @@ use Rattle.lines.specs.declared.moves.Move.{Move}
 use Rattle.book.specs.Book.{Book}
 use Rattle.allocation.specs.Follow.{stay}
 use Rattle.allocation.specs.Ways.{offer}
-use Rattle.book_network.specs.declared.Join.{Join}
-use Rattle.book_network.specs.declared.Join.the-variants.{No, At}
-use Rattle.book_network.specs.Held.{Tables}
+use Rattle.follow.specs.declared.Join.{Join}
+use Rattle.follow.specs.declared.Join.the-variants.{No, At}
+use Rattle.follow.specs.Tables.{Tables}
 
 abbrev pub joinOf : Option ℕ → Join
 joinOf none = No
 joinOf (some c) = At c
-
-abbrev pub isJoin : Join → Bool
-isJoin No = false
-isJoin (At c) = true
-
-abbrev pub costIn : Join → ℕ
-costIn No = 0
-costIn (At c) = c
 
 -- a move as the tables hold it: t is one more than its ticks, and 0 where there is none
 abbrev pub moveBy : ℕ → ℕ → Option Move

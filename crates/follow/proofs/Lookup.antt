@@ -19,13 +19,11 @@ use Rattle.lines.proofs.Table.{fair-parts, table-at}
 use Rattle.book.specs.Book.{Book}
 use Rattle.book.proofs.Judging.{column-at}
 use Rattle.allocation.specs.Follow.{size, entryAt, stay, link, inTime}
-use Rattle.allocation.specs.Ways.{offer, orNone}
-use Rattle.allocation.proofs.Accepted.{price-small}
+use Rattle.allocation.specs.Ways.{offer}
 use Rattle.allocation.proofs.Fair.{FairEntry, fair-entry}
-use Rattle.book_network.specs.declared.Join.{Join}
-use Rattle.book_network.specs.declared.Join.the-variants.{No, At}
-use Rattle.book_network.specs.Held.{Tables, HasTables}
-use Rattle.book_network.specs.Joins.{joinOf, costIn, moveBy, linkBy, Joins}
+use Rattle.follow.specs.declared.Join.the-variants.{No, At}
+use Rattle.follow.specs.Tables.{Tables, HasTables}
+use Rattle.follow.specs.Joins.{joinOf, moveBy, linkBy}
 
 -- the ways through `join_by`
 module _ (a b t c finish start : ℕ) where
@@ -189,11 +187,3 @@ can-read {fee} {e} {ticks} {costs} {instruments} {starts} {finishes} i j h il ih
       finish-in = finish-small b fee e ticks costs instruments starts finishes T i il (omega arith);
       ticks-in = ticks-small b fee e ticks costs instruments starts finishes T (getD instruments (i - 1) 0) (getD instruments (j - 1) 0) (u .0) (u .1) (v .0) (v .1);
     }
-
-pub cost-small : {fee e : ℕ} {ticks costs instruments starts finishes : List ℕ} (i j : ℕ) (o : Join) → HasTables fee e ticks costs instruments starts finishes
-    → Joins fee e ticks costs instruments starts finishes i j o → costIn o ≤ 1000000
-cost-small i j o h w = rw (w .each (h .book) (h .tables)) (go (offer (h .book) i j) (price-small (h .book) (h .tables .accepted) i j))
-  where
-    go : (x : Option ℕ) → orNone x ≤ 1000000 → costIn (joinOf x) ≤ 1000000
-    go none k = k
-    go (some c) k = k
