@@ -100,7 +100,7 @@ fn put_u32(out: &mut [u8], i: usize, n: u32)
 }
 
 // x as number i; where out has no such place, nothing.
-pub fn write_i32(out: &mut [u8], i: usize, x: i32)
+fn write_i32(out: &mut [u8], i: usize, x: i32)
     ensures { λ _. ⌜ now (out .exit) ≡ put (now (out .entry)) i (unsigned x) ⌝ }
 {
     let n = to_unsigned(x);

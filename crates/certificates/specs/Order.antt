@@ -24,16 +24,16 @@ agree-take (suc k) [] y p q h = absurd (omega arith)
 agree-take (suc k) (a ∷ x) [] p q h = absurd (omega arith)
 agree-take (suc k) (a ∷ x) (b ∷ y) p q h = cc (h 0 (omega arith), agree-take k x y (omega arith) (omega arith) (λ i l. h (suc i) (omega arith)))
 
+-- f has the least number on every arc from k on
+abbrev pub MinimalFrom : Net → ℕ → List ℕ → Type 0
+MinimalFrom N k f = (a : ℕ) → k ≤ a → a < arcs N → NoLess N f a
+
+-- f has the greatest number on every arc from k on
+abbrev pub TopFrom : Net → ℕ → List ℕ → Type 0
+TopFrom N k f = (a : ℕ) → k ≤ a → a < arcs N → NoMore N f a
+
 module _ (N : Net) (ok : WellFormed N) where
-  -- f has the least number on every arc from k on
-  abbrev pub MinimalFrom : ℕ → List ℕ → Type 0
-  MinimalFrom k f = (a : ℕ) → k ≤ a → a < arcs N → NoLess N f a
-
-  -- f has the greatest number on every arc from k on
-  abbrev pub TopFrom : ℕ → List ℕ → Type 0
-  TopFrom k f = (a : ℕ) → k ≤ a → a < arcs N → NoMore N f a
-
-  pub minimal-from : (k : ℕ) (f : List ℕ) → LeastCost N f → MinimalFrom k f → (g : List ℕ) → LeastCost N g → Agree k f g → ¬ (g <lex f)
+  pub minimal-from : (k : ℕ) (f : List ℕ) → LeastCost N f → MinimalFrom N k f → (g : List ℕ) → LeastCost N g → Agree k f g → ¬ (g <lex f)
   minimal-from k f lf mn g lg ag l = go (lex-first-difference g f .0 l)
     where
       go : (j : ℕ) × FirstDifference g f j → ⊥
@@ -47,7 +47,7 @@ module _ (N : Net) (ok : WellFormed N) where
           step (no h) fa = omega (arith, mn j (omega arith) (omega (arith, d .in-right, lf .flow .all-arcs)) g lg fa, d .smaller)
 
   -- k = 0: the first line
-  pub first-line : (f : List ℕ) → LeastCost N f → MinimalFrom 0 f → firstFlow N ≡ some f
+  pub first-line : (f : List ℕ) → LeastCost N f → MinimalFrom N 0 f → firstFlow N ≡ some f
   first-line f lf mn =
       first-is _<lex_ lex-irrefl lex-trans (fullList N) (full-ascending N ok) f (full-member N ok f .1 lf)
       (λ z m. minimal-from 0 f lf mn z (full-member N ok z .0 m) (λ a h. omega arith))
@@ -72,7 +72,7 @@ module _ (N : Net) (ok : WellFormed N) where
       )
 
   -- no least-cost flow lies between
-  none-between : (f f′ : List ℕ) (k : ℕ) → LeastCost N f → Raised f f′ k → TopFrom (suc k) f → MinimalFrom (suc k) f′
+  none-between : (f f′ : List ℕ) (k : ℕ) → LeastCost N f → Raised f f′ k → TopFrom N (suc k) f → MinimalFrom N (suc k) f′
       → (z : List ℕ) → LeastCost N z → f <lex z → ¬ (z <lex f′)
   none-between f f′ k lf r top mn z lz l l′ = go (lex-first-difference f z .0 l) (lex-first-difference z f′ .0 l′)
     where
@@ -103,14 +103,14 @@ module _ (N : Net) (ok : WellFormed N) where
               let w : i ≡ k = omega arith in
               omega (arith, rw p at (d .smaller), rw w at (e .smaller), r .one-more)
 
-  pub next-is : (f f′ : List ℕ) (k : ℕ) → LeastCost N f → Raised f f′ k → TopFrom (suc k) f → MinimalFrom (suc k) f′
+  pub next-is : (f f′ : List ℕ) (k : ℕ) → LeastCost N f → Raised f f′ k → TopFrom N (suc k) f → MinimalFrom N (suc k) f′
       → nextFlow N f ≡ some f′
   next-is f f′ k lf r top mn =
       after-is _<lex_ lex-irrefl lex-trans same-list (fullList N) (full-ascending N ok) f f′
       (full-member N ok f .1 lf) (full-member N ok f′ .1 (r .least-cost)) (raised-greater f f′ k lf r)
       (λ z m. none-between f f′ k lf r top mn z (full-member N ok z .0 m))
 
-  pub next-none : (f : List ℕ) → LeastCost N f → TopFrom 0 f → nextFlow N f ≡ none
+  pub next-none : (f : List ℕ) → LeastCost N f → TopFrom N 0 f → nextFlow N f ≡ none
   next-none f lf top =
       after-none _<lex_ lex-irrefl lex-trans same-list (fullList N) (full-ascending N ok) f
       (λ z m l. go z (full-member N ok z .0 m) (lex-first-difference f z .0 l))

@@ -58,7 +58,7 @@ fn send_to(
 }
 
 // Some of the excess of s, sent to the first node that has a deficit and is reached.
-pub fn send(
+fn send(
     tails: &[u8],
     heads: &[u8],
     lows: &[u32],

@@ -6,8 +6,7 @@ use Prim.Native.Nat.{ℕ, _-_, _≤_, _<_}
 use native.Mathlib.Omega.{arith}
 use lib.IntN.{ℤ}
 use Rattle.network.specs.Network.{Net, arcs}
-use Rattle.certificates.specs.Cuts.{NoMore}
-use Rattle.certificates.specs.Order.{next-is, next-none}
+use Rattle.certificates.specs.Order.{TopFrom, next-is, next-none}
 use Rattle.arc_change.specs.Tight.{Tight}
 use Rattle.arc_change.specs.Changes.{RaisedByOne}
 use Rattle.arc_change.proofs.Certified.{tight-any}
@@ -16,12 +15,8 @@ use Rattle.flows.specs.Minimising.{Minimised}
 use Rattle.flows.specs.Following.{Next}
 use Rattle.flows.proofs.Minimising.{agree-fewer}
 
--- no arc from k on can be raised
-abbrev pub Topped : Net → List ℕ → ℕ → Type 0
-Topped N f k = (a : ℕ) → k ≤ a → a < arcs N → NoMore N f a
-
 module _ (N : Net) (π : ℕ → ℤ) (tight : List Bool) (f : List ℕ) (ti : Tight N π tight f) where
-  pub next-no : (f′ : List ℕ) → Topped N f 0 → Next N f f′ false
+  pub next-no : (f′ : List ℕ) → TopFrom N 0 f → Next N f f′ false
   next-no f′ top = record {
     follows = λ e. absurd (let z : _≡_ {A = ℕ} 0 1 = cc in omega arith);
     least = λ e. absurd (let z : _≡_ {A = ℕ} 0 1 = cc in omega arith);
@@ -29,7 +24,7 @@ module _ (N : Net) (π : ℕ → ℤ) (tight : List Bool) (f : List ℕ) (ti : T
   }
 
   -- arc k - 1 is raised, and those from k on are as low as they can be
-  pub next-yes : (g f′ : List ℕ) (k : ℕ) → 0 < k → k ≤ arcs N → Topped N f k → RaisedByOne N f g (k - 1) → (Tight N π tight g → Minimised N g f′ k) → Next N f f′ true
+  pub next-yes : (g f′ : List ℕ) (k : ℕ) → 0 < k → k ≤ arcs N → TopFrom N k f → RaisedByOne N f g (k - 1) → (Tight N π tight g → Minimised N g f′ k) → Next N f f′ true
   next-yes g f′ k some in-k top u low =
       let m = low (tight-any N π tight f g ti (u .least)) in
       record {

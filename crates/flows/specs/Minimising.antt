@@ -1,11 +1,12 @@
 -- Arcs as low as they can be, in order.
 use mathlib.Core.List.{List}
-use Prim.Native.Nat.{ℕ, _≤_, _<_}
-use Rattle.network.specs.Network.{Net, arcs, LeastCost}
-use Rattle.certificates.specs.Cuts.{Agree, NoLess}
+use Prim.Native.Nat.{ℕ}
+use Rattle.network.specs.Network.{Net, LeastCost}
+use Rattle.certificates.specs.Cuts.{Agree}
+use Rattle.certificates.specs.Order.{MinimalFrom}
 
 -- every arc from k on as low as the arcs before it let it be
 pub record Minimised (N : Net) (f f′ : List ℕ) (k : ℕ) : Type 0 where
   pub least : LeastCost N f′
   pub same : Agree k f f′
-  pub minimal : (a : ℕ) → k ≤ a → a < arcs N → NoLess N f′ a
+  pub minimal : MinimalFrom N k f′

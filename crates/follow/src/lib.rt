@@ -12,7 +12,7 @@ pub enum Join {
 }
 
 // The join from instrument a to b: t is one more than the ticks of the move, 0 for no move, and c its cost.
-pub fn join_by(a: u32, b: u32, t: u32, c: u32, finish: u32, start: u32) -> Join
+fn join_by(a: u32, b: u32, t: u32, c: u32, finish: u32, start: u32) -> Join
     requires { ⌜ (t ≤ 1000001) × (finish ≤ 1000000) ⌝ }
     ensures { λ r. ⌜ r ≡ joinOf (inTime (linkBy a b t c) finish start) ⌝ }
 {

@@ -1,5 +1,6 @@
 -- From the labels of a flow to its marks, and back to a potential.
 use mathlib.Core.Path.{_≡_, refl, ap, _∙_}
+use mathlib.Core.Logic.{⊎-elim}
 use mathlib.Core.Bool.{Bool, true, false}
 use mathlib.Core.List.{List}
 use mathlib.Core.Option.{none, some}
@@ -18,6 +19,7 @@ use Rattle.laws.specs.Members.{first?}
 use Rattle.network.proofs.FullList.{none-iff}
 use Rattle.certificates.specs.Optimality.{Optimal, priced-optimal, off-tight, stepReduced}
 use Rattle.certificates.specs.Order.{first-line}
+use Rattle.certificates.specs.FreeArcs.{NotRaisable, NotLowerable}
 use Rattle.certificates.specs.Graph.{graph, netWith}
 use Rattle.relaxation.specs.Labels.{costGraph}
 use Rattle.relaxation.specs.Potentials.{Quiet, Settled}
@@ -26,7 +28,8 @@ use Rattle.search.specs.Search.{QuietLabels}
 use Rattle.closure.specs.Candidates.{Narrowed}
 use Rattle.flows.specs.Minimising.{Minimised}
 use Rattle.arc_change.proofs.Certified.{tight-any}
-use Rattle.flows.proofs.Candidates.{narrowed}
+use Rattle.arc_change.specs.Tight.{Tight}
+use Rattle.arc_change.proofs.Candidates.{at-most, at-least}
 use Rattle.costs.specs.Costs.{endsAndCosts, MarkedBelow}
 use Rattle.least_cost.specs.Marked.{Marked}
 
@@ -41,6 +44,19 @@ optimal-priced N f π o e k r = go (eqb (e % 2) 0) refl
     go : (t : Bool) → eqb (e % 2) 0 ≡ t → pos 0 ≤ℤ stepReduced N π e
     go true q = rw q (o .room-up (e / 2) (omega arith) (ltb-true (getD f (e / 2) 0) (up N (e / 2)) (rw q at r)))
     go false q = rw q (given (o .room-down (e / 2) (omega arith) (ltb-true (low N (e / 2)) (getD f (e / 2) 0) (rw q at r))) (simp lin (omega arith)))
+
+-- fewer marks: an arc that no least-cost flow moves needs none
+narrowed : (t h l u : List ℕ) (b c : List ℤ) (π : ℕ → ℤ) (tight : List Bool) (f : List ℕ) → Tight (netWith b t h l u c) π tight f → (left : List Bool) → Narrowed (graph t h l u) f tight left → Tight (netWith b t h l u c) π left f
+narrowed t h l u b c π tight f ti left n = record {
+  well-formed = ti .well-formed;
+  marked = λ a p e. ti .marked a p (⊎-elim (λ r. r .0) (λ r. r .0) (n .left a p e));
+  unmarked = λ a p e g lg. same a p g lg (n .others a p e);
+  least = ti .least;
+  optimal = ti .optimal;
+}
+  where
+    same : (a : ℕ) → a < length t → (g : List ℕ) → LeastCost (netWith b t h l u c) g → NotRaisable (graph t h l u) f tight 0 a × NotLowerable (graph t h l u) f tight 0 a → getD g a 0 ≡ getD f a 0
+    same a p g lg (r, s) = omega (arith, at-most t h l u b c π tight f ti 0 a p g lg (λ i q. absurd (omega arith)) r, at-least t h l u b c π tight f ti 0 a p g lg (λ i q. absurd (omega arith)) s)
 
 module _ (b : List ℤ) (t h l u : List ℕ) (c : List ℤ) (f : List ℕ) where
   pub settled-bare : Settled (netWith b t h l u c) f 1 → Settled (costGraph t h l u c) f 1

@@ -116,7 +116,7 @@ fn clear(rank: &mut [usize])
 
 // The nodes reached from s over the free arcs from `from` on, until t is among them or there are no more. How many.
 // rank is 0 at a node that is not reached, 1 at s, and grows in the order of reaching; via has the code that led to a node.
-pub fn reach(
+fn reach(
     tails: &[u8],
     heads: &[u8],
     lows: &[u32],
@@ -162,7 +162,7 @@ pub fn reach(
 }
 
 // The codes that led from the root to t, the last first. How many.
-pub fn trace(
+fn trace(
     tails: &[u8],
     heads: &[u8],
     rank: &[usize],

@@ -46,7 +46,7 @@ fn is_word_byte(b: u8) -> bool
 }
 
 // A number of 1 to 7 digits without a needless leading 0.
-pub fn read_number(rest: &[u8]) -> Number
+fn read_number(rest: &[u8]) -> Number
     ensures { λ r. ⌜ Right (now (rest .entry)) (number (now (rest .entry))) (r .used) (r .value) ⌝ }
 {
     let mut value: u32 = 0;
