@@ -100,6 +100,7 @@ int main() {
         Table table(columns);
         auto list = [](LentBook &b) { b.list(); };
         for (int e : {12, 16, 20, 24}) compare(table, std::to_string(e) + "-entry books", books(e * 3 / 2, 3, 7, e), 1000, start, list);
+        compare(table, "16-entry books without a fee", without_fee(books(24, 3, 7, 16)), 1000, start, list);
         for (auto &s : movements(7)) compare(table, s.what, s.books, 1000, start, list);
     }
     printf("Count to 65,535, of books with more ways:\n\n");

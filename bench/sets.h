@@ -20,6 +20,12 @@ inline std::vector<Book> long_books(int bars, int dearest, std::initializer_list
     return set;
 }
 
+// The same books without a fee: an opening costs nothing, so that the number of players binds.
+inline std::vector<Book> without_fee(std::vector<Book> set) {
+    for (Book &b : set) b.fee = 0;
+    return set;
+}
+
 inline std::vector<Network> networks(const std::vector<Book> &set) {
     std::vector<Network> all;
     for (const Book &b : set) all.push_back(network_of(b));
