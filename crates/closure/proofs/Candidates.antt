@@ -9,7 +9,8 @@ use native.Mathlib.Decide.{ℕ-discrete}
 use Rattle.network.specs.Network.{Net, arcs, tail, head}
 use Rattle.certificates.specs.Ready.{Searchable}
 use Rattle.certificates.specs.FreeArcs.{Reaches, Raisable, Lowerable, Blocked, NotRaisable, NotLowerable}
-use Rattle.closure.specs.Closure.{leads, Closure}
+use Rattle.preorder.specs.Preorder.{leads}
+use Rattle.closure.specs.Closure.{Closure}
 use Rattle.closure.specs.Candidates.{HasStep, Closes, ClosesNone, NoneRaisable, LastRaisable, FirstLowerable}
 use Rattle.closure.proofs.Closure.{closure-blocked}
 

@@ -1,4 +1,3 @@
-mod NodeSet
 mod Reaching
 mod Closure
 mod Candidates

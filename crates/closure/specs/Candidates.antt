@@ -7,7 +7,7 @@ use Prim.Native.Nat.{ℕ, suc, _-_, _≤_, _<_}
 use lib.ListN.{length, getD}
 use Rattle.network.specs.Network.{Net, arcs}
 use Rattle.certificates.specs.FreeArcs.{Raisable, Lowerable, NotRaisable, NotLowerable}
-use Rattle.closure.specs.Closure.{leads}
+use Rattle.preorder.specs.Preorder.{leads}
 
 -- what is read of the step of arc a from its near end to its far end, which takes its number from `lowers` towards `uppers`
 pub record HasStep (near far lowers uppers : List ℕ) (free : List Bool) (rows : List ℕ) (a : ℕ) : Type 0 where

@@ -1,3 +1,2 @@
-pub mod NodeSet
 pub mod Closure
 pub mod Candidates

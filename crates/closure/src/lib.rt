@@ -1,92 +1,16 @@
 // Which arcs can be raised or lowered, by one walk over the arcs from the last down.
-// The walk keeps the transitive closure of the residual steps of the free arcs passed: a row of 64 bits for each node, and row 64 with the
-// nodes that another node leads to, as most steps start where none leads. The closure of all of them shows which arcs can be neither.
+// The walk keeps the transitive closure of the residual steps of the free arcs passed (crate preorder): an arc can be raised or lowered if its
+// step closes a cycle. The closure of all of them shows which arcs can be neither.
 ghost use mathlib.Core.Path.{_≡_};
 ghost use mathlib.Core.Logic.{_⊎_};
-ghost use mathlib.Core.Bool.{true, false, _&&_, _||_};
-ghost use Prim.Native.Nat.{ℕ, suc, _≤_, _<_};
-ghost use lib.Dec.{eqb};
+ghost use mathlib.Core.Bool.{true, false};
+ghost use Prim.Native.Nat.{suc, _≤_, _<_};
 ghost use lib.ListN.{length};
 ghost use Rattle.certificates.specs.Graph.{graph};
 ghost use Rattle.certificates.specs.Ready.{Searchable};
-ghost use Rattle.closure.specs.NodeSet.{has};
-ghost use Rattle.closure.specs.Closure.{Preorder, Alone, JoinedRows, Extended, Closure};
+ghost use Rattle.preorder.specs.Preorder.{Alone};
+ghost use Rattle.closure.specs.Closure.{Closure};
 ghost use Rattle.closure.specs.Candidates.{HasStep, Closes, ClosesNone, LastRaisable, FirstLowerable, Narrowed};
-
-// Whether v is in s.
-fn has(s: u64, v: usize) -> bool
-    requires { ⌜ v < 64 ⌝ }
-    ensures { λ r. ⌜ r ≡ has s v ⌝ }
-{
-    (s >> v) & 1 == 1
-}
-
-// The set of v alone.
-fn only(v: usize) -> u64
-    requires { ⌜ v < 64 ⌝ }
-    ensures { λ r. ⌜ ((w : ℕ) → has r w ≡ eqb w v) ⌝ }
-{
-    1 << v
-}
-
-// s, with all of t if p is in s.
-fn joined(s: u64, t: u64, p: usize) -> u64
-    requires { ⌜ p < 64 ⌝ }
-    ensures { λ r. ⌜ ((w : ℕ) → has r w ≡ (has s w || (has s p && has t w))) ⌝ }
-{
-    if has(s, p) {
-        return s | t;
-    }
-    s
-}
-
-// Each node leads to itself alone.
-fn clear(rows: &mut [u64])
-    requires { ⌜ length (now rows) ≡ 65 ⌝ }
-    ensures { λ _. ⌜ Alone (now (rows .exit)) ⌝ }
-{
-    rows[64] = 0;
-    let mut v = 0;
-    while v < 64 {
-        rows[v] = only(v);
-        v += 1;
-    }
-}
-
-// All of t, in each row that has p.
-fn join_rows(rows: &mut [u64], t: u64, p: usize)
-    requires { ⌜ (length (now rows) ≡ 65) × (p < 64) ⌝ }
-    ensures { λ _. ⌜ JoinedRows (now (rows .entry)) (now (rows .exit)) t p 65 ⌝ }
-{
-    let mut u = 0;
-    while u < rows.len() {
-        let row = rows[u];
-        rows[u] = joined(row, t, p);
-        u += 1;
-    }
-}
-
-// The step from p to q, if `on`: whatever leads to p now leads to all that q leads to.
-fn add(rows: &mut [u64], on: bool, p: usize, q: usize)
-    requires { ⌜ Preorder (now rows) × (p < 64) × (q < 64) ⌝ }
-    ensures { λ _. ⌜ Extended (now (rows .entry)) (now (rows .exit)) on p q ⌝ }
-{
-    if !on {
-        return;
-    }
-    let from = rows[p];
-    if has(from, q) {
-        return;
-    }
-    let all = rows[q];
-    let met = rows[64];
-    if has(met, p) {
-        join_rows(rows, all, p);
-        return;
-    }
-    rows[p] = from | all;
-    rows[64] = met | all;
-}
 
 // The steps of arc a.
 fn add_arc(
@@ -110,8 +34,8 @@ fn add_arc(
     let f = flow[a];
     let u = ups[a];
     let l = lows[a];
-    add(rows, f < u, p, q);
-    add(rows, l < f, q, p);
+    preorder::add(rows, f < u, p, q);
+    preorder::add(rows, l < f, q, p);
 }
 
 // Whether the step of arc a from its near end to its far end closes a cycle.
@@ -138,7 +62,7 @@ fn closes_cycle(
     let p = near[a] as usize;
     let q = far[a] as usize;
     let row = rows[q];
-    has(row, p)
+    preorder::has(row, p)
 }
 
 // One more than the last arc that can be raised by way of the free arcs after it; 0 if there is none.
@@ -154,7 +78,7 @@ pub fn after_last_raisable(
     ensures { λ r. ⌜ LastRaisable (graph (now (tails .entry)) (now (heads .entry)) (now (lows .entry)) (now (ups .entry))) (now (flow .entry)) (now (free .entry)) r ⌝ }
 {
     let mut rows = [0u64; 65];
-    clear(&mut rows);
+    preorder::clear(&mut rows);
     let mut a = tails.len();
     while 0 < a {
         if closes_cycle(tails, heads, flow, ups, free, &rows, a - 1) {
@@ -180,7 +104,7 @@ pub fn first_lowerable(
     ensures { λ r. ⌜ FirstLowerable (graph (now (tails .entry)) (now (heads .entry)) (now (lows .entry)) (now (ups .entry))) (now (flow .entry)) (now (free .entry)) from r ⌝ }
 {
     let mut rows = [0u64; 65];
-    clear(&mut rows);
+    preorder::clear(&mut rows);
     let mut a = tails.len();
     let mut first = a;
     while from < a {
@@ -246,7 +170,7 @@ pub fn unmark_fixed(
     ensures { λ _. ⌜ Narrowed (graph (now (tails .entry)) (now (heads .entry)) (now (lows .entry)) (now (ups .entry))) (now (flow .entry)) (now (free .entry)) (now (free .exit)) ⌝ }
 {
     let mut rows = [0u64; 65];
-    clear(&mut rows);
+    preorder::clear(&mut rows);
     add_arcs(tails, heads, lows, ups, free, flow, &mut rows);
     let mut a = 0;
     while a < tails.len() {

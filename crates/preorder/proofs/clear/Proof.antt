@@ -6,10 +6,10 @@ use lib.ListN.{length, getD, length-set}
 use lib.Seq.{getD-set-same, getD-set-other}
 use borrow.Author.Needs.{needs}
 use Rattle.laws.specs.Padded.{set-more}
-use Rattle.closure.specs.NodeSet.{has}
-use Rattle.closure.proofs.Closure.{alone}
-use Rattle.closure.proofs.clear.Statement.{statement}
-use Rattle.closure.proofs.clear.Tie as tie
+use Rattle.preorder.specs.NodeSet.{has}
+use Rattle.preorder.proofs.Preorder.{alone}
+use Rattle.preorder.proofs.clear.Statement.{statement}
+use Rattle.preorder.proofs.clear.Tie as tie
 
 abbrev Inv-loop : tie.InvT-loop
 Inv-loop rows₀ v₀ rows v = (length rows ≡ 65) × (v ≤ 64) × (getD rows 64 0 ≡ 0) × ((u : ℕ) → u < v → (w : ℕ) → has (getD rows u 0) w ≡ eqb w u)

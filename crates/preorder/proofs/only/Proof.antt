@@ -1,7 +1,7 @@
 use borrow.Author.Needs.{needs}
-use Rattle.closure.proofs.NodeSet.{only-has}
-use Rattle.closure.proofs.only.Statement.{statement}
-use Rattle.closure.proofs.only.Tie as tie
+use Rattle.preorder.proofs.NodeSet.{only-has}
+use Rattle.preorder.proofs.only.Statement.{statement}
+use Rattle.preorder.proofs.only.Tie as tie
 
 returns : tie.Need-returns
 returns c = λ w. only-has (c .args .v) w (search needs)

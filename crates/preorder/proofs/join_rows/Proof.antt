@@ -3,10 +3,10 @@ use Prim.Native.Nat.{ℕ, _-_, _≤_}
 use native.Mathlib.Omega.{arith}
 use lib.ListN.{length, length-set}
 use borrow.Author.Needs.{needs}
-use Rattle.closure.specs.Closure.{JoinedRows}
-use Rattle.closure.proofs.Closure.{joined-start, joined-step}
-use Rattle.closure.proofs.join_rows.Statement.{statement}
-use Rattle.closure.proofs.join_rows.Tie as tie
+use Rattle.preorder.specs.Preorder.{JoinedRows}
+use Rattle.preorder.proofs.Preorder.{joined-start, joined-step}
+use Rattle.preorder.proofs.join_rows.Statement.{statement}
+use Rattle.preorder.proofs.join_rows.Tie as tie
 
 abbrev Inv-loop : tie.InvT-loop
 Inv-loop rows₀ t p u₀ rows u = (u ≤ length rows) × JoinedRows rows₀ rows t p u

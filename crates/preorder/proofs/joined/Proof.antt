@@ -1,8 +1,8 @@
 use mathlib.Core.Path.{sym, _∙_}
 use borrow.Author.Needs.{needs}
-use Rattle.closure.proofs.NodeSet.{joined-yes, joined-no}
-use Rattle.closure.proofs.joined.Statement.{statement}
-use Rattle.closure.proofs.joined.Tie as tie
+use Rattle.preorder.proofs.NodeSet.{joined-yes, joined-no}
+use Rattle.preorder.proofs.joined.Statement.{statement}
+use Rattle.preorder.proofs.joined.Tie as tie
 
 returns : tie.Need-returns
 returns c = let s = c .before .before in λ w. joined-yes (s .args .s) (s .args .t) (s .args .p) w (sym (c .before .has .ensures) ∙ c .if1 .taken)

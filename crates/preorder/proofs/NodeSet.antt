@@ -8,7 +8,7 @@ use lib.Bits.{bitOr, or-shr, or-step}
 use lib.Dec.{eqb, ltb}
 use lib.Pow.{pow-pos, pow-lt, pow-add, shl-shr, shl-exact}
 use borrow.Author.Tests.{ltb-true, ltb-false, eq-eqb, ne-eqb}
-use Rattle.closure.specs.NodeSet.{has}
+use Rattle.preorder.specs.NodeSet.{has}
 
 or-digit : (p q : ℕ) → p < 2 → q < 2 → eqb (max p q) 1 ≡ (eqb p 1 || eqb q 1)
 or-digit zero zero hp hq = refl

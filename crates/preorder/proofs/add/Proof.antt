@@ -3,9 +3,9 @@ use Prim.Native.Nat.{ℕ}
 use native.Mathlib.Omega.{arith}
 use borrow.Author.Needs.{needs}
 use borrow.Author.Tests.{not-true, not-false}
-use Rattle.closure.proofs.Closure.{stepped-all, stepped-one, stepped, same-rows}
-use Rattle.closure.proofs.add.Statement.{statement}
-use Rattle.closure.proofs.add.Tie as tie
+use Rattle.preorder.proofs.Preorder.{stepped-all, stepped-one, stepped, same-rows}
+use Rattle.preorder.proofs.add.Statement.{statement}
+use Rattle.preorder.proofs.add.Tie as tie
 
 returns : tie.Need-returns
 returns c = let s = c .before .before in same-rows (s .args .rows .now) (s .args .on) (s .args .p) (s .args .q) (s .pre .0) (λ e. absurd (let z : _≡_ {A = ℕ} 0 1 = cc (e, not-true (s .args .on) (c .if1 .taken)) in omega arith))

@@ -1,7 +1,7 @@
 use lib.Bits.{and-mask}
 use borrow.Author.Needs.{needs}
-use Rattle.closure.proofs.has.Statement.{statement}
-use Rattle.closure.proofs.has.Tie as tie
+use Rattle.preorder.proofs.has.Statement.{statement}
+use Rattle.preorder.proofs.has.Tie as tie
 
 returns : tie.Need-returns
 returns c = rw (and-mask _ 1)

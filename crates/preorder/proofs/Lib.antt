@@ -1,0 +1,2 @@
+mod NodeSet
+mod Preorder

@@ -1,0 +1,2 @@
+pub mod NodeSet
+pub mod Preorder
