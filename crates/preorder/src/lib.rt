@@ -2,12 +2,11 @@
 // There is a row of 64 bits for each node, and row 64 with the nodes that another node leads to. A step from a node that is not in row 64
 // changes the row of that node and row 64 only, and most steps are such.
 ghost use mathlib.Core.Path.{_≡_};
-ghost use mathlib.Core.Bool.{_&&_, _||_};
 ghost use Prim.Native.Nat.{ℕ, _<_};
 ghost use lib.Dec.{eqb};
 ghost use lib.ListN.{length};
 ghost use Rattle.preorder.specs.NodeSet.{has};
-ghost use Rattle.preorder.specs.Preorder.{Preorder, Alone, JoinedRows, Extended};
+ghost use Rattle.preorder.specs.Preorder.{Preorder, Alone, Joined, JoinedRows, Extended};
 
 // Whether v is in s.
 pub fn has(s: u64, v: usize) -> bool
@@ -28,7 +27,7 @@ fn only(v: usize) -> u64
 // s, with all of t if p is in s.
 fn joined(s: u64, t: u64, p: usize) -> u64
     requires { ⌜ p < 64 ⌝ }
-    ensures { λ r. ⌜ ((w : ℕ) → has r w ≡ (has s w || (has s p && has t w))) ⌝ }
+    ensures { λ r. ⌜ Joined s t p r ⌝ }
 {
     if has(s, p) {
         return s | t;
