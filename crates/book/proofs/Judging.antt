@@ -1,92 +1,20 @@
--- The questions 11 to 16, from what the passes found. Assumes nothing.
-use Prim.Native.Nat.{ℕ, zero, suc, _+_, _-_, _<_, _≤_}
-use mathlib.Core.Path.{_≡_, refl, sym, ap, subst, _∙_}
-use mathlib.Core.Bool.{Bool, true, false, cond, _&&_}
-use mathlib.Core.Option.{Option, none, some}
+-- The checked book of a refusal and of an accepted book, and a column of it at an entry. Assumes nothing.
+use Prim.Native.Nat.{ℕ, zero, suc, _-_, _<_}
+use mathlib.Core.Path.{_≡_, refl, _∙_}
 use mathlib.Core.List.{List, [], _∷_, map}
 use native.Mathlib.Omega.{arith}
 use lib.ListN.{length, length-map, getD, replicate, List·getD-append}
-use lib.Dec.{leb, eqb, eqb·suc-zero}
-use borrow.Author.Tests.{le-leb, lt-leb, leb-true, eq-eqb, ne-eqb, eqb-true, eqb-false}
-use Rattle.lines.specs.declared.moves.Move.{Move}
+use borrow.Author.Tests.{eq-eqb, ne-eqb}
 use Rattle.lines.specs.declared.moves.Moves.{Moves}
-use Rattle.lines.specs.declared.entries.Columns.{Columns}
 use Rattle.lines.specs.declared.entries.Entries.{Entries}
 use Rattle.book.specs.declared.Opening.{Opening}
 use Rattle.book.specs.declared.CheckedBook.{CheckedBook}
-use Rattle.book.specs.declared.Checked.{Checked}
 use Rattle.book.specs.declared.Answer.{Answer}
-use Rattle.book.specs.declared.Answer.the-variants.{Accepted, BadHeader, BadMove, BadEntry, TooMany}
 use Rattle.lines.specs.Lines.{Entry}
-use Rattle.book.specs.Book.{Book, parse}
-use Rattle.book.specs.Questions.{header, askBook, refusal, questionOf, Told}
-use Rattle.lines.specs.Questions.{moves, entries, all}
-use Rattle.lines.specs.Columns.{table, column, nobody}
-use Rattle.book.specs.Checked.{filled, empty, unlessRefused, checkedBook, Lies, Judged}
-use Rattle.lines.specs.Passes.{Verdict, columnsOf, Placed}
-use Rattle.book.specs.Steps.{answerOf, headerBad, heldOf, judgedOf}
-use Rattle.lines.proofs.Verdicts.{verdict-none, verdict-more}
-
--- some line fails
-not-all : (l : List Bool) (n : ℕ) → getD l n true ≡ false → all l ≡ false
-unfolding all
-not-all [] n e = absurd (mathlib.Core.Bool.true≢false e)
-not-all (a ∷ l) zero e = rw e
-not-all (true ∷ l) (suc n) e = not-all l n e
-not-all (false ∷ l) (suc n) e = refl
-
-pub long : (s : List ℕ) → 16384 < length s → refusal s ≡ 11
-long s h = rw (lt-leb (length s) 16384 h)
-
-pub no-form : (s : List ℕ) → length s ≤ 16384 → parse s ≡ none → refusal s ≡ 12
-no-form s h e = rw (le-leb (length s) 16384 h, e)
-
-asked : (s : List ℕ) (b : Book) → length s ≤ 16384 → parse s ≡ some b → refusal s ≡ askBook b
-asked s b h e = rw (le-leb (length s) 16384 h, e)
-
--- a refusal by 11 or 12
-pub refused-right : (s : List ℕ) (r : Checked) (a : Answer) (q : ℕ) → r ≡ record { answer = a; book = empty } → refusal s ≡ suc q → questionOf a ≡ suc q → ((b : Book) → Told b a) → Judged s r
-refused-right s r a q e f g told =
-    rw e
-    (record {
-      question = g ∙ sym f;
-      line = λ b _. told b;
-      book = rw f;
-      lies = λ n h. absurd (omega arith);
-    })
-
--- What the passes found of a book that keeps the form.
-pub record Found (s : List ℕ) (o : Opening) (m : Moves) (e : Entries) : Type 0 where
-  pub move-list : List Move
-  pub entry-list : List Entry
-  pub parsed : parse s ≡ some (record { players = o .players; fee = o .fee; moves = move-list; entries = entry-list })
-  pub moves-judged : Verdict 4 (moves [] move-list) (m .bad)
-  pub ticks : m .bad ≡ 0 → m .ticks ≡ table (λ m. m .ticks + 1) move-list
-  pub costs : m .bad ≡ 0 → m .costs ≡ table (λ m. m .cost) move-list
-  pub count : e .count ≡ length entry-list
-  pub entries-judged : Verdict (4 + length move-list) (entries entry-list) (e .bad)
-  pub columns : length entry-list ≤ 28 → e .columns ≡ columnsOf (length s) entry-list
-  pub placed : (n : ℕ) → n < length entry-list → Placed s (getD entry-list n nobody)
-
--- a column at an entry
-pub column-at : (f : Entry → ℕ) (es : List Entry) (n : ℕ) → n < length es → getD (column f es) n 0 ≡ f (getD es n nobody)
-column-at f es n h = List·getD-append (map f es) (replicate (28 - length (map f es)) 0) 0 n (rw length-map h) ∙ at es n h
-  where
-    at : (es : List Entry) (n : ℕ) → n < length es → getD (map f es) n 0 ≡ f (getD es n nobody)
-    at [] n h = absurd (omega arith)
-    at (e ∷ es) zero h = refl
-    at (e ∷ es) (suc n) h = at es n (omega arith)
-
-held-filled : (o : Opening) (m : Moves) (e : Entries) (total : ℕ) (ms : List Move) (es : List Entry)
-    → m .ticks ≡ table (λ m. m .ticks + 1) ms → m .costs ≡ table (λ m. m .cost) ms → e .count ≡ length es → e .columns ≡ columnsOf total es
-    → heldOf o m e ≡ filled total (record { players = o .players; fee = o .fee; moves = ms; entries = es })
-held-filled o m e total ms es p q r c =
-    let c1 = ap (λ (x : Columns). x .instruments) c in
-    let c2 = ap (λ (x : Columns). x .starts) c in
-    let c3 = ap (λ (x : Columns). x .finishes) c in
-    let c4 = ap (λ (x : Columns). x .names) c in
-    let c5 = ap (λ (x : Columns). x .lengths) c in
-    cc
+use Rattle.book.specs.Questions.{questionOf}
+use Rattle.lines.specs.Columns.{column, nobody}
+use Rattle.book.specs.Checked.{empty}
+use Rattle.book.specs.Steps.{heldOf, judgedOf}
 
 -- the book of a refusal, and of an accepted book
 module _ (a : Answer) (o : Opening) (m : Moves) (e : Entries) where
@@ -96,86 +24,11 @@ module _ (a : Answer) (o : Opening) (m : Moves) (e : Entries) where
   pub judged-held : questionOf a ≡ 0 → (b : CheckedBook) → b ≡ heldOf o m e → record { answer = a; book = b } ≡ judgedOf a o m e
   judged-held z b h = rw (eq-eqb (questionOf a) 0 z, h)
 
-some-same : {a b : Book} → some a ≡ some b → a ≡ b
-some-same e = cc
-
-module _ (s : List ℕ) (o : Opening) (m : Moves) (e : Entries) (f : Found s o m e) where
-  abbrev B : Book
-  B = record { players = o .players; fee = o .fee; moves = f .move-list; entries = f .entry-list }
-
-  abbrev A : Answer
-  A = answerOf (headerBad o) (m .bad) (e .bad) (e .count)
-
-  header-judged : Verdict 2 (header B) (headerBad o)
-  header-judged =
-      verdict-more (verdict-more (verdict-none 2) (leb 1 (o .players) && leb (o .players) 8) _ 2 (λ _. refl) refl (omega arith)) (leb (o .fee) 1000000) _ 3 (λ _. refl) refl (omega arith)
-
-  record Outcome (a : Answer) : Type 0 where
-    question : questionOf a ≡ askBook B
-    told : Told B a
-    passed : questionOf a ≡ 0 → (m .bad ≡ 0) × (length (f .entry-list) ≤ 28)
-
-  outcome : Outcome A
-  outcome = by-header (eqb (headerBad o) 0) refl
-    where
-      by-count : (x : Bool) → leb (e .count) 28 ≡ x → headerBad o ≡ 0 → m .bad ≡ 0 → e .bad ≡ 0 → Outcome (cond x Accepted TooMany)
-      by-count true q h1 h2 h3 =
-          let l = rw (f .count) at q in
-          record { question = sym (rw (header-judged .passed h1, f .moves-judged .passed h2, f .entries-judged .passed h3, l)); told = tt; passed = λ _. (h2, leb-true _ _ l) }
-      by-count false q h1 h2 h3 =
-          let l = rw (f .count) at q in
-          record { question = sym (rw (header-judged .passed h1, f .moves-judged .passed h2, f .entries-judged .passed h3, l)); told = tt; passed = λ z. absurd (omega arith) }
-
-      by-entries : (x : Bool) → eqb (e .bad) 0 ≡ x → headerBad o ≡ 0 → m .bad ≡ 0 → Outcome (cond x (cond (leb (e .count) 28) Accepted TooMany) (BadEntry (e .bad)))
-      by-entries true q h1 h2 = by-count (leb (e .count) 28) refl h1 h2 (eqb-true (e .bad) 0 q)
-      by-entries false q h1 h2 =
-          let t = f .entries-judged .failed (eqb-false (e .bad) 0 q) in
-          record { question = sym (rw (header-judged .passed h1, f .moves-judged .passed h2, not-all (entries (f .entry-list)) (t .0) (t .2))); told = t; passed = λ z. absurd (omega arith) }
-
-      by-moves : (x : Bool) → eqb (m .bad) 0 ≡ x → headerBad o ≡ 0
-          → Outcome (cond x (cond (eqb (e .bad) 0) (cond (leb (e .count) 28) Accepted TooMany) (BadEntry (e .bad))) (BadMove (m .bad)))
-      by-moves true q h1 = by-entries (eqb (e .bad) 0) refl h1 (eqb-true (m .bad) 0 q)
-      by-moves false q h1 =
-          let t = f .moves-judged .failed (eqb-false (m .bad) 0 q) in
-          record { question = sym (rw (header-judged .passed h1, not-all (moves [] (f .move-list)) (t .0) (t .2))); told = t; passed = λ z. absurd (omega arith) }
-
-      by-header : (x : Bool) → eqb (headerBad o) 0 ≡ x
-          → Outcome (cond x (cond (eqb (m .bad) 0) (cond (eqb (e .bad) 0) (cond (leb (e .count) 28) Accepted TooMany) (BadEntry (e .bad))) (BadMove (m .bad))) (BadHeader (headerBad o)))
-      by-header true q = by-moves (eqb (m .bad) 0) refl (eqb-true (headerBad o) 0 q)
-      by-header false q =
-          let t = header-judged .failed (eqb-false (headerBad o) 0 q) in
-          record { question = sym (rw (not-all (header B) (t .0) (t .2))); told = t; passed = λ z. absurd (omega arith) }
-
-  fills : questionOf A ≡ 0 → heldOf o m e ≡ filled (length s) B
-  fills q = let p = outcome .passed q in held-filled o m e (length s) (f .move-list) (f .entry-list) (f .ticks (p .0)) (f .costs (p .0)) (f .count) (f .columns (p .1))
-
-  book-is : (q : ℕ) → questionOf A ≡ q → cond (eqb q 0) (heldOf o m e) empty ≡ unlessRefused q (length s) (some B)
-  book-is zero h = fills h
-  book-is (suc q) h = rw (eqb·suc-zero q)
-
-  lies-in : (q : ℕ) → questionOf A ≡ q → (x : CheckedBook) → x ≡ unlessRefused q (length s) (some B) → (n : ℕ) → n < x .count
-      → Lies s (getD (x .names) n 0) (getD (x .lengths) n 0) (getD (f .entry-list) n nobody .name)
-  lies-in zero h x e n k =
-      let i : n < length (f .entry-list) = omega (arith, ap (λ (y : CheckedBook). y .count) e) in
-      let p = f .placed n i in
-      rw (e, column-at (λ e. length s - e .left) (f .entry-list) n i, column-at (λ e. length (e .name)) (f .entry-list) n i)
-      (record { some = p .some; within = omega (arith, p .begins, p .ends); is = p .is })
-  lies-in (suc q) h x e n k = absurd (omega (arith, ap (λ (y : CheckedBook). y .count) e))
-
-  pub judged-right : length s ≤ 16384 → Judged s (judgedOf A o m e)
-  judged-right h =
-      record {
-        question = sym same;
-        line = λ b p. subst (λ (x : Book). Told x A) (some-same (sym (f .parsed) ∙ p)) (outcome .told);
-        book = is;
-        lies = rw (f .parsed) (lies-in (questionOf A) refl _ (book-is (questionOf A) refl));
-      }
-    where
-      same : refusal s ≡ questionOf A
-      same = asked s B h (f .parsed) ∙ sym (outcome .question)
-
-      is : cond (eqb (questionOf A) 0) (heldOf o m e) empty ≡ checkedBook s
-      is =
-          book-is (questionOf A) refl
-          ∙ ap (λ (n : ℕ). unlessRefused n (length s) (some B)) (sym same)
-          ∙ ap (λ (x : Option Book). unlessRefused (refusal s) (length s) x) (sym (f .parsed))
+-- a column at an entry
+pub column-at : (f : Entry → ℕ) (es : List Entry) (n : ℕ) → n < length es → getD (column f es) n 0 ≡ f (getD es n nobody)
+column-at f es n h = List·getD-append (map f es) (replicate (28 - length (map f es)) 0) 0 n (rw length-map h) ∙ at es n h
+  where
+    at : (es : List Entry) (n : ℕ) → n < length es → getD (map f es) n 0 ≡ f (getD es n nobody)
+    at [] n h = absurd (omega arith)
+    at (e ∷ es) zero h = refl
+    at (e ∷ es) (suc n) h = at es n (omega arith)

@@ -1,4 +1,3 @@
-pub mod Form
 pub mod Judging
 pub mod Accepted
 pub mod Example

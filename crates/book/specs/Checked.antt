@@ -1,15 +1,13 @@
 -- The checked book, by value.
-use Prim.Native.Nat.{ℕ, zero, suc, _+_, _-_, _≤_, _<_}
-use mathlib.Core.Path.{_≡_}
+use Prim.Native.Nat.{ℕ, zero, suc, _+_, _-_}
 use mathlib.Core.Option.{Option, none, some}
 use mathlib.Core.List.{List, []}
-use lib.ListN.{length, take, drop, getD, replicate}
+use lib.ListN.{length, replicate}
 use Rattle.book.specs.declared.CheckedBook.{CheckedBook}
-use Rattle.book.specs.declared.Checked.{Checked}
 use Rattle.lines.specs.Lines.{Entry}
 use Rattle.book.specs.Book.{Book, parse}
-use Rattle.lines.specs.Columns.{table, column, nobody}
-use Rattle.book.specs.Questions.{refusal, questionOf, Told}
+use Rattle.lines.specs.Columns.{table, column}
+use Rattle.book.specs.Questions.{refusal}
 
 -- `ticks` holds one more than the ticks, so that 0 says that there is no move; `total` is the length of the book
 abbrev pub filled : ℕ → Book → CheckedBook
@@ -55,16 +53,3 @@ checkedBook s = unlessRefused (refusal s) (length s) (parse s)
 abbrev pub entriesOf : Option Book → List Entry
 entriesOf none = []
 entriesOf (some b) = b .entries
-
--- the part of s of that length, from `start` on, is the name, which is not empty
-pub record Lies (s : List ℕ) (start len : ℕ) (name : List ℕ) : Type 0 where
-  pub some : 0 < len
-  pub within : start + len ≤ length s
-  pub is : take len (drop start s) ≡ name
-
--- what a check of the bytes s promises
-pub record Judged (s : List ℕ) (r : Checked) : Type 0 where
-  pub question : questionOf (r .answer) ≡ refusal s
-  pub line : (b : Book) → parse s ≡ some b → Told b (r .answer)
-  pub book : r .book ≡ checkedBook s
-  pub lies : (n : ℕ) → n < r .book .count → Lies s (getD (r .book .names) n 0) (getD (r .book .lengths) n 0) (getD (entriesOf (parse s)) n nobody .name)

@@ -1,12 +1,12 @@
 -- The questions put to a book, 11 to 16. "Each question is put of the whole input before the next."
-use Prim.Native.Nat.{ℕ, _+_}
+use Prim.Native.Nat.{ℕ}
 use mathlib.Core.Bool.{Bool, _&&_}
 use mathlib.Core.Option.{Option, none, some}
 use mathlib.Core.List.{List, [], _∷_}
 use lib.ListN.{length}
 use lib.Dec.{leb}
 use Rattle.laws.specs.Tests.{ask}
-use Rattle.lines.specs.Questions.{moves, entries, all, FailsAt}
+use Rattle.lines.specs.Questions.{moves, entries, all}
 use Rattle.book.specs.declared.Answer.{Answer}
 use Rattle.book.specs.declared.Answer.the-variants.{Accepted, TooLong, Malformed, BadHeader, BadMove, BadEntry, TooMany}
 use Rattle.book.specs.Book.{Book, parse}
@@ -51,13 +51,3 @@ lineOf (BadHeader k) = k
 lineOf (BadMove k) = k
 lineOf (BadEntry k) = k
 lineOf TooMany = 0
-
--- the line that an answer carries fails its question: the players are line 2, the moves begin at line 4
-abbrev pub Told : Book → Answer → Type 0
-Told b (BadHeader k) = FailsAt 2 (header b) k
-Told b (BadMove k) = FailsAt 4 (moves [] (b .moves)) k
-Told b (BadEntry k) = FailsAt (4 + length (b .moves)) (entries (b .entries)) k
-Told b Accepted = Unit {0}
-Told b TooLong = Unit {0}
-Told b Malformed = Unit {0}
-Told b TooMany = Unit {0}

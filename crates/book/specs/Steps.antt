@@ -1,11 +1,7 @@
--- What the inner functions promise: the last line, and the answer from what the lines gave.
+-- What the judging promises: the answer and the checked book, from what the lines gave.
 use Prim.Native.Nat.{ℕ}
-use mathlib.Core.Path.{_≡_}
-use mathlib.Core.Bool.{Bool, cond, _&&_}
-use mathlib.Core.Option.{some, none}
-use mathlib.Core.List.{List}
+use mathlib.Core.Bool.{cond, _&&_}
 use lib.Dec.{eqb, leb}
-use Rattle.text.specs.Reader.{_>>=_, give, bytes, text}
 use Rattle.lines.specs.declared.moves.Moves.{Moves}
 use Rattle.lines.specs.declared.entries.Entries.{Entries}
 use Rattle.lines.specs.Passes.{firstBad}
@@ -14,13 +10,8 @@ use Rattle.book.specs.declared.CheckedBook.{CheckedBook}
 use Rattle.book.specs.declared.Checked.{Checked}
 use Rattle.book.specs.declared.Answer.{Answer}
 use Rattle.book.specs.declared.Answer.the-variants.{Accepted, BadHeader, BadMove, BadEntry, TooMany}
-use Rattle.book.specs.Book.{Book, whole}
 use Rattle.book.specs.Questions.{questionOf}
 use Rattle.book.specs.Checked.{empty}
-
--- s is `)` and byte 10, and nothing more
-pub record Closing (s : List ℕ) (r : Bool) : Type 0 where
-  pub is : (b : Book) → whole ((text (bytes ")\n") >>= (λ _. give b)) s) ≡ cond r (some b) none
 
 -- the answer, by the lines that fail 13, 14 and 15, or 0, and the count of entries
 abbrev pub answerOf : ℕ → ℕ → ℕ → ℕ → Answer

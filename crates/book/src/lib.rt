@@ -1,17 +1,11 @@
-// Books: whether a book keeps the form and passes its questions, and what it says.
+// What a check of a book hands back, and the questions 13 to 16 put to what its lines gave.
 use lines::entries::Entries;
-use lines::entries::read_entries;
 use lines::moves::Moves;
-use lines::moves::read_moves;
 use lines::verdict::first_bad;
-use text::read_row;
-use text::read_text;
 ghost use mathlib.Core.Path.{_≡_};
-ghost use Rattle.text.specs.Reader.{Right};
-ghost use Rattle.book.specs.Book.{opening};
 ghost use Rattle.book.specs.Questions.{questionOf, lineOf};
-ghost use Rattle.book.specs.Checked.{empty, Judged};
-ghost use Rattle.book.specs.Steps.{Closing, answerOf, headerBad, heldOf, judgedOf};
+ghost use Rattle.book.specs.Checked.{empty};
+ghost use Rattle.book.specs.Steps.{answerOf, headerBad, heldOf, judgedOf};
 
 // The first question that a book fails, and for 13 to 15 a line that fails it.
 pub enum Answer {
@@ -82,56 +76,6 @@ pub struct Opening {
     pub used: usize,
 }
 
-fn read_opening(book: &[u8]) -> Opening
-    ensures { λ r. ⌜ Right (now (book .entry)) (opening (now (book .entry))) (r .used) (r .players, r .fee) ⌝ }
-{
-    let n1 = read_text(book, b"(book\n");
-    if n1 == 0 {
-        return Opening {
-            players: 0,
-            fee: 0,
-            used: 0,
-        };
-    }
-    let p = read_row(&book[n1..], b"(players ", 1);
-    let n2 = p.used;
-    if n2 == 0 {
-        return Opening {
-            players: 0,
-            fee: 0,
-            used: 0,
-        };
-    }
-    let at = n1 + n2;
-    let c = read_row(&book[at..], b"(fee ", 1);
-    let n3 = c.used;
-    if n3 == 0 {
-        return Opening {
-            players: 0,
-            fee: 0,
-            used: 0,
-        };
-    }
-    let ps = p.numbers;
-    let cs = c.numbers;
-    Opening {
-        players: ps[3],
-        fee: cs[3],
-        used: at + n3,
-    }
-}
-
-// Whether `rest` is the last line, with nothing after it.
-fn closes(rest: &[u8]) -> bool
-    ensures { λ r. ⌜ Closing (now (rest .entry)) r ⌝ }
-{
-    let n = read_text(rest, b")\n");
-    if n == 0 {
-        return false;
-    }
-    n == rest.len()
-}
-
 fn answer_of(header: u32, moves: u32, entries: u32, count: usize) -> Answer
     ensures { λ r. ⌜ r ≡ answerOf header moves entries count ⌝ }
 {
@@ -150,7 +94,8 @@ fn answer_of(header: u32, moves: u32, entries: u32, count: usize) -> Answer
     Answer::Accepted
 }
 
-fn refused(answer: Answer) -> Checked
+// What is handed back for a book that is refused.
+pub fn refused(answer: Answer) -> Checked
     ensures { λ r. ⌜ r ≡ record { answer = answer; book = empty } ⌝ }
 {
     Checked {
@@ -196,7 +141,7 @@ fn held(o: Opening, m: Moves, e: Entries) -> CheckedBook
 }
 
 // The questions 13 to 16, each put to the whole book before the next.
-fn judge(o: Opening, m: Moves, e: Entries) -> Checked
+pub fn judge(o: Opening, m: Moves, e: Entries) -> Checked
     ensures { λ r. ⌜ r ≡ judgedOf (answerOf (headerBad o) (m .bad) (e .bad) (e .count)) o m e ⌝ }
 {
     let players = first_bad(0, (1 <= o.players) & (o.players <= 8), 2);
@@ -209,28 +154,4 @@ fn judge(o: Opening, m: Moves, e: Entries) -> Checked
         answer,
         book: held(o, m, e),
     }
-}
-
-// Puts the questions 11 to 16 to a book.
-pub fn check(book: &[u8]) -> Checked
-    ensures { λ r. ⌜ Judged (now (book .entry)) r ⌝ }
-{
-    if 16384 < book.len() {
-        return refused(Answer::TooLong);
-    }
-    let o = read_opening(book);
-    let n1 = o.used;
-    if n1 == 0 {
-        return refused(Answer::Malformed);
-    }
-    let rest = &book[n1..];
-    let m = read_moves(rest);
-    let n2 = m.used;
-    let rest = &rest[n2..];
-    let e = read_entries(rest, m.line, book.len());
-    let n3 = e.used;
-    if !closes(&rest[n3..]) {
-        return refused(Answer::Malformed);
-    }
-    judge(o, m, e)
 }

@@ -16,7 +16,8 @@ use Rattle.laws.specs.Count.{Count, exactly, more, counted}
 use Rattle.bytes32.specs.Words.{words, encodeWords}
 use Rattle.book.specs.Book.{Book, parse}
 use Rattle.book.specs.Questions.{refusal, questionOf, lineOf}
-use Rattle.book.specs.Checked.{entriesOf, Judged}
+use Rattle.book.specs.Checked.{entriesOf}
+use Rattle.book_check.specs.Judged.{Judged}
 use Rattle.book.specs.declared.Checked.{Checked}
 use Rattle.book.specs.declared.CheckedBook.{CheckedBook}
 use Rattle.allocation.specs.FullWays.{fullWays, firstWay, nextWay}

@@ -42,7 +42,7 @@ pub fn next(book: &[u8], given: &[u8], way: &mut [u8]) -> Reply
 pub fn count(book: &[u8], cap: u16) -> Reply
     ensures { λ r. ⌜ CountsBook (now (book .entry)) cap r ⌝ }
 {
-    let checked = book::check(book);
+    let checked = book_check::check(book);
     let answer = checked.answer;
     let number = book::question(answer);
     if number != 0 {

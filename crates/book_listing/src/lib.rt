@@ -17,7 +17,7 @@ fn write_listing(book: &[u8], out: &mut [u8]) -> usize
     requires { ⌜ 98304 ≤ length (now out) ⌝ }
     ensures { λ r. ⌜ Appended (now (out .entry)) 0 (listing (now (book .entry))) (now (out .exit)) r ⌝ }
 {
-    let checked = book::check(book);
+    let checked = book_check::check(book);
     let answer = checked.answer;
     let number = book::question(answer);
     if number != 0 {

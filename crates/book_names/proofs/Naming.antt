@@ -13,7 +13,8 @@ use Rattle.book.specs.declared.CheckedBook.{CheckedBook}
 use Rattle.book.specs.declared.Checked.{Checked}
 use Rattle.book.specs.Book.{Book, parse}
 use Rattle.book.specs.Questions.{refusal}
-use Rattle.book.specs.Checked.{unlessRefused, entriesOf, Judged}
+use Rattle.book.specs.Checked.{unlessRefused, entriesOf}
+use Rattle.book_check.specs.Judged.{Judged}
 use Rattle.book_names.specs.Name.{askEntry, nameRefusal}
 
 pub from-one : (j n : ℕ) → (leb 1 j && leb j n) ≡ true → (1 ≤ j) × (j ≤ n)

@@ -13,7 +13,8 @@ use Rattle.book.specs.declared.CheckedBook.{CheckedBook}
 use Rattle.book.specs.declared.Checked.{Checked}
 use Rattle.book.specs.Book.{Book, parse}
 use Rattle.book.specs.Questions.{refusal}
-use Rattle.book.specs.Checked.{unlessRefused, checkedBook, entriesOf, Lies, Judged}
+use Rattle.book.specs.Checked.{unlessRefused, checkedBook, entriesOf}
+use Rattle.book_check.specs.Judged.{Lies, Judged}
 use Rattle.book.proofs.Judging.{column-at}
 use Rattle.book.proofs.Accepted.{accepted}
 use Rattle.book_names.specs.Name.{unlessRefused as nameUnless}

@@ -14,7 +14,7 @@ pub struct Span {
 pub fn place(book: &[u8], entry: u32) -> Span
     ensures { λ r. ⌜ Names (now (book .entry)) entry r ⌝ }
 {
-    let checked = book::check(book);
+    let checked = book_check::check(book);
     let b = checked.book;
     let n = entry as usize;
     if (1 <= n) & (n <= b.count) {
@@ -43,7 +43,7 @@ pub fn name(book: &[u8], entry: u32) -> &[u8]
 pub fn name_refusal(book: &[u8], entry: u32) -> u32
     ensures { λ r. ⌜ r ≡ nameRefusal (now (book .entry)) entry ⌝ }
 {
-    let checked = book::check(book);
+    let checked = book_check::check(book);
     let answer = checked.answer;
     let q = book::question(answer);
     if q != 0 {

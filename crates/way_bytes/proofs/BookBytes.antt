@@ -9,7 +9,8 @@ use lib.ListN.{length}
 use Rattle.laws.specs.Tests.{ask}
 use Rattle.book.specs.Book.{Book, parse}
 use Rattle.book.specs.Questions.{refusal, questionOf, lineOf}
-use Rattle.book.specs.Checked.{checkedBook, entriesOf, Judged}
+use Rattle.book.specs.Checked.{checkedBook, entriesOf}
+use Rattle.book_check.specs.Judged.{Judged}
 use Rattle.book.specs.declared.Checked.{Checked}
 use Rattle.book.specs.declared.CheckedBook.{CheckedBook}
 use Rattle.book_network.specs.Held.{Holds}

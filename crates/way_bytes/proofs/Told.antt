@@ -10,8 +10,8 @@ use lib.ListN.{length}
 use Rattle.laws.specs.Tests.{ask}
 use Rattle.book.specs.Book.{Book, parse}
 use Rattle.book.specs.Questions.{refusal, questionOf, lineOf}
-use Rattle.book.specs.Questions as book
-use Rattle.book.specs.Checked.{Judged}
+use Rattle.book_check.specs.Judged as check
+use Rattle.book_check.specs.Judged.{Judged}
 use Rattle.book.specs.declared.Checked.{Checked}
 use Rattle.book.specs.declared.Answer as answers
 use Rattle.book.specs.declared.Answer.the-variants.{Accepted, TooLong, Malformed, BadHeader, BadMove, BadEntry, TooMany}
@@ -21,7 +21,7 @@ use Rattle.way_bytes.specs.Told.{ToldOf, ToldIn, Told}
 no-line : (b : Book) (n : ℕ) → ¬ (n ≡ 13) → ¬ (n ≡ 14) → ¬ (n ≡ 15) → ToldOf b n 0
 no-line b n x y z = record { of-header = λ e. absurd (x e); of-move = λ e. absurd (y e); of-entry = λ e. absurd (z e); of-other = λ _ _ _. refl }
 
-told-of : (b : Book) (a : answers.Answer) → book.Told b a → ToldOf b (questionOf a) (lineOf a)
+told-of : (b : Book) (a : answers.Answer) → check.Told b a → ToldOf b (questionOf a) (lineOf a)
 told-of b Accepted t = no-line b 0 (λ e. omega arith) (λ e. omega arith) (λ e. omega arith)
 told-of b TooLong t = no-line b 11 (λ e. omega arith) (λ e. omega arith) (λ e. omega arith)
 told-of b Malformed t = no-line b 12 (λ e. omega arith) (λ e. omega arith) (λ e. omega arith)

@@ -20,7 +20,7 @@ pub struct Admitted {
 pub fn admit(book: &[u8], bytes: usize) -> Admitted
     ensures { λ r. ⌜ Admits (now (book .entry)) bytes r ⌝ }
 {
-    let checked = book::check(book);
+    let checked = book_check::check(book);
     let answer = checked.answer;
     let number = book::question(answer);
     let line = book::line(answer);

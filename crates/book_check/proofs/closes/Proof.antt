@@ -1,9 +1,9 @@
--- `book::closes` meets its contract. Assumes nothing.
+-- `book_check::closes` meets its contract. Assumes nothing.
 use borrow.Author.Needs.{needs}
 use Rattle.text.specs.Reader.{bytes}
-use Rattle.book.proofs.Form.{closing-absent, closing-is}
-use Rattle.book.proofs.closes.Statement.{statement}
-use Rattle.book.proofs.closes.Tie as tie
+use Rattle.book_check.proofs.Form.{closing-absent, closing-is}
+use Rattle.book_check.proofs.closes.Statement.{statement}
+use Rattle.book_check.proofs.closes.Tie as tie
 
 slice-aggregate-read-text : tie.Need-slice-aggregate-read-text
 slice-aggregate-read-text c = search needs

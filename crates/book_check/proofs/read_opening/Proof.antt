@@ -1,15 +1,15 @@
--- `book::read_opening` meets its contract: each line is read where the one before it ended. Assumes nothing.
+-- `book_check::read_opening` meets its contract: each line is read where the one before it ended. Assumes nothing.
 use Prim.Native.Nat.{_+_}
 use native.Mathlib.Omega.{arith}
 use borrow.Author.Needs.{needs}
 use lib.ListN.{drop, getD}
 use Rattle.text.specs.Reader.{_>>=_, _>>_, give, bytes, row}
 use Rattle.book.specs.Book.{opening}
 use Rattle.text.proofs.Runs.{absent}
 use Rattle.text.proofs.Sequence.{From, begin, first, first-stops, next-right, stops}
-use Rattle.book.proofs.Form.{opening-present}
-use Rattle.book.proofs.read_opening.Statement.{statement}
-use Rattle.book.proofs.read_opening.Tie as tie
+use Rattle.book_check.proofs.Form.{opening-present}
+use Rattle.book_check.proofs.read_opening.Statement.{statement}
+use Rattle.book_check.proofs.read_opening.Tie as tie
 
 slice-aggregate-read-text : tie.Need-slice-aggregate-read-text
 slice-aggregate-read-text c = search needs

@@ -12,9 +12,9 @@ use borrow.Author.Tests.{eq-eqb, ne-eqb}
 use Rattle.text.specs.Reader.{_>>=_, give, bytes, text, fails, reads, Right}
 use Rattle.lines.specs.Lines.{Entry}
 use Rattle.lines.proofs.EntryPass.{placed-drop}
 use Rattle.book.specs.Book.{opening, Book, book, whole, parse}
 use Rattle.lines.specs.Passes.{Placed}
-use Rattle.book.specs.Steps.{Closing}
+use Rattle.book_check.specs.Closing.{Closing}
 use Rattle.laws.specs.Suffix.{take-rest}
 use Rattle.text.proofs.Sequence.{From, part, part-part, mapped, ends}
 

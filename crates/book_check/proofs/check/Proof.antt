@@ -1,18 +1,18 @@
--- `book::check` meets its contract: each part of the book is read where the one before it ended. Assumes nothing.
+-- `book_check::check` meets its contract: each part of the book is read where the one before it ended. Assumes nothing.
 use Prim.Native.Nat.{_+_}
 use mathlib.Core.Path.{refl}
 use borrow.Author.Needs.{needs}
 use borrow.Author.Tests.{not-true, not-false}
 use Rattle.book.specs.declared.Answer.the-variants.{TooLong, Malformed}
 use Rattle.text.specs.Reader.{Reader, _>>=_, _>>_, give, bytes, text, many}
 use Rattle.lines.specs.Lines.{move, entry}
 use Rattle.book.specs.Book.{Book, book}
 use Rattle.text.proofs.Sequence.{From, part, part-part, begin, first, first-stops, next}
-use Rattle.book.specs.Steps.{Closing}
-use Rattle.book.proofs.Form.{parse-fails, parse-closed, parse-open, closing-part, placed-part}
-use Rattle.book.proofs.Judging.{long, no-form, refused-right, Found, judged-right}
-use Rattle.book.proofs.check.Statement.{statement}
-use Rattle.book.proofs.check.Tie as tie
+use Rattle.book_check.specs.Closing.{Closing}
+use Rattle.book_check.proofs.Form.{parse-fails, parse-closed, parse-open, closing-part, placed-part}
+use Rattle.book_check.proofs.Judged.{long, no-form, refused-right, Found, judged-right}
+use Rattle.book_check.proofs.check.Statement.{statement}
+use Rattle.book_check.proofs.check.Tie as tie
 
 refused-requires : tie.Need-refused-requires
 refused-requires c κs = search needs

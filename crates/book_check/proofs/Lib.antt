@@ -1,0 +1,2 @@
+mod Form
+mod Judged

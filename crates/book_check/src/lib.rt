@@ -1,0 +1,89 @@
+// The check of a book: its form, read from the bytes, and then its questions.
+use book::Answer;
+use book::Checked;
+use book::Opening;
+use book::judge;
+use book::refused;
+use lines::entries::read_entries;
+use lines::moves::read_moves;
+use text::read_row;
+use text::read_text;
+ghost use Rattle.text.specs.Reader.{Right};
+ghost use Rattle.book.specs.Book.{opening};
+ghost use Rattle.book_check.specs.Closing.{Closing};
+ghost use Rattle.book_check.specs.Judged.{Judged};
+
+// Reads the lines `(book`, `(players P)` and `(fee C)`.
+fn read_opening(book: &[u8]) -> Opening
+    ensures { λ r. ⌜ Right (now (book .entry)) (opening (now (book .entry))) (r .used) (r .players, r .fee) ⌝ }
+{
+    let n1 = read_text(book, b"(book\n");
+    if n1 == 0 {
+        return Opening {
+            players: 0,
+            fee: 0,
+            used: 0,
+        };
+    }
+    let p = read_row(&book[n1..], b"(players ", 1);
+    let n2 = p.used;
+    if n2 == 0 {
+        return Opening {
+            players: 0,
+            fee: 0,
+            used: 0,
+        };
+    }
+    let at = n1 + n2;
+    let c = read_row(&book[at..], b"(fee ", 1);
+    let n3 = c.used;
+    if n3 == 0 {
+        return Opening {
+            players: 0,
+            fee: 0,
+            used: 0,
+        };
+    }
+    let ps = p.numbers;
+    let cs = c.numbers;
+    Opening {
+        players: ps[3],
+        fee: cs[3],
+        used: at + n3,
+    }
+}
+
+// Whether `rest` is the last line, with nothing after it.
+fn closes(rest: &[u8]) -> bool
+    ensures { λ r. ⌜ Closing (now (rest .entry)) r ⌝ }
+{
+    let n = read_text(rest, b")\n");
+    if n == 0 {
+        return false;
+    }
+    n == rest.len()
+}
+
+// Puts the questions 11 to 16 to a book.
+pub fn check(book: &[u8]) -> Checked
+    ensures { λ r. ⌜ Judged (now (book .entry)) r ⌝ }
+{
+    if 16384 < book.len() {
+        return refused(Answer::TooLong);
+    }
+    let o = read_opening(book);
+    let n1 = o.used;
+    if n1 == 0 {
+        return refused(Answer::Malformed);
+    }
+    let rest = &book[n1..];
+    let m = read_moves(rest);
+    let n2 = m.used;
+    let rest = &rest[n2..];
+    let e = read_entries(rest, m.line, book.len());
+    let n3 = e.used;
+    if !closes(&rest[n3..]) {
+        return refused(Answer::Malformed);
+    }
+    judge(o, m, e)
+}
