@@ -1,10 +1,10 @@
 -- Document 01: "In a C call a list of 32-bit numbers is lent as bytes, four a number, two's complement, lowest byte first".
 use mathlib.Core.Bool.{cond}
 use mathlib.Core.List.{List, [], _∷_, _++_, map}
-use Prim.Native.Nat.{ℕ, _+_, _*_, _-_, _/_, _%_, min}
+use Prim.Native.Nat.{ℕ, _+_, _*_, _-_, _/_, _%_}
 use lib.Dec.{ltb}
 use lib.IntN.{ℤ, pos, negsuc}
-use lib.ListN.{length, getD, take, drop}
+use lib.ListN.{length, getD, drop}
 
 -- "four a number, ... lowest byte first"
 abbrev pub word : ℕ → ℕ → ℕ → ℕ → ℕ
@@ -47,11 +47,3 @@ encodeInts l = encodeWords (map unsigned l)
 -- "places beyond these keep what they held": bytes written to the first places of a list
 abbrev pub over : List ℕ → List ℕ → List ℕ
 over bytes out = bytes ++ drop (length bytes) out
-
--- of m numbers, as many as a list of bytes has places for
-abbrev pub fitting : ℕ → List ℕ → ℕ
-fitting m out = min m (length out / 4)
-
--- number n written as number i, if there is that place
-abbrev pub put : List ℕ → ℕ → ℕ → List ℕ
-put out i n = cond (ltb i (length out / 4)) (take (4 * i) out ++ bytesOf n ++ drop (4 * i + 4) out) out

@@ -1,10 +1,10 @@
-// Lists of 32-bit numbers lent as bytes, four a number, two's complement, lowest first.
+// Lists of 32-bit numbers lent as bytes, four a number, two's complement, lowest first: reading them.
 ghost use mathlib.Core.Path.{_≡_};
 ghost use Prim.Native.Nat.{_+_, _*_, _/_, _≤_, _<_, min};
 ghost use lib.ListN.{length, getD, take};
 ghost use lib.IntN.{pos};
 ghost use Rattle.laws.specs.Padded.{padded};
-ghost use Rattle.bytes32.specs.Words.{wordAt, signed, unsigned, words, ints, encodeWords, encodeInts, over, fitting, put};
+ghost use Rattle.bytes32.specs.Words.{wordAt, signed, unsigned, words, ints};
 
 fn wide(x: u8) -> u32
     ensures { λ r. ⌜ (r ≡ x) × (r < 256) ⌝ }
@@ -78,61 +78,9 @@ pub fn read_words(b: &[u8]) -> [u32; 512]
     r
 }
 
-fn lesser(a: usize, b: usize) -> usize
+// The lesser of two numbers.
+pub fn lesser(a: usize, b: usize) -> usize
     ensures { λ r. ⌜ r ≡ min a b ⌝ }
 {
     if a <= b { a } else { b }
-}
-
-// n as number i: exactly its four bytes change.
-fn put_u32(out: &mut [u8], i: usize, n: u32)
-    requires { ⌜ 4 * i + 4 ≤ length (now out) ⌝ }
-    ensures { λ _. ⌜ now (out .exit) ≡ put (now (out .entry)) i n ⌝ }
-{
-    let k = 4 * i;
-    let n1 = n / 256;
-    let n2 = n1 / 256;
-    let n3 = n2 / 256;
-    out[k] = (n % 256) as u8;
-    out[k + 1] = (n1 % 256) as u8;
-    out[k + 2] = (n2 % 256) as u8;
-    out[k + 3] = (n3 % 256) as u8;
-}
-
-// x as number i; where out has no such place, nothing.
-fn write_i32(out: &mut [u8], i: usize, x: i32)
-    ensures { λ _. ⌜ now (out .exit) ≡ put (now (out .entry)) i (unsigned x) ⌝ }
-{
-    let n = to_unsigned(x);
-    if i < out.len() / 4 {
-        put_u32(out, i, n);
-    }
-}
-
-// How many of m numbers can be read from a list of `from` numbers and written to one of `to` bytes.
-fn count_of(m: usize, from: usize, to: usize) -> usize
-    ensures { λ r. ⌜ r ≡ min from (min m (to / 4)) ⌝ }
-{
-    lesser(from, lesser(m, to / 4))
-}
-
-// The first m numbers of xs to the first places of out, as many as it has places for.
-pub fn write_words(out: &mut [u8], xs: &[u32], m: usize)
-    ensures { λ _. ⌜ now (out .exit) ≡ over (encodeWords (take (fitting m (now (out .entry))) (now (xs .entry)))) (now (out .entry)) ⌝ }
-{
-    let k = count_of(m, xs.len(), out.len());
-    for i in 0..k {
-        put_u32(out, i, xs[i]);
-    }
-}
-
-pub fn write_ints(out: &mut [u8], xs: &[i32], m: usize)
-    ensures { λ _. ⌜ now (out .exit) ≡ over (encodeInts (take (fitting m (now (out .entry))) (now (xs .entry)))) (now (out .entry)) ⌝ }
-{
-    let k = count_of(m, xs.len(), out.len());
-    for i in 0..k {
-        let x = xs[i];
-        let n = to_unsigned(x);
-        put_u32(out, i, n);
-    }
 }

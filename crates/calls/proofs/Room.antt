@@ -8,7 +8,7 @@ use lib.Dec.{eqb, leb}
 use lib.ListN.{length}
 use borrow.Author.Tests.{leb-true}
 use Rattle.laws.specs.Tests.{and-true}
-use Rattle.bytes32.specs.Words.{fitting}
+use Rattle.encode32.specs.Writing.{fitting}
 use Rattle.calls.specs.ByteLists.{room}
 
 -- it takes all

@@ -82,7 +82,7 @@ pub fn hand_line(numbers: &[u32], k: usize, cost: i64, out: &mut [u8]) -> Reply
     requires { ⌜ room k (length (now out)) ≡ true ⌝ }
     ensures { λ r. ⌜ HandedOut (λ _. cost) (some (take k (now (numbers .entry)))) 0 (now (out .entry)) r (now (out .exit)) ⌝ }
 {
-    bytes32::write_words(out, numbers, k);
+    encode32::write_words(out, numbers, k);
     Reply {
         code: 0,
         line: 0,

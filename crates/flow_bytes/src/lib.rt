@@ -90,7 +90,7 @@ pub fn hand_prices(walk: Enumerator, prices: &mut [u8])
     }
     let net = walk.net;
     let ps = walk.prices();
-    bytes32::write_ints(prices, &ps, net.nodes);
+    encode32::write_ints(prices, &ps, net.nodes);
 }
 
 // Question 8: the walk that stands on the line given, or on none.

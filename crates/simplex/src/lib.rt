@@ -1,7 +1,6 @@
 // A guess of a least-cost flow: the primal network simplex. Its numbers are unsigned and wrap, and all that is promised of the guess is
 // that it is within the bounds: whoever needs a flow tests it.
-ghost use mathlib.Core.Path.{_≡_};
-ghost use Prim.Native.Nat.{ℕ, _+_, _≤_, _<_, _%_, _^_};
+ghost use Prim.Native.Nat.{ℕ, _≤_, _<_};
 ghost use lib.ListN.{length, getD};
 ghost use Rattle.simplex.specs.Lengths.{SameLengths};
 ghost use Rattle.simplex.specs.Bounds.{WithinBounds};
@@ -598,27 +597,6 @@ fn optimise(
     solve(&mut head, room, &cost, &excess, tails.len(), balances.len());
 }
 
-// x above the lower bound, or the upper bound where that is less.
-fn clamped(low: u32, up: u32, x: u32) -> u32
-    requires { ⌜ low ≤ up ⌝ }
-    ensures { λ r. ⌜ (low ≤ r) × (r ≤ up) ⌝ }
-{
-    if up - low < x {
-        return up;
-    }
-    low + x
-}
-
-// What the arcs carry: the room of their codes back, above the lower bounds, and no more than the upper bounds.
-fn write_flow(lows: &[u32], ups: &[u32], room: &[u32; 2048], flow: &mut [u32])
-    requires { ⌜ (length (now flow) ≤ 512) × (length (now lows) ≡ length (now flow)) × (length (now ups) ≡ length (now flow)) × ((a : ℕ) → a < length (now flow) → getD (now lows) a 0 ≤ getD (now ups) a 0) ⌝ }
-    ensures { λ _. ⌜ WithinBounds (now (lows .entry)) (now (ups .entry)) (now (flow .exit)) ⌝ }
-{
-    for a in 0..lows.len() {
-        flow[a] = clamped(lows[a], ups[a], room[2 * a + 1]);
-    }
-}
-
 // A list within the bounds, and mostly a least-cost flow where there is a flow.
 pub fn guess(
     tails: &[u8],
@@ -634,5 +612,5 @@ pub fn guess(
 {
     let mut room = [0u32; 2048];
     optimise(tails, heads, lows, ups, costs, balances, &mut room);
-    write_flow(lows, ups, &room, flow);
+    clamping::write_within(lows, ups, &room, flow);
 }

@@ -1,14 +1,13 @@
-use mathlib.Core.Path.{_≡_, sym, _∙_}
+use mathlib.Core.Path.{_≡_, _∙_}
 use mathlib.Core.List.{List, [], _∷_}
 use Prim.Native.Nat.{ℕ, suc, _+_, _*_, _≤_}
 use native.Mathlib.Omega.{arith}
 use lib.ListN.{length, set, length-set}
 use lib.Seq.{sets, sets-eq}
 use borrow.Author.Needs.{needs}
 use Rattle.bytes32.specs.Words.{bytesOf}
-use Rattle.bytes32.proofs.Words.{put-there}
-use Rattle.bytes32.proofs.put_u32.Statement.{statement}
-use Rattle.bytes32.proofs.put_u32.Tie as tie
+use Rattle.encode32.proofs.put_u32.Statement.{statement}
+use Rattle.encode32.proofs.put_u32.Tie as tie
 
 slice-write-out-2 : tie.Need-slice-write-out-2
 slice-write-out-2 c = simp length-set (omega arith)
@@ -33,7 +32,7 @@ returns c =
     let l = c .args .out .now in
     let i = c .args .i in
     let n = c .args .n in
-    stores l i _ _ _ _ (c .pre) ∙ sets-eq (bytesOf n) l (4 * i) (c .pre) ∙ sym (put-there l i n (c .pre))
+    stores l i _ _ _ _ (c .pre) ∙ sets-eq (bytesOf n) l (4 * i) (c .pre)
 
 pub put-u32-spec : {M : Type 1} → statement M
 put-u32-spec =

@@ -9,10 +9,11 @@ use mir.Syntax.{w32}
 use mir.Val.{toZ, ofZ}
 use mir.Facts.{toZ-ofZ}
 use borrow.Author.Needs.{needs}
-use Rattle.bytes32.specs.Words.{unsigned, fitting}
-use Rattle.bytes32.proofs.Words.{Written, written-none, written-more, written-all, least-fits, map-take}
-use Rattle.bytes32.proofs.write_ints.Statement.{statement}
-use Rattle.bytes32.proofs.write_ints.Tie as tie
+use Rattle.bytes32.specs.Words.{unsigned}
+use Rattle.encode32.specs.Writing.{fitting}
+use Rattle.encode32.proofs.Writing.{Written, written-none, written-more, written-all, least-fits, map-take}
+use Rattle.encode32.proofs.write_ints.Statement.{statement}
+use Rattle.encode32.proofs.write_ints.Tie as tie
 
 abbrev Inv-loop : tie.InvT-loop
 Inv-loop out₀ xs m k i₀ out i = Written (map unsigned (xs)) out₀ k i out

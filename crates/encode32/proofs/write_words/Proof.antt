@@ -3,9 +3,9 @@ use Prim.Native.Nat.{_*_, _-_, _≤_}
 use native.Mathlib.Omega.{arith}
 use lib.ListN.{length}
 use borrow.Author.Needs.{needs}
-use Rattle.bytes32.proofs.Words.{Written, written-none, written-more, written-all, least-fits}
-use Rattle.bytes32.proofs.write_words.Statement.{statement}
-use Rattle.bytes32.proofs.write_words.Tie as tie
+use Rattle.encode32.proofs.Writing.{Written, written-none, written-more, written-all, least-fits}
+use Rattle.encode32.proofs.write_words.Statement.{statement}
+use Rattle.encode32.proofs.write_words.Tie as tie
 
 abbrev Inv-loop : tie.InvT-loop
 Inv-loop out₀ xs m k i₀ out i = Written (xs) out₀ k i out
