@@ -1,4 +1,4 @@
--- For each arc a: what place 2a + 1 has above the lower bound, or the upper bound where that is less.
+-- For each arc a: number 2a + 1 of r above the lower bound, or the upper bound where that is less.
 use mathlib.Core.Path.{_≡_}
 use mathlib.Core.List.{List}
 use Prim.Native.Nat.{ℕ, _+_, _*_, _<_, min}

@@ -37,6 +37,7 @@ pub fn write_words(out: &mut [u8], xs: &[u32], m: usize)
     }
 }
 
+// The same of signed numbers.
 pub fn write_ints(out: &mut [u8], xs: &[i32], m: usize)
     ensures { λ _. ⌜ now (out .exit) ≡ over (encodeInts (take (fitting m (now (out .entry))) (now (xs .entry)))) (now (out .entry)) ⌝ }
 {
