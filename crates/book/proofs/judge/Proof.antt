@@ -7,21 +7,6 @@ use Rattle.book.proofs.Judging.{judged-refused, judged-held}
 use Rattle.book.proofs.judge.Statement.{statement}
 use Rattle.book.proofs.judge.Tie as tie
 
-first-bad-requires : tie.Need-first-bad-requires
-first-bad-requires c κs = search needs
-
-first-bad-requires-2 : tie.Need-first-bad-requires-2
-first-bad-requires-2 c κs = search needs
-
-answer-of-requires : tie.Need-answer-of-requires
-answer-of-requires c κs = search needs
-
-question-requires : tie.Need-question-requires
-question-requires c κs = search needs
-
-refused-requires : tie.Need-refused-requires
-refused-requires c κs = search needs
-
 -- the answer, by what the passes found
 answered : (c : tie.After-answer-of)
     → let start = c .before .before .before .before .before .before in
@@ -35,9 +20,6 @@ returns c =
     ∙ judged-refused _ (x .o) (x .m) (x .e) (λ z. c .before .if1 .taken (c .before .before .question .ensures ∙ z))
     ∙ ap (λ (a : Answer). judgedOf a (x .o) (x .m) (x .e)) (answered (c .before .before .before))
 
-held-requires : tie.Need-held-requires
-held-requires c κs = search needs
-
 returns-2 : tie.Need-returns-2
 returns-2 c =
     let x = c .before .before .before .before .before .before .before .before .before .args in
@@ -48,11 +30,11 @@ pub judge-spec : {M : Type 1} → statement M
 judge-spec =
     tie.close
     (tie.spec
-    first-bad-requires
-    first-bad-requires-2
-    answer-of-requires
-    question-requires
-    refused-requires
+    (λ c κs. search needs)
+    (λ c κs. search needs)
+    (λ c κs. search needs)
+    (λ c κs. search needs)
+    (λ c κs. search needs)
     returns
-    held-requires
+    (λ c κs. search needs)
     returns-2)

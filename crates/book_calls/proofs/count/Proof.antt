@@ -28,18 +28,6 @@ counted-is : (c : tie.After-count) → let e = c .before .before .before in
     counted (entry (e .before) .args .cap) (c .count .result) ≡ countWays (held e .0) (entry (e .before) .args .cap)
 counted-is c = c .count .ensures .1 .each (held (c .before .before .before) .0) (begun (c .before))
 
-check-requires : tie.Need-check-requires
-check-requires c κs = search needs
-
-question-requires : tie.Need-question-requires
-question-requires c κs = search needs
-
-line-requires : tie.Need-line-requires
-line-requires c κs = search needs
-
-refused-requires : tie.Need-refused-requires
-refused-requires c κs = search needs
-
 returns : tie.Need-returns
 returns c =
     let l = c .before in
@@ -53,9 +41,6 @@ start-requires c κs = let h = held (c .before) in record { book = h .0; holds =
 count-requires : tie.Need-count-requires
 count-requires c κs = record { book = held (c .before .before) .0; walks = begun c }
 
-count-reply-requires : tie.Need-count-reply-requires
-count-reply-requires c κs = search needs
-
 returns-2 : tie.Need-returns-2
 returns-2 c =
     let k = c .before in
@@ -67,12 +52,12 @@ pub count-spec : {M : Type 1} → statement M
 count-spec =
     tie.close
     (tie.spec
-    check-requires
-    question-requires
-    line-requires
-    refused-requires
+    (λ c κs. search needs)
+    (λ c κs. search needs)
+    (λ c κs. search needs)
+    (λ c κs. search needs)
     returns
     start-requires
     count-requires
-    count-reply-requires
+    (λ c κs. search needs)
     returns-2)

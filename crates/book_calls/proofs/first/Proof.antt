@@ -26,12 +26,6 @@ begun c = let p = gone (c .before .before) in c .start .ensures .each (p .book) 
 on-first : (c : tie.After-first) → let b = gone (c .before .before .before) .book in At b None (firstWay b) (c .first .result)
 on-first c = c .first .ensures .each (gone (c .before .before .before) .book) (begun (c .before))
 
-admit-requires : tie.Need-admit-requires
-admit-requires c κs = search needs
-
-refused-requires : tie.Need-refused-requires
-refused-requires c κs = search needs
-
 returns : tie.Need-returns
 returns c =
     let b = c .before .before in
@@ -50,9 +44,6 @@ hand-way-requires c κs =
     let p = gone (f .before .before .before) in
     (record { book = p .book; walks = on-first f .walks }, room-way _ _ _ p (f .first .result) (on-first f .walks))
 
-same-length : tie.Need-same-length
-same-length c = search needs
-
 returns-2 : tie.Need-returns-2
 returns-2 c =
     let h = c .before .before in
@@ -66,11 +57,11 @@ pub first-spec : {M : Type 1} → statement M
 first-spec =
     tie.close
     (tie.spec
-    admit-requires
-    refused-requires
+    (λ c κs. search needs)
+    (λ c κs. search needs)
     returns
     start-requires
     first-requires
     hand-way-requires
-    same-length
+    (λ c. search needs)
     returns-2)

@@ -38,12 +38,6 @@ on-next : (c : tie.After-next) → let f = c .before .before .before .before in 
     At b (wordAfter (f .find-way .result .walk .place)) (following b (wayAt b (f .find-way .result))) (c .next .result)
 on-next c = let f = c .before .before .before .before in c .next .ensures .each (gone (f .before .before) .book) (found f .0)
 
-admit-requires : tie.Need-admit-requires
-admit-requires c κs = search needs
-
-refused-requires : tie.Need-refused-requires
-refused-requires c κs = search needs
-
 returns : tie.Need-returns
 returns c =
     let b = c .before .before in
@@ -52,12 +46,6 @@ returns c =
 
 find-way-requires : tie.Need-find-way-requires
 find-way-requires c κs = is-held _ _ _ (gone (c .before))
-
-on-line-requires : tie.Need-on-line-requires
-on-line-requires c κs = search needs
-
-word-requires : tie.Need-word-requires
-word-requires c κs = search needs
 
 returns-2 : tie.Need-returns-2
 returns-2 c =
@@ -81,9 +69,6 @@ hand-way-requires c κs =
     let p = gone (n .before .before .before .before .before .before) in
     (record { book = p .book; walks = on-next n .walks }, room-way _ _ _ p (n .next .result) (on-next n .walks))
 
-same-length : tie.Need-same-length
-same-length c = search needs
-
 returns-3 : tie.Need-returns-3
 returns-3 c =
     let h = c .before .before in
@@ -104,14 +89,14 @@ pub next-spec : {M : Type 1} → statement M
 next-spec =
     tie.close
     (tie.spec
-    admit-requires
-    refused-requires
+    (λ c κs. search needs)
+    (λ c κs. search needs)
     returns
     find-way-requires
-    on-line-requires
-    word-requires
+    (λ c κs. search needs)
+    (λ c κs. search needs)
     returns-2
     next-requires
     hand-way-requires
-    same-length
+    (λ c. search needs)
     returns-3)

@@ -14,14 +14,8 @@ use Rattle.book_check.proofs.Judged.{long, no-form, refused-right, Foun
 use Rattle.book_check.proofs.check.Statement.{statement}
 use Rattle.book_check.proofs.check.Tie as tie
 
-refused-requires : tie.Need-refused-requires
-refused-requires c κs = search needs
-
 returns : tie.Need-returns
 returns c = refused-right _ _ TooLong 10 (c .refused .ensures) (long (c .before .before .before .args .book .now) (c .before .if1 .taken)) refl (λ _. tt)
-
-read-opening-requires : tie.Need-read-opening-requires
-read-opening-requires c κs = search needs
 
 -- What is to be read after the first lines, after the moves, and after the entries.
 abbrev Close : Book → Reader Book
@@ -59,9 +53,6 @@ closed : (c : tie.After-closes)
 closed c =
     closing-part (c .before .before .before .before .before .before .before .before .before .before .args .book .now) (c .before .before .before .before .before .before .before .read-opening .result .used) (c .before .before .before .before .read-moves .result .used) (c .before .before .read-entries .result .used) _ (c .closes .ensures)
 
-refused-requires-2 : tie.Need-refused-requires-2
-refused-requires-2 c κs = search needs
-
 returns-2 : tie.Need-returns-2
 unfolding book _>>_
 returns-2 c =
@@ -69,53 +60,11 @@ returns-2 c =
     let e = parse-fails s (first-stops _ _ (begin book s) (c .before .before .read-opening .ensures) (c .before .if2 .taken)) in
     refused-right s _ Malformed 11 (c .refused2 .ensures) (no-form s (c .before .before .before .if1 .left) e) refl (λ _. tt)
 
-sub-rest : tie.Need-sub-rest
-sub-rest c = search needs
-
-part-rest-start : tie.Need-part-rest-start
-part-rest-start c = search needs
-
-part-rest-end : tie.Need-part-rest-end
-part-rest-end c = search needs
-
-read-moves-requires : tie.Need-read-moves-requires
-read-moves-requires c κs = search needs
-
-sub-rest-2 : tie.Need-sub-rest-2
-sub-rest-2 c = search needs
-
-part-rest-start-2 : tie.Need-part-rest-start-2
-part-rest-start-2 c = search needs
-
-part-rest-end-2 : tie.Need-part-rest-end-2
-part-rest-end-2 c = search needs
-
-read-entries-requires : tie.Need-read-entries-requires
-read-entries-requires c κs = search needs
-
-sub-closes : tie.Need-sub-closes
-sub-closes c = search needs
-
-part-closes-start : tie.Need-part-closes-start
-part-closes-start c = search needs
-
-part-closes-end : tie.Need-part-closes-end
-part-closes-end c = search needs
-
-closes-requires : tie.Need-closes-requires
-closes-requires c κs = search needs
-
-refused-requires-3 : tie.Need-refused-requires-3
-refused-requires-3 c κs = search needs
-
 returns-3 : tie.Need-returns-3
 returns-3 c =
     let s = c .before .before .before .before .before .before .before .before .before .before .before .before .args .book .now in
     let e = parse-open _ _ _ _ (listed (c .before .before .before .before)) (closed (c .before .before)) (not-true _ (c .before .if3 .taken)) in
     refused-right s _ Malformed 11 (c .refused3 .ensures) (no-form s (c .before .before .before .before .before .before .before .before .before .before .if1 .left) e) refl (λ _. tt)
-
-judge-requires : tie.Need-judge-requires
-judge-requires c κs = search needs
 
 returns-4 : tie.Need-returns-4
 returns-4 c =
@@ -142,24 +91,24 @@ pub check-spec : {M : Type 1} → statement M
 check-spec =
     tie.close
     (tie.spec
-    refused-requires
+    (λ c κs. search needs)
     returns
-    read-opening-requires
-    refused-requires-2
+    (λ c κs. search needs)
+    (λ c κs. search needs)
     returns-2
-    sub-rest
-    part-rest-start
-    part-rest-end
-    read-moves-requires
-    sub-rest-2
-    part-rest-start-2
-    part-rest-end-2
-    read-entries-requires
-    sub-closes
-    part-closes-start
-    part-closes-end
-    closes-requires
-    refused-requires-3
+    (λ c. search needs)
+    (λ c. search needs)
+    (λ c. search needs)
+    (λ c κs. search needs)
+    (λ c. search needs)
+    (λ c. search needs)
+    (λ c. search needs)
+    (λ c κs. search needs)
+    (λ c. search needs)
+    (λ c. search needs)
+    (λ c. search needs)
+    (λ c κs. search needs)
+    (λ c κs. search needs)
     returns-3
-    judge-requires
+    (λ c κs. search needs)
     returns-4)

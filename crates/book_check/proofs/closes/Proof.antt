@@ -5,12 +5,6 @@ use Rattle.book_check.proofs.Form.{closing-absent, closing-is}
 use Rattle.book_check.proofs.closes.Statement.{statement}
 use Rattle.book_check.proofs.closes.Tie as tie
 
-slice-aggregate-read-text : tie.Need-slice-aggregate-read-text
-slice-aggregate-read-text c = search needs
-
-read-text-requires : tie.Need-read-text-requires
-read-text-requires c κs = search needs
-
 returns : tie.Need-returns
 unfolding bytes
 returns c = closing-absent _ _ (c .before .read-text .ensures) (c .if1 .taken)
@@ -20,4 +14,4 @@ unfolding bytes
 returns-2 c = closing-is _ _ (c .before .read-text .ensures) (c .if1 .left)
 
 pub closes-spec : {M : Type 1} → statement M
-closes-spec = tie.close (tie.spec slice-aggregate-read-text read-text-requires returns returns-2)
+closes-spec = tie.close (tie.spec (λ c. search needs) (λ c κs. search needs) returns returns-2)

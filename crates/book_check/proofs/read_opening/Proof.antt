@@ -11,12 +11,6 @@ use Rattle.book_check.proofs.Form.{opening-present}
 use Rattle.book_check.proofs.read_opening.Statement.{statement}
 use Rattle.book_check.proofs.read_opening.Tie as tie
 
-slice-aggregate-read-text : tie.Need-slice-aggregate-read-text
-slice-aggregate-read-text c = search needs
-
-read-text-requires : tie.Need-read-text-requires
-read-text-requires c κs = search needs
-
 -- What is to be read after the first line, after the players, and after the fee.
 headed : (c : tie.Else1)
     → let s = c .before .before .before .before .args .book .now in
@@ -45,55 +39,13 @@ returns : tie.Need-returns
 unfolding opening bytes _>>_
 returns c = absent (first-stops _ _ (begin opening _) (c .before .read-text .ensures) (c .if1 .taken))
 
-sub-read-row : tie.Need-sub-read-row
-sub-read-row c = search needs
-
-part-read-row-start : tie.Need-part-read-row-start
-part-read-row-start c = search needs
-
-part-read-row-end : tie.Need-part-read-row-end
-part-read-row-end c = search needs
-
-slice-aggregate-read-row : tie.Need-slice-aggregate-read-row
-slice-aggregate-read-row c = search needs
-
-read-row-requires : tie.Need-read-row-requires
-read-row-requires c κs = search needs
-
 returns-2 : tie.Need-returns-2
 unfolding bytes
 returns-2 c = absent (stops _ _ (headed (c .before .before .before .before)) (c .before .read-row .ensures) (c .if2 .taken))
 
-add-at : tie.Need-add-at
-add-at c = search needs
-
-sub-read-row-2 : tie.Need-sub-read-row-2
-sub-read-row-2 c = search needs
-
-part-read-row-start-2 : tie.Need-part-read-row-start-2
-part-read-row-start-2 c = search needs
-
-part-read-row-end-2 : tie.Need-part-read-row-end-2
-part-read-row-end-2 c = search needs
-
-slice-aggregate-read-row-2 : tie.Need-slice-aggregate-read-row-2
-slice-aggregate-read-row-2 c = search needs
-
-read-row-requires-2 : tie.Need-read-row-requires-2
-read-row-requires-2 c κs = search needs
-
 returns-3 : tie.Need-returns-3
 unfolding bytes
 returns-3 c = absent (stops _ _ (played (c .before .before .before .before)) (c .before .read-row2 .ensures) (c .if3 .taken))
-
-array-read-t29 : tie.Need-array-read-t29
-array-read-t29 c = search needs
-
-array-read-t32 : tie.Need-array-read-t32
-array-read-t32 c = search needs
-
-add-t17 : tie.Need-add-t17
-add-t17 c = search needs
 
 returns-4 : tie.Need-returns-4
 returns-4 c =
@@ -105,23 +57,23 @@ pub read-opening-spec : {M : Type 1} → statement M
 read-opening-spec =
     tie.close
     (tie.spec
-    slice-aggregate-read-text
-    read-text-requires
+    (λ c. search needs)
+    (λ c κs. search needs)
     returns
-    sub-read-row
-    part-read-row-start
-    part-read-row-end
-    slice-aggregate-read-row
-    read-row-requires
+    (λ c. search needs)
+    (λ c. search needs)
+    (λ c. search needs)
+    (λ c. search needs)
+    (λ c κs. search needs)
     returns-2
-    add-at
-    sub-read-row-2
-    part-read-row-start-2
-    part-read-row-end-2
-    slice-aggregate-read-row-2
-    read-row-requires-2
+    (λ c. search needs)
+    (λ c. search needs)
+    (λ c. search needs)
+    (λ c. search needs)
+    (λ c. search needs)
+    (λ c κs. search needs)
     returns-3
-    array-read-t29
-    array-read-t32
-    add-t17
+    (λ c. search needs)
+    (λ c. search needs)
+    (λ c. search needs)
     returns-4)

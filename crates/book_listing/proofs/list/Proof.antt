@@ -14,26 +14,11 @@ use Rattle.book_listing.proofs.list.Tie as tie
 in-room : (c : tie.After-write-listing) → c .write-listing .result ≤ length (c .write-listing .last .1 .0)
 in-room c = let a = c .write-listing .ensures in omega (arith, appended-long a, a .within)
 
-blank-requires : tie.Need-blank-requires
-blank-requires c κs = search needs
-
-slice-aggregate-write-listing : tie.Need-slice-aggregate-write-listing
-slice-aggregate-write-listing c = search needs
-
-write-listing-requires : tie.Need-write-listing-requires
-write-listing-requires c κs = search needs
-
 array-share-prefix-room : tie.Need-array-share-prefix-room
 array-share-prefix-room c = in-room (c .before)
 
 slice-aggregate-copy-if-room : tie.Need-slice-aggregate-copy-if-room
 slice-aggregate-copy-if-room c = let w = c .before .before in sym (length-take-le (w .write-listing .result) (w .write-listing .last .1 .0) (in-room w))
-
-copy-if-room-requires : tie.Need-copy-if-room-requires
-copy-if-room-requires c κs = search needs
-
-same-length : tie.Need-same-length
-same-length c = search needs
 
 returns : tie.Need-returns
 returns c =
@@ -49,11 +34,11 @@ pub list-spec : {M : Type 1} → statement M
 list-spec =
     tie.close
     (tie.spec
-    blank-requires
-    slice-aggregate-write-listing
-    write-listing-requires
+    (λ c κs. search needs)
+    (λ c. search needs)
+    (λ c κs. search needs)
     array-share-prefix-room
     slice-aggregate-copy-if-room
-    copy-if-room-requires
-    same-length
+    (λ c κs. search needs)
+    (λ c. search needs)
     returns)

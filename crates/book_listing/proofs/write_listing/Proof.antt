@@ -27,20 +27,8 @@ held c = let n = c .before in held-book (entry n .args .book .now) (n .before .c
 begun : (c : tie.After-start) → Walks (held (c .before .before) .0) (c .start .result)
 begun c = let h = held (c .before .before) in c .start .ensures .each (h .0) (h .2) .walks
 
-check-requires : tie.Need-check-requires
-check-requires c κs = search needs
-
-question-requires : tie.Need-question-requires
-question-requires c κs = search needs
-
-cast-put-refused : tie.Need-cast-put-refused
-cast-put-refused c = search needs
-
 put-refused-requires : tie.Need-put-refused-requires
 put-refused-requires c κs = let n = c .before .before in omega (arith, c .before .before .before .before .before .before .pre, refused-size (n .question .result) (omega (arith, n .question .ensures, question-few (n .before .check .result .answer))))
-
-same-length : tie.Need-same-length
-same-length c = search needs
 
 returns : tie.Need-returns
 returns c = let s = c .before .before .before .before .before .before .before .before .before in let n = c .before .before .before .before .before in let p = c .before .before .put-refused in
@@ -52,9 +40,6 @@ start-requires c κs = let h = held (c .before) in record { book = h .0; holds =
 list-requires : tie.Need-list-requires
 list-requires c κs = (record { book = held (c .before .before .before) .0; walks = begun (c .before) }, omega (arith, c .before .before .before .before .before .before .before .before .pre))
 
-same-length-2 : tie.Need-same-length-2
-same-length-2 c = search needs
-
 returns-2 : tie.Need-returns-2
 returns-2 c = let s = c .before .before .before .before .before .before .before .before .before .before .before in let e = c .before .before .before .before .before .before in let l = c .before .before .list in let h = held e in
     subst (λ (t : List ℕ). Appended (s .args .out .now) 0 t (l .last .1 .0) (l .result)) (ways-text (s .args .book .now) (h .0) (ok e) (h .1)) (l .ensures .each (h .0) (begun (c .before .before .before .before)))
@@ -63,13 +48,13 @@ pub write-listing-spec : {M : Type 1} → statement M
 write-listing-spec =
     tie.close
     (tie.spec
-    check-requires
-    question-requires
-    cast-put-refused
+    (λ c κs. search needs)
+    (λ c κs. search needs)
+    (λ c. search needs)
     put-refused-requires
-    same-length
+    (λ c. search needs)
     returns
     start-requires
     list-requires
-    same-length-2
+    (λ c. search needs)
     returns-2)

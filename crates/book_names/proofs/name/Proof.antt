@@ -4,12 +4,9 @@ use borrow.Author.Needs.{needs}
 use Rattle.book_names.proofs.name.Statement.{statement}
 use Rattle.book_names.proofs.name.Tie as tie
 
-place-requires : tie.Need-place-requires
-place-requires c κs = search needs
-
 returns : tie.Need-returns
 returns c = rw add-sub-cancel-left (c .before .before .place .ensures .given)
 
 pub name-spec : {M : Type 1} → statement M
 name-spec =
-    tie.close (tie.spec place-requires (λ c. search needs) (λ c. search needs) (λ c. search needs) (λ c. search needs) returns)
+    tie.close (tie.spec (λ c κs. search needs) (λ c. search needs) (λ c. search needs) (λ c. search needs) (λ c. search needs) returns)

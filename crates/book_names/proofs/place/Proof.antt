@@ -5,9 +5,6 @@ use Rattle.book_names.proofs.Places.{nowhere, in-arrays, somewhere}
 use Rattle.book_names.proofs.place.Statement.{statement}
 use Rattle.book_names.proofs.place.Tie as tie
 
-check-requires : tie.Need-check-requires
-check-requires c κs = search needs
-
 abbrev entry : tie.Then1 → ℕ
 entry c = c .before .before .before .before .args .entry
 
@@ -24,7 +21,7 @@ pub place-spec : {M : Type 1} → statement M
 place-spec =
     tie.close
     (tie.spec
-    check-requires
+    (λ c κs. search needs)
     (λ c. inside c .0)
     (λ c. search needs)
     (λ c. inside c .1)

@@ -6,12 +6,6 @@ use borrow.Author.Needs.{needs}
 use Rattle.calls.proofs.count_reply.Statement.{statement}
 use Rattle.calls.proofs.count_reply.Tie as tie
 
-cast-t6 : tie.Need-cast-t6
-cast-t6 c = search needs
-
-word-requires : tie.Need-word-requires
-word-requires c κs = search needs
-
 returns : tie.Need-returns
 returns c =
     let a = c .before in
@@ -21,4 +15,4 @@ returns-2 : tie.Need-returns-2
 returns-2 c = let a = c .before .before in rw (lt-leb (a .args .count) (a .args .cap) (c .before .if1 .left)) (c .word .ensures)
 
 pub count-reply-spec : {M : Type 1} → statement M
-count-reply-spec = tie.close (tie.spec cast-t6 word-requires returns returns-2)
+count-reply-spec = tie.close (tie.spec (λ c. search needs) (λ c κs. search needs) returns returns-2)

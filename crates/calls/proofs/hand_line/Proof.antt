@@ -7,12 +7,6 @@ use borrow.Author.Needs.{needs}
 use Rattle.calls.proofs.hand_line.Statement.{statement}
 use Rattle.calls.proofs.hand_line.Tie as tie
 
-write-words-requires : tie.Need-write-words-requires
-write-words-requires c κs = search needs
-
-same-length : tie.Need-same-length
-same-length c = search needs
-
 returns : tie.Need-returns
 returns c =
     let w = c .before .before in
@@ -23,4 +17,4 @@ returns c =
     )
 
 pub hand-line-spec : {M : Type 1} → statement M
-hand-line-spec = tie.close (tie.spec write-words-requires same-length returns)
+hand-line-spec = tie.close (tie.spec (λ c κs. search needs) (λ c. search needs) returns)

@@ -24,9 +24,6 @@ part s = graph (s .args .tails .now) (s .args .heads .now) (s .args .lows .now) 
 abbrev start : tie.At-loop Inv-loop μ-loop → tie.Start Inv-loop μ-loop
 start c = c .before .before .before .before .before .before .before .before .before .before .before .before .before .before
 
-slice-aggregate-clear : tie.Need-slice-aggregate-clear Inv-loop μ-loop
-slice-aggregate-clear c = search needs
-
 clear-requires : tie.Need-clear-requires Inv-loop μ-loop
 clear-requires c κs = refl
 
@@ -82,7 +79,7 @@ unmark-fixed-spec =
     (tie.spec
     Inv-loop
     μ-loop
-    slice-aggregate-clear
+    (λ c. search needs)
     clear-requires
     slice-aggregate-add-arcs
     add-arcs-requires

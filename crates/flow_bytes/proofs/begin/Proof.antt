@@ -19,20 +19,11 @@ begun c b e =
     let a = entry n .args in
     begins (a .balances .now) (a .arcs .now) (n .before .check .result) (n .before .check .ensures) (a .bytes) b (sym (n .number-of .ensures) ∙ l .if1 .left) (sym (c .has-room .ensures) ∙ e)
 
-check-requires : tie.Need-check-requires
-check-requires c κs = search needs
-
-number-of-requires : tie.Need-number-of-requires
-number-of-requires c κs = search needs
-
 returns : tie.Need-returns
 returns c =
     let n = c .before .before in
     let a = entry n .args in
     begins-refused (a .balances .now) (a .arcs .now) (n .before .check .result) (n .before .check .ensures) (a .bytes) (n .number-of .result) (n .number-of .ensures) (c .if1 .taken)
-
-has-room-requires : tie.Need-has-room-requires
-has-room-requires c κs = search needs
 
 returns-2 : tie.Need-returns-2
 returns-2 c = begun (c .before) true (c .if2 .taken)
@@ -43,4 +34,4 @@ returns-3 c = begun (c .before) false (c .if2 .left)
 pub begin-spec : {M : Type 1} → statement M
 begin-spec =
     tie.close
-    (tie.spec check-requires number-of-requires returns has-room-requires returns-2 returns-3)
+    (tie.spec (λ c κs. search needs) (λ c κs. search needs) returns (λ c κs. search needs) returns-2 returns-3)

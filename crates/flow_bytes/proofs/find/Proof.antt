@@ -19,12 +19,6 @@ use borrow.Author.Needs.{needs}
 use Rattle.flow_bytes.proofs.find.Statement.{statement}
 use Rattle.flow_bytes.proofs.find.Tie as tie
 
-mul-if1 : tie.Need-mul-if1
-mul-if1 c = search needs
-
-start-requires : tie.Need-start-requires
-start-requires c κs = search needs
-
 returns : tie.Need-returns
 returns c =
     let a = c .before .before .before in
@@ -33,12 +27,6 @@ returns c =
     let (stands, same, start) = c .start .ensures in
     let e : listed g (fullList N) ≡ false = other-length (arcs N) (fullList N) (full-flows N (a .pre .accepted)) g (λ q. c .before .if1 .taken (q ∙ ap (λ k. 4 * k) (sym (a .pre .arcs-held)))) in
     (stands, same, ap (λ p. lineAt p (flowIn (c .start .result))) start ∙ sym (ap (λ t. cond t (some (words g)) none) e))
-
-read-words-requires : tie.Need-read-words-requires
-read-words-requires c κs = search needs
-
-resume-requires : tie.Need-resume-requires
-resume-requires c κs = search needs
 
 returns-2 : tie.Need-returns-2
 returns-2 c =
@@ -62,4 +50,4 @@ returns-2 c =
 pub find-spec : {M : Type 1} → statement M
 find-spec =
     tie.close
-    (tie.spec mul-if1 start-requires returns read-words-requires resume-requires returns-2)
+    (tie.spec (λ c. search needs) (λ c κs. search needs) returns (λ c κs. search needs) (λ c κs. search needs) returns-2)

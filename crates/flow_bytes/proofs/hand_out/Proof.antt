@@ -12,27 +12,12 @@ use borrow.Author.Needs.{needs}
 use Rattle.flow_bytes.proofs.hand_out.Statement.{statement}
 use Rattle.flow_bytes.proofs.hand_out.Tie as tie
 
-on-line-requires : tie.Need-on-line-requires
-on-line-requires c κs = search needs
-
-word-requires : tie.Need-word-requires
-word-requires c κs = search needs
-
 returns : tie.Need-returns
 returns c =
     let a = c .before .before .before .before in
     let s = a .args .walk in
     let e : lineOf s ≡ none = no-line (s .place) (flowIn s) (sym (c .before .before .on-line .ensures) ∙ not-true (c .before .before .on-line .result) (c .before .if1 .taken)) in
     subst (λ o. HandedOut (costOf (netIn (s .net))) o (a .args .code) (a .args .flows .now) (c .word .result) (a .args .flows .now)) (sym e) (c .word .ensures, refl)
-
-slice-aggregate-hand-line : tie.Need-slice-aggregate-hand-line
-slice-aggregate-hand-line c = search needs
-
-hand-line-requires : tie.Need-hand-line-requires
-hand-line-requires c κs = search needs
-
-same-length : tie.Need-same-length
-same-length c = search needs
 
 returns-2 : tie.Need-returns-2
 returns-2 c =
@@ -51,10 +36,10 @@ pub hand-out-spec : {M : Type 1} → statement M
 hand-out-spec =
     tie.close
     (tie.spec
-    on-line-requires
-    word-requires
+    (λ c κs. search needs)
+    (λ c κs. search needs)
     returns
-    slice-aggregate-hand-line
-    hand-line-requires
-    same-length
+    (λ c. search needs)
+    (λ c κs. search needs)
+    (λ c. search needs)
     returns-2)

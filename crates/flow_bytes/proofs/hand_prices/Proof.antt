@@ -13,9 +13,6 @@ use borrow.Author.Needs.{needs}
 use Rattle.flow_bytes.proofs.hand_prices.Statement.{statement}
 use Rattle.flow_bytes.proofs.hand_prices.Tie as tie
 
-on-line-requires : tie.Need-on-line-requires
-on-line-requires c κs = search needs
-
 returns : tie.Need-returns
 returns c =
     let a = c .before .before .before in
@@ -28,15 +25,6 @@ prices-requires c κs =
     let l = c .before in
     let a = l .before .before .before in
     (a .pre .0, is-line (a .args .walk .place) (sym (l .before .on-line .ensures) ∙ not-false (l .before .on-line .result) (l .if1 .left)))
-
-slice-aggregate-write-ints : tie.Need-slice-aggregate-write-ints
-slice-aggregate-write-ints c = search needs
-
-write-ints-requires : tie.Need-write-ints-requires
-write-ints-requires c κs = search needs
-
-same-length : tie.Need-same-length
-same-length c = search needs
 
 returns-2 : tie.Need-returns-2
 returns-2 c =
@@ -61,10 +49,10 @@ pub hand-prices-spec : {M : Type 1} → statement M
 hand-prices-spec =
     tie.close
     (tie.spec
-    on-line-requires
+    (λ c κs. search needs)
     returns
     prices-requires
-    slice-aggregate-write-ints
-    write-ints-requires
-    same-length
+    (λ c. search needs)
+    (λ c κs. search needs)
+    (λ c. search needs)
     returns-2)

@@ -22,18 +22,12 @@ whole s = netWith (s .args .balances .now) (s .args .tails .now) (s .args .heads
 starting-flow-requires : tie.Need-starting-flow-requires
 starting-flow-requires c κs = let s = c .before .before .before .before .before .before .before in (given (s .args .balances .now) (s .args .tails .now) (s .args .heads .now) (s .args .lows .now) (s .args .ups .now) (s .args .costs .now) (s .pre .0) (s .args .flow .now) (s .pre .1), s .pre .0 .well-formed .costs-len)
 
-same-length : tie.Need-same-length
-same-length c = search needs
-
 returns : tie.Need-returns
 returns c = let s = c .before .before .before .before .before .before .before .before .before .before .before in no-first (whole s) (s .pre .0 .well-formed) (λ g. c .before .before .before .starting-flow .ensures .none (not-true _ (c .if1 .taken)) (s .args .costs .now) (s .pre .0 .well-formed .costs-len) g)
 
 -- a flow was found
 flow-of : (c : tie.Else1) → IsFlow (whole (c .before .before .before .before .before .before .before .before .before .before .before)) (c .before .before .before .starting-flow .last .1 .1 .1 .1 .1 .1 .0)
 flow-of c = let s = c .before .before .before .before .before .before .before .before .before .before .before in c .before .before .before .starting-flow .ensures .found (not-false _ (c .if1 .left)) (s .args .costs .now) (s .pre .0 .well-formed .costs-len)
-
-slice-aggregate-cheapen : tie.Need-slice-aggregate-cheapen
-slice-aggregate-cheapen c = search needs
 
 cheapen-requires : tie.Need-cheapen-requires
 cheapen-requires c κs = let e = c .before .before in let s = e .before .before .before .before .before .before .before .before .before .before .before in let f = e .before .before .before .starting-flow .last .1 .1 .1 .1 .1 .1 .0 in
@@ -77,9 +71,6 @@ minimise-requires c κs = let k = c .before .before .before .before .before .bef
 same-length-2 : tie.Need-same-length-2
 same-length-2 c = c .before .before .minimise .kept .1 .1 .1 .1 .1 .0 ∙ c .before .before .before .before .before .before .before .before .before .before .before .before .before .before .before .before .before .before .before .cheapen .kept .1 .1 .1 .1 .1 .0 ∙ c .before .before .before .before .before .before .before .before .before .before .before .before .before .before .before .before .before .before .before .before .before .before .before .before .before .starting-flow .kept .1 .1 .1 .1 .1 .1 .0
 
-same-length-3 : tie.Need-same-length-3
-same-length-3 c = search needs
-
 returns-2 : tie.Need-returns-2
 returns-2 c = let k = c .before .before .before .before .before .before .before .before .before .before .before .before .before .before .before .before .before .before .before in let s = start k in let n = c .before .before .before .before .before .before .before in let d = c .before .before .minimise in
     first-marked (whole s) (n .unmark-fixed .last .1 .1 .1 .1 .0) (flow k) (d .last .1 .1 .1 .1 .1 .0) (marked-of n)
@@ -90,14 +81,14 @@ first-flow-spec =
     tie.close
     (tie.spec
     starting-flow-requires
-    same-length
+    (λ c. search needs)
     returns
-    slice-aggregate-cheapen
+    (λ c. search needs)
     cheapen-requires
     slice-aggregate-mark
     mark-requires
     unmark-fixed-requires
     minimise-requires
     same-length-2
-    same-length-3
+    (λ c. search needs)
     returns-2)

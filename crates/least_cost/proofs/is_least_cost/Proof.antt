@@ -25,14 +25,8 @@ flow-of c = let s = c .before .before .before .before .before .before .before in
 can-relax : (c : tie.Else1) → let s = c .before .before .before .before .before .before .before in Relaxable (costGraph (s .args .tails .now) (s .args .heads .now) (s .args .lows .now) (s .args .ups .now) (s .args .costs .now)) (s .args .flow .now)
 can-relax c = let s = c .before .before .before .before .before .before .before in relaxable (s .args .balances .now) (s .args .tails .now) (s .args .heads .now) (s .args .lows .now) (s .args .ups .now) (s .args .costs .now) (s .pre .0) (s .args .flow .now) (flow-bounds (netWith (s .args .balances .now) (s .args .tails .now) (s .args .heads .now) (s .args .lows .now) (s .args .ups .now) (s .args .costs .now)) (s .args .flow .now) (flow-of c))
 
-slice-aggregate-find-cycle : tie.Need-slice-aggregate-find-cycle
-slice-aggregate-find-cycle c = search needs
-
 find-cycle-requires : tie.Need-find-cycle-requires
 find-cycle-requires c κs = let e = c .before .before in (can-relax e, omega arith, omega arith, e .before .before .before .before .before .before .before .pre .2, length-replicate {A = ℕ} 64 0)
-
-same-length : tie.Need-same-length
-same-length c = search needs
 
 returns-2 : tie.Need-returns-2
 returns-2 c = let k = c .before .before .find-cycle in let e = c .before .before .before .before .before in let s = e .before .before .before .before .before .before .before in
@@ -44,7 +38,7 @@ is-least-cost-spec =
     (tie.spec
     is-flow-requires
     returns
-    slice-aggregate-find-cycle
+    (λ c. search needs)
     find-cycle-requires
-    same-length
+    (λ c. search needs)
     returns-2)

@@ -21,9 +21,6 @@ mark-tight-requires c κs =
       price-small = λ v h. q .small v (omega (arith, q .len));
     }
 
-same-length : tie.Need-same-length
-same-length c = search needs
-
 returns : tie.Need-returns
 returns c =
     let s = c .before .before .before .before .before .before .before .before .before .before in
@@ -32,4 +29,4 @@ returns c =
     (m .last .1 .1 .1 .1 .0) (m .kept .1 .1 .1 .1 .0 ∙ s .pre .3) (m .ensures)
 
 pub mark-spec : {M : Type 1} → statement M
-mark-spec = tie.close (tie.spec mark-tight-requires same-length returns)
+mark-spec = tie.close (tie.spec mark-tight-requires (λ c. search needs) returns)

@@ -22,9 +22,6 @@ module _ (k : tie.After-is-least-cost) where
   abbrev labels : List ℤ
   labels = k .is-least-cost .last .1 .1 .1 .1 .1 .1 .1 .0
 
-slice-aggregate-is-least-cost : tie.Need-slice-aggregate-is-least-cost
-slice-aggregate-is-least-cost c = search needs
-
 is-least-cost-requires : tie.Need-is-least-cost-requires
 is-least-cost-requires c κs = let s = c .before .before .before .before .before .before .before in (s .pre .0, s .pre .1, length-replicate {A = ℤ} 64 (pos 0))
 
@@ -42,12 +39,6 @@ slice-aggregate-mark c = sym (yes-of (c .before) .1 .len)
 mark-requires : tie.Need-mark-requires
 mark-requires c κs = let e = c .before .before in let s = start (e .before .before) in (s .pre .0, yes-of e .0, yes-of e .1, s .pre .2)
 
-same-length : tie.Need-same-length
-same-length c = search needs
-
-returns-2 : tie.Need-returns-2
-returns-2 c = search needs
-
 pub mark-if-least-spec : {M : Type 1} → statement M
 mark-if-least-spec =
-    tie.close (tie.spec slice-aggregate-is-least-cost is-least-cost-requires returns slice-aggregate-mark mark-requires same-length returns-2)
+    tie.close (tie.spec (λ c. search needs) is-least-cost-requires returns slice-aggregate-mark mark-requires (λ c. search needs) (λ c. search needs))

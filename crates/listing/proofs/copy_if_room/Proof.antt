@@ -24,9 +24,6 @@ returns c = let a = c .before .before .before .args in too-short (a .text .now) 
 put-text-requires : tie.Need-put-text-requires
 put-text-requires c κs = omega (arith, c .before .if1 .left)
 
-same-length : tie.Need-same-length
-same-length c = search needs
-
 returns-2 : tie.Need-returns-2
 returns-2 c =
     let p = c .before .before in
@@ -34,4 +31,4 @@ returns-2 c =
     fitted (a .text .now) (a .out .now) _ (p .put-text .result) (p .put-text .ensures)
 
 pub copy-if-room-spec : {M : Type 1} → statement M
-copy-if-room-spec = tie.close (tie.spec returns put-text-requires same-length returns-2)
+copy-if-room-spec = tie.close (tie.spec returns put-text-requires (λ c. search needs) returns-2)

@@ -21,15 +21,6 @@ counted-is : (c : tie.After-count) → counted (entry (c .before .before .before
     ≡ countFlows (netIn (c .before .before .before .before .before .check .result .net)) (entry (c .before .before .before .before) .args .cap)
 counted-is c = c .count .ensures .1 ∙ ap (λ s. countFlows (netIn s) (entry (c .before .before .before .before) .args .cap)) (c .before .start .ensures .1)
 
-check-requires : tie.Need-check-requires
-check-requires c κs = search needs
-
-number-of-requires : tie.Need-number-of-requires
-number-of-requires c κs = search needs
-
-word-requires : tie.Need-word-requires
-word-requires c κs = search needs
-
 returns : tie.Need-returns
 returns c =
     let n = c .before .before in
@@ -39,12 +30,6 @@ returns c =
 
 start-requires : tie.Need-start-requires
 start-requires c κs = past (c .before) .sound
-
-count-requires : tie.Need-count-requires
-count-requires c κs = search needs
-
-count-reply-requires : tie.Need-count-reply-requires
-count-reply-requires c κs = search needs
 
 returns-2 : tie.Need-returns-2
 returns-2 c =
@@ -57,11 +42,11 @@ pub count-spec : {M : Type 1} → statement M
 count-spec =
     tie.close
     (tie.spec
-    check-requires
-    number-of-requires
-    word-requires
+    (λ c κs. search needs)
+    (λ c κs. search needs)
+    (λ c κs. search needs)
     returns
     start-requires
-    count-requires
-    count-reply-requires
+    (λ c κs. search needs)
+    (λ c κs. search needs)
     returns-2)

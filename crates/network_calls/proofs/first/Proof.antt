@@ -25,12 +25,6 @@ past c =
     let a = entry b .args in
     passes (a .balances .now) (a .arcs .now) (b .begin .result) (length (a .flows .now)) (b .begin .ensures) (c .if1 .left)
 
-begin-requires : tie.Need-begin-requires
-begin-requires c κs = search needs
-
-word-requires : tie.Need-word-requires
-word-requires c κs = search needs
-
 returns : tie.Need-returns
 returns c =
     let b = c .before .before in
@@ -40,9 +34,6 @@ returns c =
 start-requires : tie.Need-start-requires
 start-requires c κs = past (c .before) .0 .sound
 
-first-requires : tie.Need-first-requires
-first-requires c κs = search needs
-
 hand-out-requires : tie.Need-hand-out-requires
 hand-out-requires c κs =
     let f = c .before in
@@ -50,9 +41,6 @@ hand-out-requires c κs =
     let e = s .before .before in
     let a = entry (e .before) .args in
     (f .first .ensures .stands, ap (λ n. room (n .arcs) (length (a .flows .now))) (f .first .ensures .net-is ∙ s .start .ensures .1) ∙ past e .1)
-
-same-length : tie.Need-same-length
-same-length c = search needs
 
 returns-2 : tie.Need-returns-2
 returns-2 c =
@@ -72,11 +60,11 @@ pub first-spec : {M : Type 1} → statement M
 first-spec =
     tie.close
     (tie.spec
-    begin-requires
-    word-requires
+    (λ c κs. search needs)
+    (λ c κs. search needs)
     returns
     start-requires
-    first-requires
+    (λ c κs. search needs)
     hand-out-requires
-    same-length
+    (λ c. search needs)
     returns-2)

@@ -34,23 +34,11 @@ fits-prices c = sym (c .before .has-room .ensures) ∙ not-false (c .before .has
 same : (c : tie.After-first) → c .first .result .net ≡ c .before .before .before .before .before .before .begin .result .net
 same c = c .first .ensures .net-is ∙ c .before .start .ensures .1
 
-begin-requires : tie.Need-begin-requires
-begin-requires c κs = search needs
-
-word-requires : tie.Need-word-requires
-word-requires c κs = search needs
-
 returns : tie.Need-returns
 returns c =
     let b = c .before .before in
     let a = entry b .args in
     fails (a .balances .now) (a .arcs .now) (b .begin .result) (length (a .flows .now)) (b .begin .ensures) (first (lends (a .flows .now) (some (a .prices .now)))) (c .word .result) refl (c .before .if1 .taken) (c .word .ensures)
-
-has-room-requires : tie.Need-has-room-requires
-has-room-requires c κs = search needs
-
-word-requires-2 : tie.Need-word-requires-2
-word-requires-2 c κs = search needs
 
 returns-2 : tie.Need-returns-2
 returns-2 c =
@@ -63,9 +51,6 @@ returns-2 c =
 
 start-requires : tie.Need-start-requires
 start-requires c κs = past (c .before .before .before) .0 .sound
-
-first-requires : tie.Need-first-requires
-first-requires c κs = search needs
 
 hand-prices-requires : tie.Need-hand-prices-requires
 hand-prices-requires c κs =
@@ -80,12 +65,6 @@ hand-out-requires c κs =
     let e = f .before .before .before .before .before in
     let a = entry (e .before) .args in
     (f .first .ensures .stands, ap (λ n. room (n .arcs) (length (a .flows .now))) (same f) ∙ past e .1)
-
-same-length : tie.Need-same-length
-same-length c = search needs
-
-same-length-2 : tie.Need-same-length-2
-same-length-2 c = search needs
 
 returns-3 : tie.Need-returns-3
 returns-3 c =
@@ -105,16 +84,16 @@ pub first-priced-spec : {M : Type 1} → statement M
 first-priced-spec =
     tie.close
     (tie.spec
-    begin-requires
-    word-requires
+    (λ c κs. search needs)
+    (λ c κs. search needs)
     returns
-    has-room-requires
-    word-requires-2
+    (λ c κs. search needs)
+    (λ c κs. search needs)
     returns-2
     start-requires
-    first-requires
+    (λ c κs. search needs)
     hand-prices-requires
     hand-out-requires
-    same-length
-    same-length-2
+    (λ c. search needs)
+    (λ c. search needs)
     returns-3)

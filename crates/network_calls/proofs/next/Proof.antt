@@ -37,12 +37,6 @@ found c =
     let g = entry (e .before) .args .given .now in
     c .find .ensures .2 ∙ ap (λ N. cond (listed g (fullList N)) (some (words g)) none) (past e .0 .is)
 
-begin-requires : tie.Need-begin-requires
-begin-requires c κs = search needs
-
-word-requires : tie.Need-word-requires
-word-requires c κs = search needs
-
 returns : tie.Need-returns
 returns c =
     let b = c .before .before in
@@ -51,12 +45,6 @@ returns c =
 
 find-requires : tie.Need-find-requires
 find-requires c κs = past (c .before) .0 .sound
-
-on-line-requires : tie.Need-on-line-requires
-on-line-requires c κs = search needs
-
-word-requires-2 : tie.Need-word-requires-2
-word-requires-2 c κs = search needs
 
 returns-2 : tie.Need-returns-2
 returns-2 c =
@@ -70,9 +58,6 @@ returns-2 c =
     (on-none _ (words (a .given .now)) (lineOf s) (found f) (no-line (s .place) (flowIn s) (sym (l .on-line .ensures) ∙ not-true (l .on-line .result) (c .before .if2 .taken))))
     (c .word2 .ensures)
 
-next-requires : tie.Need-next-requires
-next-requires c κs = search needs
-
 hand-out-requires : tie.Need-hand-out-requires
 hand-out-requires c κs =
     let n = c .before in
@@ -80,9 +65,6 @@ hand-out-requires c κs =
     let e = f .before .before in
     let a = entry (e .before) .args in
     (n .next .ensures .stands, ap (λ m. room (m .arcs) (length (a .flows .now))) (n .next .ensures .net-is ∙ f .find .ensures .1) ∙ past e .1)
-
-same-length : tie.Need-same-length
-same-length c = search needs
 
 returns-3 : tie.Need-returns-3
 returns-3 c =
@@ -106,14 +88,14 @@ pub next-spec : {M : Type 1} → statement M
 next-spec =
     tie.close
     (tie.spec
-    begin-requires
-    word-requires
+    (λ c κs. search needs)
+    (λ c κs. search needs)
     returns
     find-requires
-    on-line-requires
-    word-requires-2
+    (λ c κs. search needs)
+    (λ c κs. search needs)
     returns-2
-    next-requires
+    (λ c κs. search needs)
     hand-out-requires
-    same-length
+    (λ c. search needs)
     returns-3)

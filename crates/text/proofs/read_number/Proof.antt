@@ -25,9 +25,6 @@ loop-holds c = digits-none _
 shared-slice-read-b : tie.Need-shared-slice-read-b Inv-loop μ-loop
 shared-slice-read-b c = omega arith
 
-is-digit-requires : tie.Need-is-digit-requires Inv-loop μ-loop
-is-digit-requires c κs = search needs
-
 -- the byte of a turn is a digit, and what the sums have room for
 abbrev B : tie.Else1 Inv-loop μ-loop → ℕ
 B c = getD (c .before .before .before .before .before .before .args .rest .now) (c .before .before .before .before .loop .i) 0
@@ -94,7 +91,7 @@ read-number-spec =
     μ-loop
     loop-holds
     shared-slice-read-b
-    is-digit-requires
+    (λ c κs. search needs)
     returns
     mul-value
     sub-value

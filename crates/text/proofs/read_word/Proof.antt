@@ -23,9 +23,6 @@ loop-holds c = (passed-none wordByte _, omega arith)
 shared-slice-read-is-word-byte : tie.Need-shared-slice-read-is-word-byte Inv-loop μ-loop
 shared-slice-read-is-word-byte c = omega arith
 
-is-word-byte-requires : tie.Need-is-word-byte-requires Inv-loop μ-loop
-is-word-byte-requires c κs = search needs
-
 -- the byte of a turn may stand in a word
 in-word : (c : tie.Else1 Inv-loop μ-loop) → wordByte (getD (c .before .before .before .before .before .before .args .rest .now) (c .before .before .before .before .loop .i) 0) ≡ true
 in-word c = sym (c .before .is-word-byte .ensures) ∙ not-false _ (c .if1 .left)
@@ -59,7 +56,7 @@ read-word-spec =
     μ-loop
     loop-holds
     shared-slice-read-is-word-byte
-    is-word-byte-requires
+    (λ c κs. search needs)
     returns
     add-i
     loop-less

@@ -22,23 +22,11 @@ admitted c b e =
     let k = check n .check in
     admits (entry n .args .book .now) (k .result) (k .ensures) (entry n .args .bytes) b (sym (n .before .before .question .ensures) ∙ l .if1 .left) (sym (c .has-room .ensures) ∙ e)
 
-check-requires : tie.Need-check-requires
-check-requires c κs = search needs
-
-question-requires : tie.Need-question-requires
-question-requires c κs = search needs
-
-line-requires : tie.Need-line-requires
-line-requires c κs = search needs
-
 returns : tie.Need-returns
 returns c =
     let n = c .before in
     let k = check n .check in
     admits-refused (entry n .args .book .now) (k .result) (k .ensures) (entry n .args .bytes) _ _ (n .before .before .question .ensures) (n .before .line .ensures) (c .if1 .taken)
-
-has-room-requires : tie.Need-has-room-requires
-has-room-requires c κs = search needs
 
 returns-2 : tie.Need-returns-2
 returns-2 c = admitted (c .before) true (c .if2 .taken)
@@ -50,10 +38,10 @@ pub admit-spec : {M : Type 1} → statement M
 admit-spec =
     tie.close
     (tie.spec
-    check-requires
-    question-requires
-    line-requires
+    (λ c κs. search needs)
+    (λ c κs. search needs)
+    (λ c κs. search needs)
     returns
-    has-room-requires
+    (λ c κs. search needs)
     returns-2
     returns-3)

@@ -43,9 +43,6 @@ in-numbers c = let a = c .before .before .before in let e : length (c .read-word
 mul-if1 : tie.Need-mul-if1
 mul-if1 c = omega (arith, few (c .before .args .book) (c .before .pre))
 
-start-requires : tie.Need-start-requires
-start-requires c κs = search needs
-
 returns : tie.Need-returns
 returns c =
     let a = c .before .before .before in
@@ -58,9 +55,6 @@ returns c =
             (other-length (size b) (fullWays b) (full-ways b (h .accepted)) g (λ q. c .before .if1 .taken (q ∙ ap (λ k. 4 * k) (sym (count-is b (a .args .book) h)))))),
       );
     }
-
-read-words-requires : tie.Need-read-words-requires
-read-words-requires c κs = search needs
 
 array-share-prefix-numbers : tie.Need-array-share-prefix-numbers
 array-share-prefix-numbers c = in-numbers c
@@ -97,9 +91,9 @@ find-way-spec =
     tie.close
     (tie.spec
     mul-if1
-    start-requires
+    (λ c κs. search needs)
     returns
-    read-words-requires
+    (λ c κs. search needs)
     array-share-prefix-numbers
     slice-aggregate-resume
     resume-requires

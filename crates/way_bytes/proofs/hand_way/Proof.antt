@@ -16,12 +16,6 @@ entry c = c .before .before .before
 on : (c : tie.Else1) → onLine (entry (c .before) .args .walk .walk .place) ≡ true
 on c = sym (c .before .on-line .ensures) ∙ not-false (c .before .on-line .result) (c .if1 .left)
 
-on-line-requires : tie.Need-on-line-requires
-on-line-requires c κs = search needs
-
-word-requires : tie.Need-word-requires
-word-requires c κs = search needs
-
 returns : tie.Need-returns
 returns c =
     let l = c .before .before in
@@ -30,15 +24,6 @@ returns c =
 
 way-requires : tie.Need-way-requires
 way-requires c κs = let e = c .before in let s = entry (e .before) in (s .pre .0, is-line (s .args .walk .walk .place) (on e))
-
-slice-aggregate-hand-line : tie.Need-slice-aggregate-hand-line
-slice-aggregate-hand-line c = search needs
-
-hand-line-requires : tie.Need-hand-line-requires
-hand-line-requires c κs = search needs
-
-same-length : tie.Need-same-length
-same-length c = search needs
 
 returns-2 : tie.Need-returns-2
 returns-2 c =
@@ -55,11 +40,11 @@ pub hand-way-spec : {M : Type 1} → statement M
 hand-way-spec =
     tie.close
     (tie.spec
-    on-line-requires
-    word-requires
+    (λ c κs. search needs)
+    (λ c κs. search needs)
     returns
     way-requires
-    slice-aggregate-hand-line
-    hand-line-requires
-    same-length
+    (λ c. search needs)
+    (λ c κs. search needs)
+    (λ c. search needs)
     returns-2)

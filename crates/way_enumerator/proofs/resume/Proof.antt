@@ -9,9 +9,6 @@ use Rattle.way_enumerator.proofs.resume.Tie as tie
 sound : (c : tie.After-network-of) → Sound (c .network-of .result)
 sound c = let s = c .before .before in net-sound (s .args .book) (c .network-of .result) (c .network-of .ensures) (s .pre .0)
 
-network-of-requires : tie.Need-network-of-requires
-network-of-requires c κs = search needs
-
 array-share-prefix-tails : tie.Need-array-share-prefix-tails
 array-share-prefix-tails c = let n = c .before .before in in-tails (n .network-of .result) (sound n)
 
@@ -47,7 +44,7 @@ pub resume-spec : {M : Type 1} → statement M
 resume-spec =
     tie.close
     (tie.spec
-    network-of-requires
+    (λ c κs. search needs)
     array-share-prefix-tails
     slice-aggregate-flow-of
     array-share-prefix-heads

@@ -3,9 +3,6 @@ use borrow.Author.Needs.{needs}
 use Rattle.way_enumerator.proofs.start.Statement.{statement}
 use Rattle.way_enumerator.proofs.start.Tie as tie
 
-network-of-requires : tie.Need-network-of-requires
-network-of-requires c κs = search needs
-
 start-requires : tie.Need-start-requires
 start-requires c κs = net-sound (c .before .args .book) (c .network-of .result) (c .network-of .ensures) (c .before .pre)
 
@@ -15,4 +12,4 @@ returns c =
     record { each = λ b h. begins (n .before .args .book) (n .network-of .result) (n .network-of .ensures) b h (c .start .result) (c .start .ensures .0) (c .start .ensures .1) (c .start .ensures .2) }
 
 pub start-spec : {M : Type 1} → statement M
-start-spec = tie.close (tie.spec network-of-requires start-requires returns)
+start-spec = tie.close (tie.spec (λ c κs. search needs) start-requires returns)

@@ -34,9 +34,6 @@ cost-of c b walks = toZ-ofZ {w = w64} {z = c .before .before .before .before .be
 cost-low : (c : tie.After-put-cost-arg) → let b = c .before .before .before .before .before .before .before .pre .0 .book in wayCost b (shown b (c .before .before .before .before .before .first .result)) ≤ 28000000
 cost-low c = let h = c .before .before .before .before .before .before .before .pre .0 in cost-few (h .book) None (c .before .before .before .before .before .first .result) (first-at (c .before .before .before .before .before) (h .book) (h .walks)) (c .before .before .enum-told .given .1)
 
-enum-told : tie.Need-enum-told
-enum-told c = search needs
-
 cast-put-cost : tie.Need-cast-put-cost
 cast-put-cost c = let h = c .before .before .before .before .before .before .before .pre .0 in rw (cost-of c (h .book) (h .walks)) (tt, record { fits = omega (arith, cost-low c) })
 
@@ -72,7 +69,7 @@ pub list-spec : {M : Type 1} → statement M
 list-spec =
     tie.close
     (tie.spec
-    (λ c κs. search needs) enum-told
+    (λ c κs. search needs) (λ c. search needs)
     cast-put-cost
     put-cost-requires
     list-from-requires

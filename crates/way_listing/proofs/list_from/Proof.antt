@@ -42,9 +42,6 @@ list-one-requires c κs = let s = c .before .before .before .before in let i = c
 next-requires : tie.Need-next-requires Inv-loop μ-loop
 next-requires c κs = c .before .before .before .before .before .loop .inv .4
 
-enum-told : tie.Need-enum-told Inv-loop μ-loop
-enum-told c = search needs
-
 loop-less : tie.Need-loop-less Inv-loop μ-loop
 loop-less c = omega (arith, c .before .before .before .before .before .before .before .before .before .loop .inv .1, c .before .before .before .before .before .before .before .before .if1 .left)
 
@@ -85,7 +82,7 @@ list-from-spec =
     (λ c. search needs) returns
     list-one-requires
     (λ c. search needs) next-requires
-    enum-told
+    (λ c. search needs)
     loop-less
     loop-again
     put-end-requires

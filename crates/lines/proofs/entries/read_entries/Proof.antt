@@ -22,9 +22,6 @@ abbrev μ-loop : tie.MeasureT-loop
 loop-holds : tie.Need-loop-holds Inv-loop μ-loop
 loop-holds c = ([], lines-none entry _, known-none _ _ _)
 
-read-entry-requires : tie.Need-read-entry-requires Inv-loop μ-loop
-read-entry-requires c κs = search needs
-
 sub-t19 : tie.Need-sub-t19 Inv-loop μ-loop
 sub-t19 c = omega (arith, c .before .before .loop .inv .1 .shorter)
 
@@ -44,12 +41,6 @@ returns c =
 put-entry-requires : tie.Need-put-entry-requires Inv-loop μ-loop
 put-entry-requires c κs = (c .if2 .taken, omega (arith, c .before .before .read-entry .ensures .begins, c .before .before .before .loop .inv .1 .shorter, c .before .before .before .before .before .pre))
 
-is-fair-requires : tie.Need-is-fair-requires Inv-loop μ-loop
-is-fair-requires c κs = search needs
-
-first-bad-requires : tie.Need-first-bad-requires Inv-loop μ-loop
-first-bad-requires c κs = search needs
-
 add-count : tie.Need-add-count Inv-loop μ-loop
 add-count c = let v = c .before .before .before .before .before .loop .inv in omega (arith, v .2 .count-is, v .1 .shorter, c .before .before .before .before .before .before .before .pre)
 
@@ -61,9 +52,6 @@ sub-rest c = c .before .before .before .before .read-entry .ensures .right .with
 
 part-rest-start : tie.Need-part-rest-start Inv-loop μ-loop
 part-rest-start c = c .before .before .before .before .read-entry .ensures .right .within
-
-part-rest-end : tie.Need-part-rest-end Inv-loop μ-loop
-part-rest-end c = search needs
 
 loop-less : tie.Need-loop-less Inv-loop μ-loop
 loop-less c = lines-fall (c .before .before .before .before .before .before .loop .inv .1) (c .before .before .before .before .before .read-entry .ensures .right) (c .before .before .before .before .if1 .left)
@@ -93,16 +81,16 @@ read-entries-spec =
     Inv-loop
     μ-loop
     loop-holds
-    read-entry-requires
+    (λ c κs. search needs)
     sub-t19
     returns
     put-entry-requires
-    is-fair-requires
-    first-bad-requires
+    (λ c κs. search needs)
+    (λ c κs. search needs)
     add-count
     add-line
     sub-rest
     part-rest-start
-    part-rest-end
+    (λ c. search needs)
     loop-less
     loop-again)

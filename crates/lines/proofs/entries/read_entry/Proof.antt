@@ -11,15 +11,6 @@ use Rattle.lines.proofs.EntryPass.{entry-absent, entry-present}
 use Rattle.lines.proofs.entries.read_entry.Statement.{statement}
 use Rattle.lines.proofs.entries.read_entry.Tie as tie
 
-slice-aggregate-read-text : tie.Need-slice-aggregate-read-text
-slice-aggregate-read-text c = search needs
-
-read-text-requires : tie.Need-read-text-requires
-read-text-requires c κs = search needs
-
-no-entry-requires : tie.Need-no-entry-requires
-no-entry-requires c κs = search needs
-
 returns : tie.Need-returns
 unfolding entry bytes _>>_
 returns c = entry-absent _ _ (first-stops _ _ (begin entry _) (c .before .before .read-text .ensures) (c .before .if1 .taken)) (c .no-entry .ensures)
@@ -57,15 +48,6 @@ sub-read-word c = headed c .within
 part-read-word-start : tie.Need-part-read-word-start
 part-read-word-start c = headed c .within
 
-part-read-word-end : tie.Need-part-read-word-end
-part-read-word-end c = search needs
-
-read-word-requires : tie.Need-read-word-requires
-read-word-requires c κs = search needs
-
-no-entry-requires-2 : tie.Need-no-entry-requires-2
-no-entry-requires-2 c κs = search needs
-
 returns-2 : tie.Need-returns-2
 returns-2 c = entry-absent _ _ (stops _ _ (headed (c .before .before .before .before)) (c .before .before .read-word .ensures) (c .before .if2 .taken)) (c .no-entry2 .ensures)
 
@@ -78,33 +60,12 @@ sub-read-row c = worded c .within
 part-read-row-start : tie.Need-part-read-row-start
 part-read-row-start c = worded c .within
 
-part-read-row-end : tie.Need-part-read-row-end
-part-read-row-end c = search needs
-
-slice-aggregate-read-row : tie.Need-slice-aggregate-read-row
-slice-aggregate-read-row c = search needs
-
-read-row-requires : tie.Need-read-row-requires
-read-row-requires c κs = search needs
-
-no-entry-requires-3 : tie.Need-no-entry-requires-3
-no-entry-requires-3 c κs = search needs
-
 returns-3 : tie.Need-returns-3
 unfolding bytes
 returns-3 c = entry-absent _ _ (stops _ _ (worded (c .before .before .before .before .before)) (c .before .before .read-row .ensures) (c .before .if3 .taken)) (c .no-entry3 .ensures)
 
 sub-t22 : tie.Need-sub-t22
 sub-t22 c = headed (c .before .before .before .before .before .before .before .before) .within
-
-array-read-t25 : tie.Need-array-read-t25
-array-read-t25 c = search needs
-
-array-read-t28 : tie.Need-array-read-t28
-array-read-t28 c = search needs
-
-array-read-t31 : tie.Need-array-read-t31
-array-read-t31 c = search needs
 
 add-t32 : tie.Need-add-t32
 add-t32 c = omega (arith, ended c)
@@ -116,27 +77,27 @@ pub read-entry-spec : {M : Type 1} → statement M
 read-entry-spec =
     tie.close
     (tie.spec
-    slice-aggregate-read-text
-    read-text-requires
-    no-entry-requires
+    (λ c. search needs)
+    (λ c κs. search needs)
+    (λ c κs. search needs)
     returns
     sub-read-word
     part-read-word-start
-    part-read-word-end
-    read-word-requires
-    no-entry-requires-2
+    (λ c. search needs)
+    (λ c κs. search needs)
+    (λ c κs. search needs)
     returns-2
     add-at
     sub-read-row
     part-read-row-start
-    part-read-row-end
-    slice-aggregate-read-row
-    read-row-requires
-    no-entry-requires-3
+    (λ c. search needs)
+    (λ c. search needs)
+    (λ c κs. search needs)
+    (λ c κs. search needs)
     returns-3
     sub-t22
-    array-read-t25
-    array-read-t28
-    array-read-t31
+    (λ c. search needs)
+    (λ c. search needs)
+    (λ c. search needs)
     add-t32
     returns-4)

@@ -18,12 +18,9 @@ sub-result-2 c = omega (arith, fair-parts (c .before .before .args .m) (c .befor
 add-result : tie.Need-add-result
 add-result c = omega (arith, fair-parts (c .before .before .args .m) (c .before .before .pre))
 
-cast-result : tie.Need-cast-result
-cast-result c = search needs
-
 returns : tie.Need-returns
 returns c = (refl, omega (arith, fair-parts (c .before .before .args .m) (c .before .before .pre)))
 
 pub place-of-spec : {M : Type 1} → statement M
 place-of-spec =
-    tie.close (tie.spec sub-result mul-result sub-result-2 add-result cast-result returns)
+    tie.close (tie.spec sub-result mul-result sub-result-2 add-result (λ c. search needs) returns)

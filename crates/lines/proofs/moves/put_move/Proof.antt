@@ -9,9 +9,6 @@ use Rattle.lines.proofs.Table.{fair-parts, put-no, put-yes}
 use Rattle.lines.proofs.moves.put_move.Statement.{statement}
 use Rattle.lines.proofs.moves.put_move.Tie as tie
 
-is-fair-requires : tie.Need-is-fair-requires
-is-fair-requires c κs = search needs
-
 returns : tie.Need-returns
 returns c = put-no _ _ _ (rw (sym (c .before .is-fair .ensures) ∙ not-true _ (c .if1 .taken)))
 
@@ -21,12 +18,6 @@ is-fair c = sym (c .before .is-fair .ensures) ∙ not-false _ (c .if1 .left)
 place-of-requires : tie.Need-place-of-requires
 place-of-requires c κs = is-fair c
 
-mul-if2 : tie.Need-mul-if2
-mul-if2 c = search needs
-
-element-copy-out-if2 : tie.Need-element-copy-out-if2
-element-copy-out-if2 c = search needs
-
 returns-2 : tie.Need-returns-2
 returns-2 c =
     let z = rw (c .before .before .place-of .ensures .0) at (c .if2 .taken) in
@@ -34,18 +25,6 @@ returns-2 c =
 
 add-ticks : tie.Need-add-ticks
 add-ticks c = omega (arith, fair-parts (c .before .before .before .before .before .before .args .m) (is-fair (c .before .before .before .before)))
-
-mul-ticks : tie.Need-mul-ticks
-mul-ticks c = search needs
-
-element-write-ticks : tie.Need-element-write-ticks
-element-write-ticks c = search needs
-
-mul-costs : tie.Need-mul-costs
-mul-costs c = search needs
-
-element-write-costs : tie.Need-element-write-costs
-element-write-costs c = search needs
 
 returns-3 : tie.Need-returns-3
 returns-3 c =
@@ -57,15 +36,15 @@ pub put-move-spec : {M : Type 1} → statement M
 put-move-spec =
     tie.close
     (tie.spec
-    is-fair-requires
+    (λ c κs. search needs)
     returns
     place-of-requires
-    mul-if2
-    element-copy-out-if2
+    (λ c. search needs)
+    (λ c. search needs)
     returns-2
     add-ticks
-    mul-ticks
-    element-write-ticks
-    mul-costs
-    element-write-costs
+    (λ c. search needs)
+    (λ c. search needs)
+    (λ c. search needs)
+    (λ c. search needs)
     returns-3)

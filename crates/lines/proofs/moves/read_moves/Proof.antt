@@ -21,12 +21,6 @@ abbrev μ-loop : tie.MeasureT-loop
 loop-holds : tie.Need-loop-holds Inv-loop μ-loop
 loop-holds c = ([], lines-none move _, known-none)
 
-slice-aggregate-read-row : tie.Need-slice-aggregate-read-row Inv-loop μ-loop
-slice-aggregate-read-row c = search needs
-
-read-row-requires : tie.Need-read-row-requires Inv-loop μ-loop
-read-row-requires c κs = search needs
-
 -- the line of a turn
 got : (c : tie.After-read-row Inv-loop μ-loop)
     → Right (c .before .before .loop .rest .now) (move (c .before .before .loop .rest .now)) (c .read-row .result .used) (moveFrom (c .read-row .result .numbers))
@@ -50,24 +44,6 @@ returns c =
       costs = v .2 .costs-are;
     }
 
-array-read-t23 : tie.Need-array-read-t23 Inv-loop μ-loop
-array-read-t23 c = search needs
-
-array-read-t26 : tie.Need-array-read-t26 Inv-loop μ-loop
-array-read-t26 c = search needs
-
-array-read-t29 : tie.Need-array-read-t29 Inv-loop μ-loop
-array-read-t29 c = search needs
-
-array-read-t32 : tie.Need-array-read-t32 Inv-loop μ-loop
-array-read-t32 c = search needs
-
-put-move-requires : tie.Need-put-move-requires Inv-loop μ-loop
-put-move-requires c κs = search needs
-
-first-bad-requires : tie.Need-first-bad-requires Inv-loop μ-loop
-first-bad-requires c κs = search needs
-
 add-line : tie.Need-add-line Inv-loop μ-loop
 add-line c =
     let v = c .before .before .before .before .before .before .before .before .loop .inv in
@@ -78,9 +54,6 @@ sub-rest c = got (c .before .before .before .before .before .before) .within
 
 part-rest-start : tie.Need-part-rest-start Inv-loop μ-loop
 part-rest-start c = got (c .before .before .before .before .before .before) .within
-
-part-rest-end : tie.Need-part-rest-end Inv-loop μ-loop
-part-rest-end c = search needs
 
 loop-less : tie.Need-loop-less Inv-loop μ-loop
 loop-less c = lines-fall (c .before .before .before .before .before .before .before .before .before .loop .inv .1) (got (c .before .before .before .before .before .before .before)) (c .before .before .before .before .before .before .if1 .left)
@@ -101,19 +74,19 @@ read-moves-spec =
     Inv-loop
     μ-loop
     loop-holds
-    slice-aggregate-read-row
-    read-row-requires
+    (λ c. search needs)
+    (λ c κs. search needs)
     sub-t20
     returns
-    array-read-t23
-    array-read-t26
-    array-read-t29
-    array-read-t32
-    put-move-requires
-    first-bad-requires
+    (λ c. search needs)
+    (λ c. search needs)
+    (λ c. search needs)
+    (λ c. search needs)
+    (λ c κs. search needs)
+    (λ c κs. search needs)
     add-line
     sub-rest
     part-rest-start
-    part-rest-end
+    (λ c. search needs)
     loop-less
     loop-again)

@@ -17,14 +17,8 @@ in-flow s = let e : length (s .args .self .walk .flow) ≡ 512 = search needs in
 array-share-prefix-tails : tie.Need-array-share-prefix-tails
 array-share-prefix-tails c = let s = entry c in in-tails (s .args .self .walk .net) (s .pre .0 .walks .stands .sound)
 
-slice-aggregate-way-of : tie.Need-slice-aggregate-way-of
-slice-aggregate-way-of c = search needs
-
 array-share-prefix-heads : tie.Need-array-share-prefix-heads
 array-share-prefix-heads c = let s = entry (c .before) in in-heads (s .args .self .walk .net) (s .pre .0 .walks .stands .sound)
-
-slice-aggregate-way-of-2 : tie.Need-slice-aggregate-way-of-2
-slice-aggregate-way-of-2 c = search needs
 
 array-share-prefix-flow : tie.Need-array-share-prefix-flow
 array-share-prefix-flow c = in-flow (entry (c .before .before))
@@ -46,9 +40,9 @@ way-spec =
     tie.close
     (tie.spec
     array-share-prefix-tails
-    slice-aggregate-way-of
+    (λ c. search needs)
     array-share-prefix-heads
-    slice-aggregate-way-of-2
+    (λ c. search needs)
     array-share-prefix-flow
     slice-aggregate-way-of-3
     way-of-requires
