@@ -81,6 +81,10 @@ pub fn after_last_raisable(
     preorder::clear(&mut rows);
     let mut a = tails.len();
     while 0 < a {
+        if !free[a - 1] {
+            a -= 1;
+            continue;
+        }
         if closes_cycle(tails, heads, flow, ups, free, &rows, a - 1) {
             return a;
         }
@@ -109,6 +113,9 @@ pub fn first_lowerable(
     let mut first = a;
     while from < a {
         a -= 1;
+        if !free[a] {
+            continue;
+        }
         if closes_cycle(heads, tails, lows, flow, free, &rows, a) {
             first = a;
         }

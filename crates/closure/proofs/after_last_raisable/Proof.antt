@@ -1,13 +1,15 @@
 use mathlib.Core.Path.{refl, sym}
+use mathlib.Core.Logic.{inl}
 use Prim.Native.Nat.{suc, _-_, _<_}
 use native.Mathlib.Omega.{arith}
 use lib.ListN.{length}
 use borrow.Author.Needs.{needs}
+use borrow.Author.Tests.{not-true}
 use Rattle.network.specs.Network.{Net}
 use Rattle.certificates.specs.Graph.{graph}
 use Rattle.closure.specs.Closure.{Closure}
 use Rattle.closure.specs.Candidates.{NoneRaisable}
-use Rattle.closure.proofs.Closure.{closure-start}
+use Rattle.closure.proofs.Closure.{closure-start, closure-skip}
 use Rattle.closure.proofs.Candidates.{before-arc, raises, raisable, not-raisable, raisable-start, raisable-step, raisable-last, raisable-none}
 use Rattle.closure.proofs.after_last_raisable.Statement.{statement}
 use Rattle.closure.proofs.after_last_raisable.Tie as tie
@@ -38,42 +40,46 @@ clear-requires c κs = refl
 loop-holds : tie.Need-loop-holds Inv-loop μ-loop
 loop-holds c = let s = c .before .before .before .before .before .before .before .before .before in (closure-start (part s) (s .args .flow .now) (s .args .free .now) _ (c .before .clear .ensures), raisable-start (part s) (s .args .flow .now) (s .args .free .now))
 
-slice-aggregate-closes-cycle : tie.Need-slice-aggregate-closes-cycle Inv-loop μ-loop
-slice-aggregate-closes-cycle c = sym (c .before .before .loop .inv .0 .preorder .rows-len)
+shared-slice-read-if1 : tie.Need-shared-slice-read-if1 Inv-loop μ-loop
+shared-slice-read-if1 c = let i = c .before in omega (arith, low i, start (i .before) .pre .free-len)
 
-sub-closes-cycle : tie.Need-sub-closes-cycle Inv-loop μ-loop
-sub-closes-cycle c = omega (arith, c .before .loop-test .taken)
+-- an arc that is not free is passed over
+loop-again : tie.Need-loop-again Inv-loop μ-loop
+loop-again c =
+    let i = c .before .before in
+    let s = start (i .before) in
+    let l = i .before .loop in (
+      closure-skip (part s) (s .args .flow .now) (s .args .free .now) (l .a - 1) (l .rows) (behind i) (not-true _ (c .if1 .taken)),
+      raisable-step (part s) (s .args .flow .now) (s .args .free .now) (l .a) (i .loop-test .taken) (l .inv .1) (inl (not-true _ (c .if1 .taken))),
+    )
+
+slice-aggregate-closes-cycle : tie.Need-slice-aggregate-closes-cycle Inv-loop μ-loop
+slice-aggregate-closes-cycle c = sym (c .before .before .before .before .loop .inv .0 .preorder .rows-len)
 
 closes-cycle-requires : tie.Need-closes-cycle-requires Inv-loop μ-loop
-closes-cycle-requires c κs = let i = c .before in raises (part (start (i .before))) _ _ (start (i .before) .pre) _ (i .before .loop .rows) (low i) _ (behind i)
+closes-cycle-requires c κs = let i = c .before .before .before in raises (part (start (i .before))) _ _ (start (i .before) .pre) _ (i .before .loop .rows) (low i) _ (behind i)
 
 returns : tie.Need-returns Inv-loop μ-loop
 returns c =
-    let i = c .before .before .before in
+    let i = c .before .before .before .before .before in
     let s = start (i .before) in
     let l = i .before .loop in
-    raisable-last (part s) (s .args .flow .now) (s .args .free .now) (l .a) (l .inv .1) (raisable (part s) _ _ (s .pre) _ (l .rows) (low i) _ (l .inv .0) (c .before .closes-cycle .ensures .0 (c .if1 .taken)))
-
-sub-a : tie.Need-sub-a Inv-loop μ-loop
-sub-a c = omega (arith, c .before .before .before .loop-test .taken)
+    raisable-last (part s) (s .args .flow .now) (s .args .free .now) (l .a) (l .inv .1) (raisable (part s) _ _ (s .pre) _ (l .rows) (low i) _ (l .inv .0) (c .before .closes-cycle .ensures .0 (c .if2 .taken)))
 
 slice-aggregate-add-arc : tie.Need-slice-aggregate-add-arc Inv-loop μ-loop
-slice-aggregate-add-arc c = sym (c .before .before .before .before .before .loop .inv .0 .preorder .rows-len)
+slice-aggregate-add-arc c = sym (c .before .before .before .before .before .before .before .loop .inv .0 .preorder .rows-len)
 
 add-arc-requires : tie.Need-add-arc-requires Inv-loop μ-loop
-add-arc-requires c κs = let i = c .before .before .before .before in (start (i .before) .pre, low i, behind i)
+add-arc-requires c κs = let i = c .before .before .before .before .before .before in (start (i .before) .pre, low i, behind i)
 
-loop-less : tie.Need-loop-less Inv-loop μ-loop
-loop-less c = omega (arith, c .before .before .before .before .before .before .loop-test .taken)
-
-loop-again : tie.Need-loop-again Inv-loop μ-loop
-loop-again c =
-    let i = c .before .before .before .before .before .before in
+loop-again-2 : tie.Need-loop-again-2 Inv-loop μ-loop
+loop-again-2 c =
+    let i = c .before .before .before .before .before .before .before .before in
     let s = start (i .before) in
     let l = i .before .loop in (
       c .before .add-arc .ensures,
       raisable-step (part s) (s .args .flow .now) (s .args .free .now) (l .a) (i .loop-test .taken) (l .inv .1)
-          (not-raisable (part s) _ _ (s .pre) (l .a - 1) (l .rows) (low i) _ (behind i) (c .before .before .before .before .closes-cycle .ensures .1 (c .before .before .before .if1 .left))),
+          (not-raisable (part s) _ _ (s .pre) (l .a - 1) (l .rows) (low i) _ (behind i) (c .before .before .before .before .closes-cycle .ensures .1 (c .before .before .before .if2 .left))),
     )
 
 returns-2 : tie.Need-returns-2 Inv-loop μ-loop
@@ -87,13 +93,12 @@ after-last-raisable-spec =
     μ-loop
     (λ c. search needs) clear-requires
     loop-holds
+    (λ c. search needs) shared-slice-read-if1
+    (λ c. search needs) (λ c. search needs) loop-again
     slice-aggregate-closes-cycle
-    sub-closes-cycle
-    closes-cycle-requires
+    (λ c. search needs) closes-cycle-requires
     returns
-    sub-a
-    slice-aggregate-add-arc
+    (λ c. search needs) slice-aggregate-add-arc
     add-arc-requires
-    loop-less
-    loop-again
+    (λ c. search needs) loop-again-2
     returns-2)
