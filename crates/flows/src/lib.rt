@@ -14,7 +14,7 @@ ghost use Rattle.arc_change.specs.Tight.{Tight, ForAll};
 ghost use Rattle.flows.specs.Minimising.{Minimised};
 ghost use Rattle.flows.specs.Following.{Next};
 
-// Every arc from k on as low as it can be, in order. Only the arcs that may be lowered are tried.
+// Every arc from k on as low as it can be, in order. Only the arcs that can be lowered are gone to.
 pub fn minimise(
     tails: &[u8],
     heads: &[u8],
