@@ -1,5 +1,5 @@
 -- Cancelling a negative cycle: how much can go along it, that the flow costs less after, and why this ends.
-use mathlib.Core.Path.{_≡_, refl, sym, ap, subst, _∙_}
+use mathlib.Core.Path.{_≡_, refl, sym, subst, _∙_}
 use mathlib.Core.Logic.{_≢_}
 use mathlib.Core.Bool.{Bool, true, false}
 use mathlib.Core.List.{List, [], _∷_}
@@ -17,8 +17,8 @@ use Rattle.laws.specs.Parts.{plus}
 use Rattle.laws.specs.Range.{Bounded, bounded-mul, bounded-more, fits}
 use Rattle.laws.specs.Sum.{sum-within}
 use Rattle.network.specs.Network.{Net, arcs, up, cost, on, netOut, costOf}
-use Rattle.network.specs.Residual.{codes, src, dst, stepCost, Walk, walkCost}
-use Rattle.certificates.specs.Push.{pushAll, Fits, roomOf, InBounds, room-fits, Trail, trailCost, all-bounds, all-netOut, all-cost}
+use Rattle.network.specs.Residual.{codes, src, dst, Walk, walkCost}
+use Rattle.certificates.specs.Push.{pushAll, Fits, roomOf, InBounds, room-fits, Trail, all-bounds, all-netOut, all-cost}
 use Rattle.certificates.specs.Graph.{graph}
 use Rattle.certificates.specs.Ready.{SmallBounds}
 use Rattle.pushing.specs.Pushing.{roomAll, Pushable}
@@ -31,10 +31,6 @@ use Rattle.cancelling.specs.Cancelling.{Rerouted, Cancels}
 walk-trail : (N : Net) (f : List ℕ) (u v : ℕ) (cs : List ℕ) → Walk N f u v cs → Trail N u v cs
 walk-trail N f u v [] w = w
 walk-trail N f u v (c ∷ cs) w = (w .0, w .2, walk-trail N f u (src N c) cs (w .3))
-
-walk-cost : (N : Net) (cs : List ℕ) → walkCost N cs ≡ trailCost N cs
-walk-cost N [] = refl
-walk-cost N (c ∷ cs) = ap (λ z. stepCost N c +ℤ z) (walk-cost N cs)
 
 walk-room : (N : Net) (f : List ℕ) (u v : ℕ) (cs : List ℕ) → Walk N f u v cs → Every (λ c. 0 < roomOf N f c) cs
 walk-room N f u v [] w = tt
@@ -68,8 +64,7 @@ module _ (N : Net) (f : List ℕ) (b : InBounds N f) (δ : ℕ) (cs : List ℕ) 
 
   cheaper : 0 < d → costOf N (pushAll d cs f) <ℤ costOf N f
   cheaper p =
-      less (costOf N (pushAll d cs f)) (costOf N f) (trailCost N cs) (pos d) (all-cost N d cs f (C .cycle .node) (C .cycle .node) b trail differ all-fit)
-      (subst (λ z. z <ℤ pos 0) (walk-cost N cs) (C .negative)) (simp lin (omega arith))
+      less (costOf N (pushAll d cs f)) (costOf N f) (walkCost N cs) (pos d) (all-cost N d cs f (C .cycle .node) (C .cycle .node) b trail differ all-fit) (C .negative) (simp lin (omega arith))
 
 -- ---- what the search found
 pub labels-of : (N : Net) (f : List ℕ) (δ : ℕ) (d : List ℤ) (out : List ℕ) (r : ℕ) → Searched N f δ d out r → r ≡ 0 → QuietLabels N f δ d

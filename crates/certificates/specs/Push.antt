@@ -18,7 +18,7 @@ use Rattle.laws.specs.Linear.{lin, ring, given, given2, given3}
 use Rattle.laws.specs.Members.{Every, every-map2}
 use Rattle.laws.specs.Sum.{sum-change}
 use Rattle.network.specs.Network.{Net, arcs, tail, head, low, up, cost, balance, on, netOut, IsFlow, costOf, LeastCost}
-use Rattle.network.specs.Residual.{either, src, dst, stepCost}
+use Rattle.network.specs.Residual.{either, src, dst, stepCost, walkCost}
 use Rattle.certificates.specs.Codes.{even-code, odd-code, even-arc, odd-arc}
 use Rattle.certificates.specs.Cuts.{Agree}
 use Rattle.certificates.specs.Optimality.{reduced, stepReduced}
@@ -201,10 +201,6 @@ way-append hi sr ds (c ∷ l) k u v w p q = (p .0, p .1, way-append hi sr ds l k
 abbrev pub Trail : Net → ℕ → ℕ → List ℕ → Type 0
 Trail N u v cs = Way (arcs N + arcs N) (src N) (dst N) u v cs
 
-abbrev pub trailCost : Net → List ℕ → ℤ
-trailCost N [] = pos 0
-trailCost N (c ∷ cs) = stepCost N c +ℤ trailCost N cs
-
 module _ (N : Net) (δ : ℕ) where
   pub all-bounds : (cs : List ℕ) (f : List ℕ) (u v : ℕ) → InBounds N f → Trail N u v cs → Distinct cs → Every (Fits N δ f) cs → InBounds N (pushAll δ cs f)
   all-bounds [] f u v b t d h = b
@@ -229,13 +225,13 @@ module _ (N : Net) (δ : ℕ) where
       chain x y z u s d v p q r = given3 p q r (simp lin (omega arith))
 
   pub all-cost : (cs : List ℕ) (f : List ℕ) (u v : ℕ) → InBounds N f → Trail N u v cs → Distinct cs → Every (Fits N δ f) cs
-      → costOf N (pushAll δ cs f) ≡ costOf N f +ℤ trailCost N cs *ℤ pos δ
+      → costOf N (pushAll δ cs f) ≡ costOf N f +ℤ walkCost N cs *ℤ pos δ
   all-cost [] f u v b t d h = nought (costOf N f) (pos δ)
     where
       nought : (x y : ℤ) → x ≡ x +ℤ pos 0 *ℤ y
       nought x y = simp ring (omega arith)
   all-cost (c ∷ cs) f u v b t d h =
-      chain (costOf N (pushAll δ cs (pushOne δ c f))) (costOf N (pushOne δ c f)) (costOf N f) (trailCost N cs) (stepCost N c) (pos δ)
+      chain (costOf N (pushAll δ cs (pushOne δ c f))) (costOf N (pushOne δ c f)) (costOf N f) (walkCost N cs) (stepCost N c) (pos δ)
       (all-cost cs (pushOne δ c f) u (src N c) (one-bounds N δ f c b (t .0) (h .0)) (t .2) (d .1)
       (every-map2 (λ x. x ≢ c) (Fits N δ f) (Fits N δ (pushOne δ c f)) cs (one-fits N δ f c b (t .0) (h .0)) (d .0) (h .1)))
       (one-cost N δ f c b (t .0) (h .0))
@@ -264,10 +260,10 @@ module _ (N : Net) (π : ℕ → ℤ) where
           turn : (c p q : ℤ) → (c +ℤ p) -ℤ q ≡ pos 0 → (negℤ c +ℤ q) -ℤ p ≡ pos 0
           turn c p q h = given h (simp lin (omega arith))
 
-  pub tight-cost : (cs : List ℕ) (u v : ℕ) → Trail N u v cs → Every TightStep cs → trailCost N cs ≡ π v -ℤ π u
+  pub tight-cost : (cs : List ℕ) (u v : ℕ) → Trail N u v cs → Every TightStep cs → walkCost N cs ≡ π v -ℤ π u
   tight-cost [] u v t h = given (ap π t) (simp lin (omega arith))
   tight-cost (c ∷ cs) u v t h =
-      chain (stepCost N c) (trailCost N cs) (π (src N c)) (π (dst N c)) (π u) (π v) (tight-step c (h .0)) (tight-cost cs u (src N c) (t .2) (h .1)) (ap π (t .1))
+      chain (stepCost N c) (walkCost N cs) (π (src N c)) (π (dst N c)) (π u) (π v) (tight-step c (h .0)) (tight-cost cs u (src N c) (t .2) (h .1)) (ap π (t .1))
     where
       chain : (c r s d u v : ℤ) → (c +ℤ s) -ℤ d ≡ pos 0 → r ≡ s -ℤ u → d ≡ v → c +ℤ r ≡ v -ℤ u
       chain c r s d u v p q e = given3 p q e (simp lin (omega arith))
@@ -290,7 +286,7 @@ module _ (N : Net) (π : ℕ → ℤ) where
   pub closed-least : (δ : ℕ) (cs : List ℕ) (f : List ℕ) (v : ℕ) → LeastCost N f → Trail N v v cs → Distinct cs → Every (Fits N δ f) cs → Every TightStep cs → LeastCost N (pushAll δ cs f)
   closed-least δ cs f v lf t d h ti = record {
     flow = closed-flow δ cs f v (lf .flow) t d h;
-    least = λ g fg. still (costOf N (pushAll δ cs f)) (costOf N f) (costOf N g) (trailCost N cs) (pos δ) (π v) (all-cost N δ cs f v v (flow-bounds N f (lf .flow)) t d h) (tight-cost cs v v t ti) (lf .least g fg);
+    least = λ g fg. still (costOf N (pushAll δ cs f)) (costOf N f) (costOf N g) (walkCost N cs) (pos δ) (π v) (all-cost N δ cs f v v (flow-bounds N f (lf .flow)) t d h) (tight-cost cs v v t ti) (lf .least g fg);
   }
     where
       nought : (s p : ℤ) → s ≡ p -ℤ p → s ≡ pos 0
