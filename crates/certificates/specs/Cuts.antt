@@ -84,12 +84,12 @@ module _ (N : Net) (ok : WellFormed N) where
       close : (w x y z : ℤ) → w ≡ x → x ≡ y → w ≤ℤ z → z ≡ pos 0 → pos 0 <ℤ y → ⊥
       close w x y z p q r s t = given4 p q r s (given t (simp lin (omega arith)))
 
-  -- the same, with a node s of S that lacks some and none of S that has too much
+  -- the same, with a node s of S that has an excess and none of S that has a deficit
   pub stuck : (f : List ℕ) (S : ℕ → Bool) → Closed N f (λ a. Unit {0}) S → (s : ℕ) → s < nodes N → S s ≡ true → netOut N f s <ℤ balance N s
       → ((v : ℕ) → v < nodes N → S v ≡ true → netOut N f v ≤ℤ balance N v) → (g : List ℕ) → ¬ IsFlow N g
-  stuck f S cl s k in-s lacks none = no-flow f S cl
+  stuck f S cl s k in-s more none = no-flow f S cl
       (given2 (sum-term (nodes N) (λ v. χ (S v) *ℤ (balance N v -ℤ netOut N f v)) (λ v l. each v (S v) (none v l)) s k)
-      (ap (λ b. χ b *ℤ (balance N s -ℤ netOut N f s)) in-s) (λ p q. close (balance N s) (netOut N f s) _ _ q p lacks))
+      (ap (λ b. χ b *ℤ (balance N s -ℤ netOut N f s)) in-s) (λ p q. close (balance N s) (netOut N f s) _ _ q p more))
     where
       each : (v : ℕ) (b : Bool) → (b ≡ true → netOut N f v ≤ℤ balance N v) → pos 0 ≤ℤ (χ b *ℤ (balance N v -ℤ netOut N f v))
       each v true h = *-nonneg {x = pos 1} {y = balance N v -ℤ netOut N f v} (simp lin (omega arith)) (given (h refl) (simp lin (omega arith)))

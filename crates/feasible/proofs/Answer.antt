@@ -16,7 +16,7 @@ use Rattle.laws.specs.Sum.{sum}
 use Rattle.network.specs.Network.{Net, WellFormed, netOut, balance}
 use Rattle.certificates.specs.Cuts.{stuck, closed-steps, balances-sum}
 use Rattle.certificates.specs.Push.{InBounds, all-netOut}
-use Rattle.certificates.specs.Feasible.{lacks as excesses, relieved, all-met}
+use Rattle.certificates.specs.Feasible.{totalExcess, relieved, all-met}
 use Rattle.certificates.specs.Graph.{graph, netWith}
 use Rattle.certificates.specs.Ready.{Ready}
 use Rattle.flow_test.specs.Excess.{supplies, SmallNumbers, Excesses}
@@ -90,7 +90,7 @@ module _ (b : List ℤ) (t h l u : List ℕ) (f₀ : List ℕ) (G : Given b t h 
         no-deficit N v m e (inr p) n = absurd (let w : _≡_ {A = ℕ} 0 1 = cc (m, n p) in omega arith)
 
     -- the sum of the excesses above 0 falls
-    pub falls : (g : List ℕ) (s : ℕ) → s < length ex → SentFrom (graph t h l u) f g ex s → plus (excesses (supplies b t h) g) < plus (excesses (supplies b t h) f)
+    pub falls : (g : List ℕ) (s : ℕ) → s < length ex → SentFrom (graph t h l u) f g ex s → plus (totalExcess (supplies b t h) g) < plus (totalExcess (supplies b t h) f)
     falls g s i S =
         let R = S .sent in
         relieved (supplies b t h) f g s (S .to) (R .amount)

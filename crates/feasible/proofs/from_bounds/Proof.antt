@@ -4,7 +4,7 @@ use lib.ListN.{length}
 use borrow.Author.Tests.{not-true, not-false}
 use Rattle.laws.specs.Parts.{plus}
 use Rattle.certificates.specs.Push.{InBounds}
-use Rattle.certificates.specs.Feasible.{lacks as excesses}
+use Rattle.certificates.specs.Feasible.{totalExcess}
 use Rattle.certificates.specs.Graph.{graph}
 use Rattle.flow_test.specs.Excess.{supplies}
 use Rattle.feasible.proofs.Answer.{small-of, ready-of, all-sent, no-flow-left, falls}
@@ -15,7 +15,7 @@ abbrev Inv-loop : tie.InvT-loop
 Inv-loop tails heads lows ups free balances flow₀ excess₀ flow excess = InBounds (graph tails heads lows ups) flow × (length excess ≡ length balances)
 
 abbrev μ-loop : tie.MeasureT-loop
-μ-loop tails heads lows ups free balances flow₀ excess₀ flow excess = plus (excesses (supplies balances tails heads) flow)
+μ-loop tails heads lows ups free balances flow₀ excess₀ flow excess = plus (totalExcess (supplies balances tails heads) flow)
 
 loop-holds : tie.Need-loop-holds Inv-loop μ-loop
 loop-holds c = let s = c .before .before .before .before .before .before in (s .pre .1, s .pre .3)
