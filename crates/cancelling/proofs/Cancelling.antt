@@ -19,11 +19,11 @@ use Rattle.laws.specs.Sum.{sum-within}
 use Rattle.network.specs.Network.{Net, arcs, up, cost, on, netOut, costOf}
 use Rattle.network.specs.Residual.{codes, src, dst, Walk, walkCost}
 use Rattle.certificates.specs.Push.{pushAll, Fits, roomOf, InBounds, room-fits, Trail, all-bounds, all-netOut, all-cost}
-use Rattle.certificates.specs.Graph.{graph}
+use Rattle.certificates.specs.Graph.{graph, costGraph}
 use Rattle.certificates.specs.Ready.{SmallBounds}
 use Rattle.pushing.specs.Pushing.{roomAll, Pushable}
 use Rattle.pushing.proofs.LeastRoom.{room-each, room-pos, way-codes, usable-room}
-use Rattle.relaxation.specs.Labels.{costGraph, Relaxable}
+use Rattle.relaxation.specs.Labels.{Relaxable}
 use Rattle.search.specs.Search.{QuietLabels, NegativeCycle, Searched, found, none}
 use Rattle.cancelling.specs.Cancelling.{Rerouted, Cancels}
 

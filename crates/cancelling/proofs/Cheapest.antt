@@ -6,9 +6,8 @@ use native.Mathlib.Omega.{arith}
 use lib.IntN.{ℤ}
 use Rattle.laws.specs.Linear.{lin, given}
 use Rattle.network.specs.Network.{WellFormed, IsFlow, LeastCost}
-use Rattle.certificates.specs.Graph.{netWith}
+use Rattle.certificates.specs.Graph.{netWith, costGraph}
 use Rattle.certificates.specs.Optimality.{priced-least}
-use Rattle.relaxation.specs.Labels.{costGraph}
 use Rattle.relaxation.specs.Potentials.{Quiet}
 use Rattle.relaxation.proofs.Trips.{usable-roomy}
 use Rattle.cancelling.specs.Cancelling.{Rerouted}

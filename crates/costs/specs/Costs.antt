@@ -2,7 +2,7 @@
 use mathlib.Core.Path.{_≡_}
 use mathlib.Core.Logic.{_≢_}
 use mathlib.Core.Bool.{Bool, true, false}
-use mathlib.Core.List.{List, []}
+use mathlib.Core.List.{List}
 use Prim.Native.Nat.{ℕ, _≤_, _<_}
 use lib.ListN.{length, getD}
 use lib.IntN.{ℤ, pos, _*ℤ_}
@@ -20,10 +20,6 @@ pub record SmallCosts (c : List ℤ) (f : List ℕ) : Type 0 where
 -- what one arc adds to the cost
 abbrev pub term : List ℤ → List ℕ → ℕ → ℤ
 term c f a = getD c a (pos 0) *ℤ pos (getD f a 0)
-
--- the network of which the marks read ends and costs
-abbrev pub endsAndCosts : List ℕ → List ℕ → List ℤ → Net
-endsAndCosts t h c = record { balances = []; tails = t; heads = h; lows = []; ups = []; costs = c }
 
 -- a price for each node that an arc joins, and small numbers
 pub record SmallPrices (t h : List ℕ) (c p : List ℤ) (marks : List Bool) : Type 0 where

@@ -1,11 +1,13 @@
 // What a flow costs, and the tight arcs: those of reduced cost 0.
 ghost use mathlib.Core.Path.{_≡_};
+ghost use mathlib.Core.List.{[]};
 ghost use Prim.Native.Nat.{_≤_};
 ghost use lib.ListN.{length, getD};
 ghost use lib.IntN.{pos, _*ℤ_, _+ℤ_, _-ℤ_};
 ghost use Rattle.laws.specs.Range.{Bounded};
 ghost use Rattle.laws.specs.Sum.{sum};
-ghost use Rattle.costs.specs.Costs.{SmallCosts, term, endsAndCosts, SmallPrices, MarkedBelow};
+ghost use Rattle.certificates.specs.Graph.{costGraph};
+ghost use Rattle.costs.specs.Costs.{SmallCosts, term, SmallPrices, MarkedBelow};
 
 // c for each of x units.
 fn product(c: i32, x: u32) -> i64
@@ -41,7 +43,7 @@ fn reduced(c: i32, p: i64, q: i64) -> i64
 // Marks the arcs of reduced cost 0.
 pub fn mark_tight(tails: &[u8], heads: &[u8], costs: &[i32], prices: &[i64], marks: &mut [bool])
     requires { ⌜ SmallPrices (now tails) (now heads) (now costs) (now prices) (now marks) ⌝ }
-    ensures { λ _. ⌜ MarkedBelow (endsAndCosts (now (tails .entry)) (now (heads .entry)) (now (costs .entry))) (λ v. getD (now (prices .entry)) v (pos 0)) (now (marks .exit)) (length (now (tails .entry))) ⌝ }
+    ensures { λ _. ⌜ MarkedBelow (costGraph (now (tails .entry)) (now (heads .entry)) [] [] (now (costs .entry))) (λ v. getD (now (prices .entry)) v (pos 0)) (now (marks .exit)) (length (now (tails .entry))) ⌝ }
 {
     let mut a = 0;
     while a < tails.len() {

@@ -7,9 +7,9 @@ use lib.IntN.{ℤ, pos}
 use Rattle.network.specs.Network.{Net, nodes}
 use Rattle.network.specs.Residual.{Price}
 use Rattle.certificates.specs.Push.{InBounds, flow-bounds}
-use Rattle.certificates.specs.Graph.{graph}
+use Rattle.certificates.specs.Graph.{graph, costGraph}
 use Rattle.certificates.specs.Ready.{Ready}
-use Rattle.relaxation.specs.Labels.{costGraph, Relaxable}
+use Rattle.relaxation.specs.Labels.{Relaxable}
 use Rattle.relaxation.specs.Potentials.{Settled}
 use Rattle.prices.specs.Prices.{PriceLabels}
 use Rattle.prices.proofs.Pricing.{labels-price}

@@ -2,7 +2,7 @@
 use mathlib.Core.Path.{_≡_, refl, ap, _∙_}
 use mathlib.Core.Logic.{⊎-elim}
 use mathlib.Core.Bool.{Bool, true, false}
-use mathlib.Core.List.{List}
+use mathlib.Core.List.{List, []}
 use mathlib.Core.Option.{none, some}
 use Prim.Native.Nat.{ℕ, _/_, _%_, _<_}
 use native.Mathlib.Omega.{arith}
@@ -20,8 +20,7 @@ use Rattle.network.proofs.FullList.{none-iff}
 use Rattle.certificates.specs.Optimality.{Optimal, priced-optimal, off-tight, stepReduced}
 use Rattle.certificates.specs.Order.{first-line}
 use Rattle.certificates.specs.FreeArcs.{NotRaisable, NotLowerable}
-use Rattle.certificates.specs.Graph.{graph, netWith}
-use Rattle.relaxation.specs.Labels.{costGraph}
+use Rattle.certificates.specs.Graph.{graph, netWith, costGraph}
 use Rattle.relaxation.specs.Potentials.{Quiet, Settled}
 use Rattle.relaxation.proofs.Trips.{roomy-usable, usable-roomy}
 use Rattle.search.specs.Search.{QuietLabels}
@@ -30,7 +29,7 @@ use Rattle.flows.specs.Minimising.{Minimised}
 use Rattle.arc_change.proofs.Certified.{tight-any}
 use Rattle.arc_change.specs.Tight.{Tight}
 use Rattle.arc_change.proofs.Candidates.{at-most, at-least}
-use Rattle.costs.specs.Costs.{endsAndCosts, MarkedBelow}
+use Rattle.costs.specs.Costs.{MarkedBelow}
 use Rattle.least_cost.specs.Marked.{Marked}
 
 -- no residual arc below 0: every one at least 0, arc by arc
@@ -66,7 +65,7 @@ module _ (b : List ℤ) (t h l u : List ℕ) (c : List ℤ) (f : List ℕ) where
   labels-whole d q = record { len = q .len; quiet = record { low = q .quiet .low; reduced = q .quiet .reduced }; small = q .small }
 
   pub marked-by : WellFormed (netWith b t h l u c) → LeastCost (netWith b t h l u c) f → (d : List ℤ) → QuietLabels (netWith b t h l u c) f 1 d
-      → (tight : List Bool) → length tight ≡ length t → MarkedBelow (endsAndCosts t h c) (λ v. getD d v (pos 0)) tight (length t) → Marked (netWith b t h l u c) tight f
+      → (tight : List Bool) → length tight ≡ length t → MarkedBelow (costGraph t h [] [] c) (λ v. getD d v (pos 0)) tight (length t) → Marked (netWith b t h l u c) tight f
   marked-by ok least d q tight e m = record {
     potential = π;
     low = q .quiet .low;

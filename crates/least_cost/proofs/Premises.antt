@@ -10,8 +10,8 @@ use lib.IntN.{ℤ, pos}
 use Rattle.laws.specs.Range.{Bounded, bounded-iff, bounded-more, bounded-zero}
 use Rattle.network.specs.Accepted.{AcceptedNet}
 use Rattle.certificates.specs.Push.{InBounds}
-use Rattle.relaxation.specs.Labels.{costGraph, Relaxable}
-use Rattle.certificates.specs.Graph.{graph, netWith}
+use Rattle.relaxation.specs.Labels.{Relaxable}
+use Rattle.certificates.specs.Graph.{graph, netWith, costGraph}
 use Rattle.certificates.specs.Ready.{Ready, SmallBounds}
 use Rattle.flow_test.specs.FlowTest.{Given}
 

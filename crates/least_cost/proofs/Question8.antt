@@ -11,9 +11,9 @@ use borrow.Author.Tests.{eqb-true, eqb-false}
 use Rattle.laws.specs.Linear.{lin, given2}
 use Rattle.network.specs.Network.{Net, WellFormed, IsFlow, LeastCost}
 use Rattle.certificates.specs.Push.{pushAll}
-use Rattle.certificates.specs.Graph.{graph, netWith}
+use Rattle.certificates.specs.Graph.{graph, netWith, costGraph}
 use Rattle.pushing.specs.Pushing.{roomAll}
-use Rattle.relaxation.specs.Labels.{costGraph, Relaxable}
+use Rattle.relaxation.specs.Labels.{Relaxable}
 use Rattle.search.specs.Search.{QuietLabels, Searched, NegativeCycle}
 use Rattle.cancelling.proofs.Cancelling.{labels-of, cycle-of, cancelled}
 use Rattle.cancelling.proofs.Cheapest.{quiet-least, rerouted-flow}

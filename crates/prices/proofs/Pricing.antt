@@ -14,7 +14,8 @@ use Rattle.laws.specs.Store.{set-cases}
 use Rattle.network.specs.Network.{Net, WellFormed, nodes}
 use Rattle.network.specs.Residual.{codes, src, dst, stepCost, Walk, walkCost, Price}
 use Rattle.certificates.specs.Codes.{either-is}
-use Rattle.relaxation.specs.Labels.{costGraph, Relaxable, roomy, State, state, label, offer, better, relaxed, relaxedAll, Sized}
+use Rattle.certificates.specs.Graph.{netWith, costGraph}
+use Rattle.relaxation.specs.Labels.{Relaxable, roomy, State, state, label, offer, better, relaxed, relaxedAll, Sized}
 use Rattle.relaxation.specs.Potentials.{Settled}
 use Rattle.relaxation.proofs.Codes.{src-in, dst-in}
 use Rattle.relaxation.proofs.Trips.{usable-roomy, Trip, trip-walk}
@@ -102,7 +103,7 @@ module _ (N : Net) (f : List ℕ) (ok : Relaxable N f) where
 -- the same of the network with its balances
 module _ (b : List ℤ) (t h l u : List ℕ) (c : List ℤ) (f : List ℕ) where
   abbrev whole : Net
-  whole = record { balances = b; tails = t; heads = h; lows = l; ups = u; costs = c }
+  whole = netWith b t h l u c
 
   walk-whole : (x v : ℕ) (cs : List ℕ) → Walk (costGraph t h l u c) f x v cs → Walk whole f x v cs
   walk-whole x v [] w = w

@@ -1,7 +1,7 @@
 -- Labels corrected over the residual arcs that have room for a given amount (Bellman and Ford).
 use mathlib.Core.Path.{_≡_}
 use mathlib.Core.Bool.{Bool, cond, _&&_}
-use mathlib.Core.List.{List, []}
+use mathlib.Core.List.{List}
 use Prim.Native.Nat.{ℕ, zero, suc, _+_, _/_, _≤_, _<_}
 use lib.Dec.{leb}
 use lib.ListN.{length, getD, set}
@@ -10,10 +10,6 @@ use lib.Signed.{ltZ}
 use Rattle.laws.specs.Range.{Bounded}
 use Rattle.network.specs.Network.{Net, arcs, tail, head, low, up, cost}
 use Rattle.network.specs.Residual.{either, src, dst, stepCost}
-
--- the network of the lists that a round reads; it reads no balances
-abbrev pub costGraph : List ℕ → List ℕ → List ℕ → List ℕ → List ℤ → Net
-costGraph t h l u c = record { balances = []; tails = t; heads = h; lows = l; ups = u; costs = c }
 
 -- at most 512 arcs, with ends below 64
 pub record SmallGraph (N : Net) : Type 0 where

@@ -8,7 +8,8 @@ ghost use lib.Signed.{ltZ};
 ghost use mir.Syntax.{w64};
 ghost use mir.Val.{SFits};
 ghost use Rattle.network.specs.Residual.{codes};
-ghost use Rattle.relaxation.specs.Labels.{costGraph, Relaxable, state, setIf, relaxed, relaxedAll, Sized};
+ghost use Rattle.certificates.specs.Graph.{costGraph};
+ghost use Rattle.relaxation.specs.Labels.{Relaxable, state, setIf, relaxed, relaxedAll, Sized};
 
 // The residual arc `code` from u to v, if it is on: a better label for v, or nothing. The node whose label fell last.
 fn relax(

@@ -10,7 +10,8 @@ use lib.Signed.{_<ℤ_}
 use Rattle.laws.specs.Range.{bounded-more}
 use Rattle.network.specs.Network.{Net}
 use Rattle.network.specs.Residual.{codes, src}
-use Rattle.relaxation.specs.Labels.{costGraph, SmallGraph, Relaxable, State, state, relaxedAll, Sized}
+use Rattle.certificates.specs.Graph.{costGraph}
+use Rattle.relaxation.specs.Labels.{SmallGraph, Relaxable, State, state, relaxedAll, Sized}
 use Rattle.relaxation.proofs.Rounds.{AtMost, zeros-at-most, zeros-sized, left-at-most, left-sized, left-quiet, left-fell}
 use Rattle.search.specs.Predecessors.{pred, back, Backs, Round, Returns, trail, Labelled, WentBack, ended, went, Collected}
 use Rattle.search.specs.Search.{QuietLabels, Searched, found}

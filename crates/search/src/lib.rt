@@ -4,7 +4,8 @@ ghost use mathlib.Core.List.{[]};
 ghost use Prim.Native.Nat.{ℕ, _≤_, _<_};
 ghost use lib.ListN.{length, getD};
 ghost use lib.IntN.{pos};
-ghost use Rattle.relaxation.specs.Labels.{costGraph, SmallGraph, Relaxable};
+ghost use Rattle.certificates.specs.Graph.{costGraph};
+ghost use Rattle.relaxation.specs.Labels.{SmallGraph, Relaxable};
 ghost use Rattle.search.specs.Predecessors.{Returns, WentBack, Collected};
 ghost use Rattle.search.specs.Search.{Searched};
 

@@ -6,7 +6,7 @@ use lib.ListN.{take, length-replicate}
 use lib.IntN.{ℤ}
 use borrow.Author.Needs.{needs}
 use Rattle.network.specs.Network.{Net}
-use Rattle.relaxation.specs.Labels.{costGraph}
+use Rattle.certificates.specs.Graph.{costGraph}
 use Rattle.search.specs.Search.{NegativeCycle}
 use Rattle.cancelling.proofs.Cancelling.{labels-of, cycle-of, small-of, bounds-of, codes-of, able, cancelled}
 use Rattle.cancelling.proofs.cancel.Statement.{statement}

@@ -7,7 +7,8 @@ use lib.IntN.{ℤ}
 use lib.Signed.{_<ℤ_}
 use borrow.Author.Tests.{not-true, not-false}
 use Rattle.network.specs.Network.{Net, costOf}
-use Rattle.relaxation.specs.Labels.{costGraph, Relaxable}
+use Rattle.certificates.specs.Graph.{costGraph}
+use Rattle.relaxation.specs.Labels.{Relaxable}
 use Rattle.cancelling.specs.Cancelling.{Rerouted}
 use Rattle.cancelling.proofs.Cancelling.{none-left, one-less, left, falls, same-flow, further, relaxable-again}
 use Rattle.cancelling.proofs.cancel_all.Statement.{statement}

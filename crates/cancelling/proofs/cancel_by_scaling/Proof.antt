@@ -5,7 +5,8 @@ use native.Mathlib.Omega.{arith}
 use lib.ListN.{length}
 use lib.IntN.{ℤ}
 use Rattle.network.specs.Network.{Net}
-use Rattle.relaxation.specs.Labels.{costGraph, Relaxable}
+use Rattle.certificates.specs.Graph.{costGraph}
+use Rattle.relaxation.specs.Labels.{Relaxable}
 use Rattle.search.specs.Search.{QuietLabels}
 use Rattle.cancelling.specs.Cancelling.{Rerouted}
 use Rattle.cancelling.proofs.Cancelling.{same-flow, further, relaxable-again}

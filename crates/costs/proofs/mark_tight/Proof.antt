@@ -1,4 +1,5 @@
 use mathlib.Core.Path.{_≡_, sym, _∙_}
+use mathlib.Core.List.{[]}
 use Prim.Native.Nat.{_-_, _≤_}
 use native.Mathlib.Omega.{arith}
 use lib.ListN.{length, getD}
@@ -10,13 +11,14 @@ use borrow.Author.Needs.{needs}
 use borrow.Author.Tests.{eqb-true, eqb-false}
 use Rattle.laws.specs.Range.{zero-of, zero-bits}
 use Rattle.certificates.specs.Optimality.{reduced}
-use Rattle.costs.specs.Costs.{endsAndCosts, MarkedBelow}
+use Rattle.certificates.specs.Graph.{costGraph}
+use Rattle.costs.specs.Costs.{MarkedBelow}
 use Rattle.costs.proofs.Sizes.{marked-more, marked-all}
 use Rattle.costs.proofs.mark_tight.Statement.{statement}
 use Rattle.costs.proofs.mark_tight.Tie as tie
 
 abbrev Inv-loop : tie.InvT-loop
-Inv-loop tails heads costs prices marks₀ a₀ marks a = (a ≤ length tails) × (length marks ≡ length tails) × MarkedBelow (endsAndCosts tails heads costs) (λ v. getD prices v (pos 0)) marks a
+Inv-loop tails heads costs prices marks₀ a₀ marks a = (a ≤ length tails) × (length marks ≡ length tails) × MarkedBelow (costGraph tails heads [] [] costs) (λ v. getD prices v (pos 0)) marks a
 
 abbrev μ-loop : tie.MeasureT-loop
 μ-loop tails heads costs prices marks₀ a₀ marks a = length tails - a
@@ -65,7 +67,7 @@ reduced-requires c κs =
     rw (cost-is c, tail-price c, head-price c) (s .cost-small a l, s .price-small _ (s .tail-in a l), s .price-small _ (s .head-in a l))
 
 -- what the function answers is the reduced cost
-is : (c : tie.After-reduced Inv-loop μ-loop) → c .reduced .result ≡ reduced (endsAndCosts (c .before .before .before .before .before .before .before .before .before .before .before .args .tails .now) (c .before .before .before .before .before .before .before .before .before .before .before .args .heads .now) (c .before .before .before .before .before .before .before .before .before .before .before .args .costs .now)) (λ v. getD (c .before .before .before .before .before .before .before .before .before .before .before .args .prices .now) v (pos 0)) (c .before .before .before .before .before .before .before .loop .a)
+is : (c : tie.After-reduced Inv-loop μ-loop) → c .reduced .result ≡ reduced (costGraph (c .before .before .before .before .before .before .before .before .before .before .before .args .tails .now) (c .before .before .before .before .before .before .before .before .before .before .before .args .heads .now) [] [] (c .before .before .before .before .before .before .before .before .before .before .before .args .costs .now)) (λ v. getD (c .before .before .before .before .before .before .before .before .before .before .before .args .prices .now) v (pos 0)) (c .before .before .before .before .before .before .before .loop .a)
 is c = c .reduced .ensures ∙ rw (cost-is (c .before), tail-price (c .before), head-price (c .before))
 
 slice-write-marks : tie.Need-slice-write-marks Inv-loop μ-loop

@@ -5,8 +5,8 @@ use borrow.Author.Needs.{needs}
 use borrow.Author.Tests.{not-true, not-false}
 use Rattle.network.specs.Network.{IsFlow}
 use Rattle.certificates.specs.Push.{flow-bounds}
-use Rattle.certificates.specs.Graph.{netWith}
-use Rattle.relaxation.specs.Labels.{costGraph, Relaxable}
+use Rattle.certificates.specs.Graph.{netWith, costGraph}
+use Rattle.relaxation.specs.Labels.{Relaxable}
 use Rattle.least_cost.proofs.Premises.{given, relaxable}
 use Rattle.least_cost.proofs.Question8.{tested}
 use Rattle.least_cost.proofs.is_least_cost.Statement.{statement}

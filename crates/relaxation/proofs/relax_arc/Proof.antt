@@ -13,7 +13,8 @@ use mir.Facts.{toZ-ofZ}
 use Rattle.laws.specs.Linear.{lin}
 use Rattle.laws.specs.Range.{Bounded, bounded-add, bounded-neg, bounded-fits}
 use Rattle.network.specs.Network.{Net}
-use Rattle.relaxation.specs.Labels.{costGraph, Relaxable, State, state, label, setIf, relaxed, Sized}
+use Rattle.certificates.specs.Graph.{costGraph}
+use Rattle.relaxation.specs.Labels.{Relaxable, State, state, label, setIf, relaxed, Sized}
 use Rattle.relaxation.proofs.Rounds.{one-sized}
 use Rattle.relaxation.proofs.Arcs.{forward, backward}
 use Rattle.relaxation.proofs.relax_arc.Statement.{statement}

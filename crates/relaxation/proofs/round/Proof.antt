@@ -3,7 +3,8 @@ use Prim.Native.Nat.{suc, _+_, _-_, _≤_}
 use native.Mathlib.Omega.{arith}
 use lib.ListN.{length}
 use Rattle.network.specs.Network.{Net}
-use Rattle.relaxation.specs.Labels.{costGraph, State, state, relaxed, relaxedAll, Sized}
+use Rattle.certificates.specs.Graph.{costGraph}
+use Rattle.relaxation.specs.Labels.{State, state, relaxed, relaxedAll, Sized}
 use Rattle.relaxation.proofs.Rounds.{all-sized, sized-more}
 use Rattle.relaxation.proofs.round.Statement.{statement}
 use Rattle.relaxation.proofs.round.Tie as tie

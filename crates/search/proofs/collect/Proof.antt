@@ -5,7 +5,7 @@ use native.Mathlib.Omega.{arith}
 use lib.ListN.{length-set}
 use Rattle.network.specs.Network.{Net}
 use Rattle.network.specs.Residual.{codes}
-use Rattle.relaxation.specs.Labels.{costGraph}
+use Rattle.certificates.specs.Graph.{costGraph}
 use Rattle.search.specs.Predecessors.{pred}
 use Rattle.search.proofs.Ways.{Collecting, arc-of, collecting-none, here, node, room, collecting-more, collecting-done}
 use Rattle.search.proofs.collect.Statement.{statement}

@@ -7,7 +7,8 @@ use lib.ListN.{getD-replicate}
 use lib.IntN.{ℤ}
 use borrow.Author.Needs.{needs}
 use Rattle.network.specs.Network.{Net}
-use Rattle.relaxation.specs.Labels.{costGraph, SmallGraph}
+use Rattle.certificates.specs.Graph.{costGraph}
+use Rattle.relaxation.specs.Labels.{SmallGraph}
 use Rattle.relaxation.proofs.Rounds.{sized-more}
 use Rattle.search.specs.Predecessors.{Returns, WentBack, Labelled}
 use Rattle.search.specs.Search.{Searched, none}
