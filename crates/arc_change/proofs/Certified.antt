@@ -15,10 +15,10 @@ use Rattle.network.specs.Network.{Net, arcs, tail, head, low, up, LeastCost}
 use Rattle.network.specs.Residual.{usable}
 use Rattle.certificates.specs.Optimality.{reduced, optimal-any}
 use Rattle.certificates.specs.Cuts.{Closed, closed-steps, no-more, no-less}
-use Rattle.certificates.specs.Push.{roomOf, flow-bounds, Detour, Moved, raised, lowered, pushAll}
+use Rattle.certificates.specs.Push.{roomOf, flow-bounds, Detour, Moved, raised, lowered, pushAll, all-roomy}
 use Rattle.certificates.specs.FreeArcs.{goes, Path, Blocked}
 use Rattle.arc_change.specs.Tight.{Tight}
-use Rattle.arc_change.proofs.Detours.{path-room, fits-of}
+use Rattle.arc_change.proofs.Detours.{path-room}
 
 -- the marks of one least-cost flow are those of every other
 pub tight-any : (N : Net) (π : ℕ → ℤ) (tight : List Bool) (f g : List ℕ) → Tight N π tight f → LeastCost N g → Tight N π tight g
@@ -37,7 +37,7 @@ module _ (N : Net) (f : List ℕ) (tight : List Bool) (k : ℕ) (π : ℕ → �
       record {
         trail = p .trail;
         distinct = p .distinct;
-        fits = fits-of N f k cs q δ (flow-bounds N f (ti .least .flow)) h;
+        room = all-roomy N f δ cs (flow-bounds N f (ti .least .flow)) (q .codes-in) h;
         tight = every-map2 (λ c. c < arcs N + arcs N) (λ c. goes N f tight c ≡ true) (λ c. reduced N π (c / 2) ≡ pos 0) cs (λ c l g. ti .marked (c / 2) (omega arith) (and-true (getD tight (c / 2) false) (usable N f c) g .0)) (q .codes-in) (p .passes);
         above = q .above;
       }

@@ -12,13 +12,13 @@ use Rattle.laws.specs.Ascending.{Distinct, distinct-of}
 use Rattle.laws.specs.Divergence.{at}
 use Rattle.laws.specs.Integers.{*-nonneg, plus-lt}
 use Rattle.laws.specs.Linear.{lin, ring, given, given3}
-use Rattle.laws.specs.Members.{Every, every-map2}
+use Rattle.laws.specs.Members.{Every}
 use Rattle.laws.specs.Parts.{plus}
 use Rattle.laws.specs.Range.{Bounded, bounded-mul, bounded-more, fits}
 use Rattle.laws.specs.Sum.{sum-within}
 use Rattle.network.specs.Network.{Net, arcs, up, cost, on, netOut, costOf}
 use Rattle.network.specs.Residual.{codes, src, dst, Walk, walkCost}
-use Rattle.certificates.specs.Push.{pushAll, Fits, roomOf, InBounds, room-fits, Trail, all-bounds, all-netOut, all-cost}
+use Rattle.certificates.specs.Push.{pushAll, roomOf, roomy, all-roomy, InBounds, Trail, all-bounds, all-netOut, all-cost}
 use Rattle.certificates.specs.Graph.{graph, costGraph}
 use Rattle.certificates.specs.Ready.{SmallBounds}
 use Rattle.pushing.specs.Pushing.{roomAll, Pushable}
@@ -48,15 +48,13 @@ module _ (N : Net) (f : List ℕ) (b : InBounds N f) (δ : ℕ) (cs : List ℕ) 
   differ : Distinct cs
   differ = distinct-of (dst N) cs (C .cycle .simple)
 
-  all-fit : Every (Fits N d f) cs
-  all-fit =
-      every-map2 (λ c. c < codes N) (λ c. d ≤ roomOf N f c) (Fits N d f) cs (λ c l h. room-fits N f d c b l h)
-      (way-codes (codes N) (src N) (dst N) (C .cycle .node) (C .cycle .node) cs trail) room
+  all-room : Every (λ c. roomy N f d c ≡ true) cs
+  all-room = all-roomy N f d cs b (way-codes (codes N) (src N) (dst N) (C .cycle .node) (C .cycle .node) cs trail) room
 
   pushed : Rerouted N f (pushAll d cs f)
   pushed = record {
-    bounds = all-bounds N d cs f (C .cycle .node) (C .cycle .node) b trail differ all-fit;
-    same = λ v. still (netOut N (pushAll d cs f) v) (netOut N f v) (at (C .cycle .node) v (pos d)) (all-netOut N d cs f (C .cycle .node) (C .cycle .node) v b trail differ all-fit);
+    bounds = all-bounds N d cs f (C .cycle .node) (C .cycle .node) b trail differ all-room;
+    same = λ v. still (netOut N (pushAll d cs f) v) (netOut N f v) (at (C .cycle .node) v (pos d)) (all-netOut N d cs f (C .cycle .node) (C .cycle .node) v b trail differ all-room);
   }
     where
       still : (x y z : ℤ) → x ≡ y +ℤ (z -ℤ z) → x ≡ y
@@ -64,7 +62,7 @@ module _ (N : Net) (f : List ℕ) (b : InBounds N f) (δ : ℕ) (cs : List ℕ) 
 
   cheaper : 0 < d → costOf N (pushAll d cs f) <ℤ costOf N f
   cheaper p =
-      less (costOf N (pushAll d cs f)) (costOf N f) (walkCost N cs) (pos d) (all-cost N d cs f (C .cycle .node) (C .cycle .node) b trail differ all-fit) (C .negative) (simp lin (omega arith))
+      less (costOf N (pushAll d cs f)) (costOf N f) (walkCost N cs) (pos d) (all-cost N d cs f (C .cycle .node) (C .cycle .node) b trail differ all-room) (C .negative) (simp lin (omega arith))
 
 -- ---- what the search found
 pub labels-of : (N : Net) (f : List ℕ) (δ : ℕ) (d : List ℤ) (out : List ℕ) (r : ℕ) → Searched N f δ d out r → r ≡ 0 → QuietLabels N f δ d
@@ -93,8 +91,7 @@ module _ (t h l u : List ℕ) (k : List ℤ) (f : List ℕ) (ok : Relaxable (cos
     bounds = bounds-of;
     codes-in = codes-of δ cs C;
     distinct = distinct-of (dst (costGraph t h l u k)) cs (C .cycle .simple);
-    fits = every-map2 (λ c. c < length t + length t) (λ c. d ≤ roomOf (graph t t l u) f c) (Fits (graph t t l u) d f) cs (λ c i r. room-fits (graph t t l u) f d c bounds-of i r)
-        (codes-of δ cs C) (rw e (room-each (graph t t l u) f 1000000 cs));
+    room = all-roomy (graph t t l u) f d cs bounds-of (codes-of δ cs C) (rw e (room-each (graph t t l u) f 1000000 cs));
   }
 
   pub cancelled : (δ : ℕ) (cs : List ℕ) → NegativeCycle (costGraph t h l u k) f δ cs → (d : ℕ) → d ≡ roomAll (graph t t l u) f 1000000 cs → (g : List ℕ) → g ≡ pushAll d cs f

@@ -94,7 +94,7 @@ module _ (b : List ℤ) (t h l u : List ℕ) (f₀ : List ℕ) (G : Given b t h 
     falls g s i S =
         let R = S .sent in
         relieved (supplies b t h) f g s (S .to) (R .amount)
-        (λ w. ap (λ x. netOut (supplies b t h) x w) (R .exact) ∙ all-netOut (graph t h l u) (R .amount) (R .codes) f s (S .to) w k (R .trail) (R .able .distinct) (R .able .fits))
+        (λ w. ap (λ x. netOut (supplies b t h) x w) (R .exact) ∙ all-netOut (graph t h l u) (R .amount) (R .codes) f s (S .to) w k (R .trail) (R .able .distinct) (R .able .room))
         (omega (arith, L .len)) (R .some)
         (rw (← (L .is s (omega (arith, L .len)))) (≤ℤ-trans {a = pos (R .amount)} {b = pos (S .most)} {c = getD ex s (pos 0)} (simp lin (omega (arith, R .at-most))) (S .most-ok)))
         (rw (← (L .is (S .to) (omega (arith, L .len, S .to-in)))) (R .at-t))

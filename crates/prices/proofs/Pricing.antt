@@ -15,7 +15,8 @@ use Rattle.network.specs.Network.{Net, WellFormed, nodes}
 use Rattle.network.specs.Residual.{codes, src, dst, stepCost, Walk, walkCost, Price}
 use Rattle.certificates.specs.Codes.{either-is}
 use Rattle.certificates.specs.Graph.{netWith, costGraph}
-use Rattle.relaxation.specs.Labels.{Relaxable, roomy, State, state, label, offer, better, relaxed, relaxedAll, Sized}
+use Rattle.certificates.specs.Push.{roomy}
+use Rattle.relaxation.specs.Labels.{Relaxable, State, state, label, offer, better, relaxed, relaxedAll, Sized}
 use Rattle.relaxation.specs.Potentials.{Settled}
 use Rattle.relaxation.proofs.Codes.{src-in, dst-in}
 use Rattle.relaxation.proofs.Trips.{usable-roomy, Trip, trip-walk}

@@ -1,10 +1,12 @@
 -- What can go along a path, and what pushing it asks.
+use mathlib.Core.Path.{_≡_}
+use mathlib.Core.Bool.{true}
 use mathlib.Core.List.{List, [], _∷_}
 use Prim.Native.Nat.{ℕ, _+_, _<_, min}
 use Rattle.laws.specs.Members.{Every}
 use Rattle.laws.specs.Ascending.{Distinct}
 use Rattle.network.specs.Network.{Net, arcs}
-use Rattle.certificates.specs.Push.{Fits, InBounds, roomOf}
+use Rattle.certificates.specs.Push.{InBounds, roomOf, roomy}
 
 -- the least room along the codes, at most cap
 abbrev pub roomAll : Net → List ℕ → ℕ → List ℕ → ℕ
@@ -16,4 +18,4 @@ pub record Pushable (N : Net) (δ : ℕ) (f : List ℕ) (cs : List ℕ) : Type 0
   pub bounds : InBounds N f
   pub codes-in : Every (λ c. c < arcs N + arcs N) cs
   pub distinct : Distinct cs
-  pub fits : Every (Fits N δ f) cs
+  pub room : Every (λ c. roomy N f δ c ≡ true) cs

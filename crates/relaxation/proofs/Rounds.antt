@@ -16,7 +16,8 @@ use Rattle.laws.specs.Range.{Bounded, bounded-add, bounded-more}
 use Rattle.laws.specs.Store.{set-cases}
 use Rattle.network.specs.Network.{Net}
 use Rattle.network.specs.Residual.{codes, src, dst, stepCost, walkCost}
-use Rattle.relaxation.specs.Labels.{Relaxable, roomy, State, state, label, offer, better, relaxed, relaxedAll, Sized}
+use Rattle.certificates.specs.Push.{roomy}
+use Rattle.relaxation.specs.Labels.{Relaxable, State, state, label, offer, better, relaxed, relaxedAll, Sized}
 use Rattle.relaxation.specs.Potentials.{Quiet}
 use Rattle.relaxation.proofs.Codes.{src-in, dst-in, step-small}
 use Rattle.relaxation.proofs.Trips.{Trip}

@@ -9,7 +9,7 @@ use lib.ListN.{getD}
 use borrow.Author.Tests.{leb-true, le-leb, ltb-true, lt-ltb}
 use Rattle.network.specs.Network.{Net, low, up}
 use Rattle.network.specs.Residual.{codes, usable, src, dst, Walk}
-use Rattle.relaxation.specs.Labels.{roomy}
+use Rattle.certificates.specs.Push.{roomy}
 
 -- δ more is room for one more
 pub roomy-usable : (N : Net) (f : List ℕ) (δ c : ℕ) → 0 < δ → roomy N f δ c ≡ true → usable N f c ≡ true

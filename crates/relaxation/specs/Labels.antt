@@ -2,14 +2,14 @@
 use mathlib.Core.Path.{_≡_}
 use mathlib.Core.Bool.{Bool, cond, _&&_}
 use mathlib.Core.List.{List}
-use Prim.Native.Nat.{ℕ, zero, suc, _+_, _/_, _≤_, _<_}
-use lib.Dec.{leb}
+use Prim.Native.Nat.{ℕ, zero, suc, _≤_, _<_}
 use lib.ListN.{length, getD, set}
 use lib.IntN.{ℤ, pos, _+ℤ_}
 use lib.Signed.{ltZ}
 use Rattle.laws.specs.Range.{Bounded}
 use Rattle.network.specs.Network.{Net, arcs, tail, head, low, up, cost}
-use Rattle.network.specs.Residual.{either, src, dst, stepCost}
+use Rattle.network.specs.Residual.{src, dst, stepCost}
+use Rattle.certificates.specs.Push.{roomy}
 
 -- at most 512 arcs, with ends below 64
 pub record SmallGraph (N : Net) : Type 0 where
@@ -29,10 +29,6 @@ pub record Relaxable (N : Net) (f : List ℕ) : Type 0 where
   pub low-flow : (a : ℕ) → a < arcs N → low N a ≤ getD f a 0
   pub flow-up : (a : ℕ) → a < arcs N → getD f a 0 ≤ up N a
   pub cost-small : (a : ℕ) → a < arcs N → Bounded 1000000 (cost N a)
-
--- δ more can go along code c
-abbrev pub roomy : Net → List ℕ → ℕ → ℕ → Bool
-roomy N f δ c = either c (leb (getD f (c / 2) 0 + δ) (up N (c / 2))) (leb (low N (c / 2) + δ) (getD f (c / 2) 0))
 
 -- the labels of the nodes, the code that gave each its label (65535: none), and the node whose label fell last (64: none)
 pub record State : Type 0 where

@@ -7,7 +7,7 @@ use lib.IntN.{ℤ, pos, _+ℤ_}
 use lib.Signed.{_≤ℤ_}
 use Rattle.network.specs.Network.{Net}
 use Rattle.network.specs.Residual.{codes, src, dst, stepCost}
-use Rattle.relaxation.specs.Labels.{roomy}
+use Rattle.certificates.specs.Push.{roomy}
 
 -- no residual arc with room for δ has a reduced cost below 0
 pub record Quiet (N : Net) (f : List ℕ) (δ : ℕ) (π : ℕ → ℤ) : Type 0 where

@@ -10,7 +10,7 @@ use Rattle.laws.specs.Members.{Every}
 use Rattle.laws.specs.Range.{Bounded}
 use Rattle.network.specs.Network.{Net}
 use Rattle.network.specs.Residual.{walkCost, Cycle}
-use Rattle.relaxation.specs.Labels.{roomy}
+use Rattle.certificates.specs.Push.{roomy}
 use Rattle.relaxation.specs.Potentials.{Quiet}
 
 -- no negative cycle has room for δ, under labels of 64 nodes, at most 10¹² either way
