@@ -15,7 +15,8 @@ use Rattle.network.specs.Network.{Net, arcs, tail, head, low, up, LeastCost}
 use Rattle.network.specs.Residual.{usable}
 use Rattle.certificates.specs.Optimality.{reduced, optimal-any}
 use Rattle.certificates.specs.Cuts.{Closed, closed-steps, no-more, no-less}
-use Rattle.certificates.specs.Push.{roomOf, flow-bounds, Detour, Moved, raised, lowered, pushAll, all-roomy}
+use Rattle.certificates.specs.Room.{roomOf}
+use Rattle.certificates.specs.Push.{flow-bounds, Detour, Moved, raised, lowered, pushAll, all-roomy}
 use Rattle.certificates.specs.FreeArcs.{goes, Path, Blocked}
 use Rattle.arc_change.specs.Tight.{Tight}
 use Rattle.arc_change.proofs.Detours.{path-room}

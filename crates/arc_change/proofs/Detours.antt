@@ -12,7 +12,8 @@ use Rattle.laws.specs.Members.{Every, every-map, every-map2}
 use Rattle.network.specs.Network.{Net, arcs, low, up}
 use Rattle.network.specs.Residual.{src, dst}
 use Rattle.certificates.specs.Codes.{even-code, odd-code, even-arc, odd-arc}
-use Rattle.certificates.specs.Push.{InBounds, roomOf, roomy, all-roomy, one-bounds, one-room, all-other, pushOne, pushAll}
+use Rattle.certificates.specs.Room.{roomy, roomOf}
+use Rattle.certificates.specs.Push.{InBounds, all-roomy, one-bounds, one-room, all-other, pushOne, pushAll}
 use Rattle.certificates.specs.FreeArcs.{goes, Path}
 use Rattle.certificates.specs.Graph.{graph}
 use Rattle.pushing.specs.Pushing.{Pushable}

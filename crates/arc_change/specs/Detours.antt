@@ -6,7 +6,8 @@ use lib.ListN.{getD, set}
 use Rattle.laws.specs.Members.{Every}
 use Rattle.laws.specs.Ascending.{Distinct}
 use Rattle.network.specs.Network.{Net, arcs, low}
-use Rattle.certificates.specs.Push.{InBounds, roomOf, pushAll}
+use Rattle.certificates.specs.Room.{roomOf}
+use Rattle.certificates.specs.Push.{InBounds, pushAll}
 use Rattle.pushing.specs.Pushing.{roomAll}
 
 -- the codes have room, and their arcs come after arc k

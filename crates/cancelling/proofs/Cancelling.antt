@@ -18,7 +18,8 @@ use Rattle.laws.specs.Range.{Bounded, bounded-mul, bounded-more, fits}
 use Rattle.laws.specs.Sum.{sum-within}
 use Rattle.network.specs.Network.{Net, arcs, up, cost, on, netOut, costOf}
 use Rattle.network.specs.Residual.{codes, src, dst, Walk, walkCost}
-use Rattle.certificates.specs.Push.{pushAll, roomOf, roomy, all-roomy, InBounds, Trail, all-bounds, all-netOut, all-cost}
+use Rattle.certificates.specs.Room.{roomy, roomOf}
+use Rattle.certificates.specs.Push.{pushAll, all-roomy, InBounds, Trail, all-bounds, all-netOut, all-cost}
 use Rattle.certificates.specs.Graph.{graph, costGraph}
 use Rattle.certificates.specs.Ready.{SmallBounds}
 use Rattle.pushing.specs.Pushing.{roomAll, Pushable}

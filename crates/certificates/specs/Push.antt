@@ -6,12 +6,12 @@ use mathlib.Core.Bool.{Bool, true, false, cond}
 use Prim.Native.Nat.{ℕ, suc, _+_, _-_, _/_, _%_, _≤_, _<_}
 use native.Mathlib.Omega.{arith}
 use native.Mathlib.Decide.{ℕ-discrete}
-use lib.Dec.{eqb, leb}
+use lib.Dec.{eqb}
 use lib.ListN.{length, getD, set, length-set}
 use lib.Seq.{getD-set-same, getD-set-other}
 use lib.IntN.{ℤ, pos, negℤ, _+ℤ_, _-ℤ_, _*ℤ_}
 use lib.Signed.{_≤ℤ_}
-use borrow.Author.Tests.{leb-true, le-leb}
+use borrow.Author.Tests.{le-leb}
 use Rattle.laws.specs.Ascending.{Distinct}
 use Rattle.laws.specs.Divergence.{at, at-same, at-other, ends}
 use Rattle.laws.specs.Equality.{test-same, test-differ}
@@ -22,6 +22,7 @@ use Rattle.network.specs.Network.{Net, arcs, tail, head, low, up, cost, balance
 use Rattle.network.specs.Residual.{either, src, dst, stepCost, walkCost}
 use Rattle.certificates.specs.Codes.{even-code, odd-code, even-arc, odd-arc}
 use Rattle.certificates.specs.Cuts.{Agree}
+use Rattle.certificates.specs.Room.{roomy, roomy-forth, roomy-back, roomy-both, roomOf}
 use Rattle.certificates.specs.Optimality.{reduced, stepReduced}
 
 -- δ more along code c
@@ -78,30 +79,8 @@ module _ (N : Net) (f : List ℕ) (a y : ℕ) (z : ℤ) (len : length f ≡ arcs
       factor : (c x y : ℤ) → c *ℤ x -ℤ c *ℤ y ≡ c *ℤ (x -ℤ y)
       factor c x y = simp ring (omega arith)
 
--- ---- room
--- δ more can go along code c
-abbrev pub roomy : Net → List ℕ → ℕ → ℕ → Bool
-roomy N f δ c = either c (leb (getD f (c / 2) 0 + δ) (up N (c / 2))) (leb (low N (c / 2) + δ) (getD f (c / 2) 0))
-
--- the same as what it asks forward, and backward
-pub roomy-forth : (N : Net) (f : List ℕ) (δ c : ℕ) → roomy N f δ c ≡ true → eqb (c % 2) 0 ≡ true → getD f (c / 2) 0 + δ ≤ up N (c / 2)
-roomy-forth N f δ c r e = leb-true (getD f (c / 2) 0 + δ) (up N (c / 2)) (rw e at r)
-
-pub roomy-back : (N : Net) (f : List ℕ) (δ c : ℕ) → roomy N f δ c ≡ true → eqb (c % 2) 0 ≡ false → low N (c / 2) + δ ≤ getD f (c / 2) 0
-roomy-back N f δ c r e = leb-true (low N (c / 2) + δ) (getD f (c / 2) 0) (rw e at r)
-
-pub roomy-both : (N : Net) (f : List ℕ) (δ c : ℕ) → (eqb (c % 2) 0 ≡ true → getD f (c / 2) 0 + δ ≤ up N (c / 2)) → (eqb (c % 2) 0 ≡ false → low N (c / 2) + δ ≤ getD f (c / 2) 0)
-    → roomy N f δ c ≡ true
-roomy-both N f δ c forth back = go (eqb (c % 2) 0) refl
-  where
-    go : (t : Bool) → eqb (c % 2) 0 ≡ t → roomy N f δ c ≡ true
-    go true e = rw e (le-leb (getD f (c / 2) 0 + δ) (up N (c / 2)) (forth e))
-    go false e = rw e (le-leb (low N (c / 2) + δ) (getD f (c / 2) 0) (back e))
-
--- what can go along code c
-abbrev pub roomOf : Net → List ℕ → ℕ → ℕ
-roomOf N f c = either c (up N (c / 2) - getD f (c / 2) 0) (getD f (c / 2) 0 - low N (c / 2))
-
+-- ---- bounds and room
+-- a number within the bounds for each arc
 pub record InBounds (N : Net) (f : List ℕ) : Type 0 where
   pub all-arcs : length f ≡ arcs N
   pub above : (a : ℕ) → a < arcs N → low N a ≤ getD f a 0

@@ -15,7 +15,8 @@ use Rattle.laws.specs.Members.{Every, every-map}
 use Rattle.laws.specs.Tests.{and-true, and-stops-second}
 use Rattle.network.specs.Network.{Net, arcs}
 use Rattle.network.specs.Residual.{src, dst}
-use Rattle.certificates.specs.Push.{InBounds, roomOf, all-roomy, pushAll}
+use Rattle.certificates.specs.Room.{roomOf}
+use Rattle.certificates.specs.Push.{InBounds, all-roomy, pushAll}
 use Rattle.certificates.specs.Graph.{graph}
 use Rattle.certificates.specs.FreeArcs.{goes, Path, Blocked}
 use Rattle.pushing.specs.Pushing.{roomAll, Pushable}

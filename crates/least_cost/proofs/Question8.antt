@@ -10,13 +10,14 @@ use lib.IntN.{ℤ, pos}
 use borrow.Author.Tests.{eqb-true, eqb-false}
 use Rattle.laws.specs.Linear.{lin, given2}
 use Rattle.network.specs.Network.{Net, WellFormed, IsFlow, LeastCost}
+use Rattle.certificates.specs.Optimality.{feasible-least}
 use Rattle.certificates.specs.Push.{pushAll}
 use Rattle.certificates.specs.Graph.{graph, netWith, costGraph}
 use Rattle.pushing.specs.Pushing.{roomAll}
 use Rattle.relaxation.specs.Labels.{Relaxable}
 use Rattle.search.specs.Search.{QuietLabels, Searched, NegativeCycle}
 use Rattle.cancelling.proofs.Cancelling.{labels-of, cycle-of, cancelled}
-use Rattle.cancelling.proofs.Cheapest.{quiet-least, rerouted-flow}
+use Rattle.cancelling.proofs.Cheapest.{rerouted-flow}
 use Rattle.least_cost.specs.Answers.{Tested}
 use Rattle.least_cost.proofs.Marked.{labels-whole}
 
@@ -41,5 +42,5 @@ module _ (b : List ℤ) (t h l u : List ℕ) (c : List ℤ) (f : List ℕ)
       go : (q : Bool) → eqb r 0 ≡ q → Tested (netWith b t h l u c) f d q
       go true q =
           let s = labels-of (costGraph t h l u c) f 1 d out r S (eqb-true r 0 q) in
-          (quiet-least b t h l u c f ok F (λ v. getD d v (pos 0)) (s .quiet), labels-whole b t h l u c f d s)
+          (feasible-least (netWith b t h l u c) ok f (λ v. getD d v (pos 0)) F (s .feasible), labels-whole b t h l u c f d s)
       go false q = no-cycle (take r out) (cycle-of (costGraph t h l u c) f 1 d out r S (eqb-false r 0 q) .1)

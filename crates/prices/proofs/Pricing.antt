@@ -15,7 +15,7 @@ use Rattle.network.specs.Network.{Net, WellFormed, nodes}
 use Rattle.network.specs.Residual.{codes, src, dst, stepCost, Walk, walkCost, Price}
 use Rattle.certificates.specs.Codes.{either-is}
 use Rattle.certificates.specs.Graph.{netWith, costGraph}
-use Rattle.certificates.specs.Push.{roomy}
+use Rattle.certificates.specs.Room.{roomy}
 use Rattle.relaxation.specs.Labels.{Relaxable, State, state, label, offer, better, relaxed, relaxedAll, Sized}
 use Rattle.relaxation.specs.Potentials.{Settled}
 use Rattle.relaxation.proofs.Codes.{src-in, dst-in}
@@ -84,7 +84,7 @@ module _ (N : Net) (f : List ℕ) (ok : Relaxable N f) where
     -- a round that changed nothing: no walk costs less
     pub prices-quiet : last ≡ 64 → PriceLabels N f d′
     prices-quiet q =
-        let (b, c) = left-quiet N f ok 1 d p (S .sized .labels-len) d′ p′ last e q k (S .at-most) in
+        let (b, c) = left-quiet N f ok 1 d p (S .sized .labels-len) d′ p′ last e q in
         subst (PriceLabels N f) (sym b) (record {
           len = S .sized .labels-len;
           walked = λ v h. (let (u, cs, t, e) = S .walked v h in (u, cs, trip-walk N f 1 (omega arith) u v cs t, e));
@@ -97,7 +97,7 @@ module _ (N : Net) (f : List ℕ) (ok : Relaxable N f) where
   prices-all d p S q = record {
     len = S .sized .labels-len;
     walked = λ v h. (let (u, cs, t, e) = S .walked v h in (u, cs, trip-walk N f 1 (omega arith) u v cs t, e));
-    least = λ u v cs h w. (let r = shorten N f 1 (ok .graph) (q .potential) (q .quiet) u v cs h (walk-trip N f u v cs w) in
+    least = λ u v cs h w. (let r = shorten N f 1 (ok .graph) (q .potential) (q .feasible) u v cs h (walk-trip N f u v cs w) in
         given2 (S .at-most u v (r .walk) (omega (arith, r .few)) (r .leads)) (r .costs) (simp lin (omega arith)));
   }
 

@@ -12,8 +12,9 @@ use Rattle.laws.specs.Linear.{lin, given, given2, given3}
 use Rattle.laws.specs.Pigeonhole.{Twice, pigeon}
 use Rattle.network.specs.Network.{Net}
 use Rattle.network.specs.Residual.{src, dst, stepCost, walkCost}
+use Rattle.network.specs.Potential.{FeasiblePotential}
+use Rattle.certificates.specs.Room.{roomy}
 use Rattle.relaxation.specs.Labels.{SmallGraph}
-use Rattle.relaxation.specs.Potentials.{Quiet}
 use Rattle.relaxation.proofs.Codes.{src-in}
 use Rattle.relaxation.proofs.Trips.{Trip}
 
@@ -56,12 +57,12 @@ module _ (N : Net) (f : List ℕ) (δ : ℕ) where
       more : (i j : ℕ) → suc (i + j) ≡ suc i + j
       more i j = omega arith
 
-  module _ (ok : SmallGraph N) (π : ℕ → ℤ) (q : Quiet N f δ π) where
+  module _ (ok : SmallGraph N) (π : ℕ → ℤ) (q : FeasiblePotential N (roomy N f δ) π) where
     -- a walk costs at least what the potential rises
     pub rise : (u v : ℕ) (cs : List ℕ) → Trip N f δ u v cs → (π v -ℤ π u) ≤ℤ walkCost N cs
     rise u v [] e = subst (λ x. (π x -ℤ π u) ≤ℤ pos 0) e (simp lin (omega arith))
     rise u v (c ∷ cs) (a, b, e, t) =
-        sum (π v) (π (dst N c)) (π (src N c)) (π u) (stepCost N c) (walkCost N cs) (ap π (sym e)) (q .reduced c a b) (rise u (src N c) cs t)
+        sum (π v) (π (dst N c)) (π (src N c)) (π u) (stepCost N c) (walkCost N cs) (ap π (sym e)) (q c a b) (rise u (src N c) cs t)
       where
         sum : (y d s u c w : ℤ) → y ≡ d → d ≤ℤ (s +ℤ c) → (s -ℤ u) ≤ℤ w → (y -ℤ u) ≤ℤ (c +ℤ w)
         sum y d s u c w e h k = given3 e h k (simp lin (omega arith))

@@ -11,7 +11,8 @@ use Rattle.laws.specs.Members.{Every}
 use Rattle.laws.specs.Tests.{and-true}
 use Rattle.network.specs.Network.{Net, arcs, low, up}
 use Rattle.network.specs.Residual.{usable}
-use Rattle.certificates.specs.Push.{Way, roomOf}
+use Rattle.certificates.specs.Room.{roomOf}
+use Rattle.certificates.specs.Push.{Way}
 use Rattle.certificates.specs.FreeArcs.{goes}
 use Rattle.pushing.specs.Pushing.{roomAll}
 

@@ -7,7 +7,8 @@ use native.Mathlib.Omega.{arith}
 use lib.Dec.{eqb}
 use lib.ListN.{length, getD}
 use Rattle.network.specs.Network.{Net, arcs}
-use Rattle.certificates.specs.Push.{InBounds, roomy-forth, roomy-back, one-bounds, others-room, pushOne, pushAll}
+use Rattle.certificates.specs.Room.{roomy-forth, roomy-back}
+use Rattle.certificates.specs.Push.{InBounds, one-bounds, others-room, pushOne, pushAll}
 use Rattle.certificates.specs.Ready.{SmallBounds}
 use Rattle.pushing.specs.Pushing.{Pushable}
 

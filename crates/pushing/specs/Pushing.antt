@@ -6,7 +6,8 @@ use Prim.Native.Nat.{ℕ, _+_, _<_, min}
 use Rattle.laws.specs.Members.{Every}
 use Rattle.laws.specs.Ascending.{Distinct}
 use Rattle.network.specs.Network.{Net, arcs}
-use Rattle.certificates.specs.Push.{InBounds, roomOf, roomy}
+use Rattle.certificates.specs.Room.{roomy, roomOf}
+use Rattle.certificates.specs.Push.{InBounds}
 
 -- the least room along the codes, at most cap
 abbrev pub roomAll : Net → List ℕ → ℕ → List ℕ → ℕ

@@ -7,7 +7,8 @@ ghost use lib.Dec.{eqb};
 ghost use lib.ListN.{length, getD, take};
 ghost use Rattle.laws.specs.Members.{Every};
 ghost use Rattle.certificates.specs.Graph.{graph};
-ghost use Rattle.certificates.specs.Push.{InBounds, roomOf, pushOne, pushAll};
+ghost use Rattle.certificates.specs.Room.{roomOf};
+ghost use Rattle.certificates.specs.Push.{InBounds, pushOne, pushAll};
 ghost use Rattle.certificates.specs.Ready.{SmallBounds};
 ghost use Rattle.pushing.specs.Pushing.{roomAll, Pushable};
 

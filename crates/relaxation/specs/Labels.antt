@@ -9,7 +9,7 @@ use lib.Signed.{ltZ}
 use Rattle.laws.specs.Range.{Bounded}
 use Rattle.network.specs.Network.{Net, arcs, tail, head, low, up, cost}
 use Rattle.network.specs.Residual.{src, dst, stepCost}
-use Rattle.certificates.specs.Push.{roomy}
+use Rattle.certificates.specs.Room.{roomy}
 
 -- at most 512 arcs, with ends below 64
 pub record SmallGraph (N : Net) : Type 0 where

@@ -14,7 +14,7 @@ use Rattle.laws.specs.Ascending.{Distinct}
 use Rattle.laws.specs.Pigeonhole.{Twice, pigeon}
 use Rattle.network.specs.Network.{Net}
 use Rattle.network.specs.Residual.{codes, src, dst, stepCost, walkCost, Cycle}
-use Rattle.certificates.specs.Push.{roomy}
+use Rattle.certificates.specs.Room.{roomy}
 use Rattle.relaxation.specs.Labels.{SmallGraph}
 use Rattle.relaxation.proofs.Trips.{Trip, trip-walk}
 use Rattle.relaxation.proofs.Rounds.{AtMost}

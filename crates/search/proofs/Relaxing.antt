@@ -17,7 +17,7 @@ use Rattle.laws.specs.Store.{set-cases}
 use Rattle.laws.specs.Pigeonhole.{Found, find}
 use Rattle.network.specs.Network.{Net}
 use Rattle.network.specs.Residual.{codes, src, dst, stepCost}
-use Rattle.certificates.specs.Push.{roomy}
+use Rattle.certificates.specs.Room.{roomy}
 use Rattle.relaxation.specs.Labels.{SmallGraph, Relaxable, State, label, offer, better, relaxed, relaxedAll}
 use Rattle.relaxation.proofs.Codes.{src-in, dst-in}
 use Rattle.search.specs.Predecessors.{pred, back, backCost, Backs, Round, Labelled}

@@ -1,6 +1,6 @@
 -- The rounds of the search: what holds before each, and what each way out shows.
 use mathlib.Core.Path.{_≡_, refl, sym, ap, subst, _∙_}
-use mathlib.Core.List.{List, _∷_}
+use mathlib.Core.List.{List, [], _∷_}
 use Prim.Native.Nat.{ℕ, zero, suc, _+_, _*_, _≤_, _<_}
 use native.Mathlib.Omega.{arith}
 use native.Mathlib.Numerals.{add-one}
@@ -88,10 +88,11 @@ module _ (N : Net) (f : List ℕ) (ok : Relaxable N f) (δ : ℕ) where
 
     pub quiet-of : last ≡ 64 → QuietLabels N f δ d′
     quiet-of q =
-        let (b, c) = left-quiet N f ok δ d p (S .labelled .labels-len) d′ p′ last e q k (S .at-most) in
+        let (b, c) = left-quiet N f ok δ d p (S .labelled .labels-len) d′ p′ last e q in
         subst (QuietLabels N f δ) (sym b) (record {
           len = S .labelled .labels-len;
-          quiet = c;
+          low = λ v. S .at-most v v [] (omega arith) refl;
+          feasible = c;
           small = λ v h. bounded-more (omega (arith, S .early)) (S .sized .small v h);
         })
 

@@ -8,7 +8,7 @@ use lib.IntN.{ℤ, pos, _+ℤ_}
 use lib.Signed.{_≤ℤ_, _<ℤ_}
 use Rattle.network.specs.Network.{Net}
 use Rattle.network.specs.Residual.{codes, src, dst, stepCost}
-use Rattle.certificates.specs.Push.{roomy}
+use Rattle.certificates.specs.Room.{roomy}
 
 -- the code that gave node v its label
 abbrev pub pred : List ℕ → ℕ → ℕ

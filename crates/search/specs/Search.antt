@@ -5,18 +5,19 @@ use mathlib.Core.List.{List}
 use Prim.Native.Nat.{ℕ, _≤_, _<_}
 use lib.ListN.{length, getD, take}
 use lib.IntN.{ℤ, pos}
-use lib.Signed.{_<ℤ_}
+use lib.Signed.{_≤ℤ_, _<ℤ_}
 use Rattle.laws.specs.Members.{Every}
 use Rattle.laws.specs.Range.{Bounded}
 use Rattle.network.specs.Network.{Net}
 use Rattle.network.specs.Residual.{walkCost, Cycle}
-use Rattle.certificates.specs.Push.{roomy}
-use Rattle.relaxation.specs.Potentials.{Quiet}
+use Rattle.network.specs.Potential.{FeasiblePotential}
+use Rattle.certificates.specs.Room.{roomy}
 
--- no negative cycle has room for δ, under labels of 64 nodes, at most 10¹² either way
+-- labels of 64 nodes, from −10¹² to 0, are a feasible potential of the residual arcs with room for δ: no negative cycle has room for δ
 pub record QuietLabels (N : Net) (f : List ℕ) (δ : ℕ) (d : List ℤ) : Type 0 where
   pub len : length d ≡ 64
-  pub quiet : Quiet N f δ (λ v. getD d v (pos 0))
+  pub low : (v : ℕ) → getD d v (pos 0) ≤ℤ pos 0
+  pub feasible : FeasiblePotential N (roomy N f δ) (λ v. getD d v (pos 0))
   pub small : (v : ℕ) → v < 64 → Bounded 1000000000000 (getD d v (pos 0))
 
 -- a residual cycle of cost below 0, each of its arcs with room for δ

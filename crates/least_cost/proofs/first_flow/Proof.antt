@@ -47,7 +47,7 @@ module _ (k : tie.After-cheapen) where
   least : LeastCost (whole start) flow
   least =
       cheapest (start .args .balances .now) (start .args .tails .now) (start .args .heads .now) (start .args .lows .now) (start .args .ups .now) (start .args .costs .now) (k .before .before .before .before .before .before .starting-flow .last .1 .1 .1 .1 .1 .1 .0) flow (start .pre .0 .well-formed) (flow-of (k .before .before .before)) (k .cheapen .ensures .0)
-      (λ v. getD labels v (pos 0)) (k .cheapen .ensures .1 .quiet)
+      (λ v. getD labels v (pos 0)) (k .cheapen .ensures .1 .feasible)
 
 slice-aggregate-mark : tie.Need-slice-aggregate-mark
 slice-aggregate-mark c = sym (c .before .before .before .before .before .cheapen .ensures .1 .len)
