@@ -2,8 +2,9 @@
 // that it is within the bounds: whoever needs a flow tests it.
 ghost use Prim.Native.Nat.{ℕ, _≤_, _<_};
 ghost use lib.ListN.{length, getD};
+ghost use Rattle.certificates.specs.Graph.{graph};
+ghost use Rattle.certificates.specs.Push.{InBounds};
 ghost use Rattle.simplex.specs.Lengths.{SameLengths};
-ghost use Rattle.simplex.specs.Bounds.{WithinBounds};
 
 // The nodes of the tree are those of the network and the root; arc m + v joins node v to the root. Code 2a is the arc a from its tail to
 // its head, 2a + 1 the same arc back. What an array says of a code: its head, its room, its cost.
@@ -608,7 +609,7 @@ pub fn guess(
     flow: &mut [u32],
 )
     requires { ⌜ SameLengths (length (now flow)) (now tails) (now heads) (now lows) (now ups) (now costs) × (length (now balances) ≤ 64) × ((a : ℕ) → a < length (now flow) → getD (now lows) a 0 ≤ getD (now ups) a 0) ⌝ }
-    ensures { λ _. ⌜ WithinBounds (now (lows .entry)) (now (ups .entry)) (now (flow .exit)) ⌝ }
+    ensures { λ _. ⌜ InBounds (graph (now (tails .entry)) (now (heads .entry)) (now (lows .entry)) (now (ups .entry))) (now (flow .exit)) ⌝ }
 {
     let mut room = [0u32; 2048];
     optimise(tails, heads, lows, ups, costs, balances, &mut room);
