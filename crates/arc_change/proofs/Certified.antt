@@ -12,7 +12,7 @@ use lib.IntN.{ℤ, pos}
 use Rattle.laws.specs.Members.{Every, every-map2}
 use Rattle.laws.specs.Tests.{and-true, true-and}
 use Rattle.network.specs.Network.{Net, arcs, tail, head, low, up, LeastCost}
-use Rattle.network.specs.Residual.{usable}
+use Rattle.network.specs.Residual.{codes, usable}
 use Rattle.certificates.specs.Optimality.{reduced, optimal-any}
 use Rattle.certificates.specs.Cuts.{Closed, closed-steps, no-more, no-less}
 use Rattle.certificates.specs.Room.{roomOf}
@@ -39,7 +39,7 @@ module _ (N : Net) (f : List ℕ) (tight : List Bool) (k : ℕ) (π : ℕ → �
         trail = p .trail;
         distinct = p .distinct;
         room = all-roomy N f δ cs (flow-bounds N f (ti .least .flow)) (q .codes-in) h;
-        tight = every-map2 (λ c. c < arcs N + arcs N) (λ c. goes N f tight c ≡ true) (λ c. reduced N π (c / 2) ≡ pos 0) cs (λ c l g. ti .marked (c / 2) (omega arith) (and-true (getD tight (c / 2) false) (usable N f c) g .0)) (q .codes-in) (p .passes);
+        tight = every-map2 (λ c. c < codes N) (λ c. goes N f tight c ≡ true) (λ c. reduced N π (c / 2) ≡ pos 0) cs (λ c l g. ti .marked (c / 2) (omega arith) (and-true (getD tight (c / 2) false) (usable N f c) g .0)) (q .codes-in) (p .passes);
         above = q .above;
       }
 

@@ -10,7 +10,7 @@ use lib.Seq.{getD-set-same}
 use borrow.Author.Tests.{le-leb}
 use Rattle.laws.specs.Members.{Every, every-map, every-map2}
 use Rattle.network.specs.Network.{Net, arcs, low, up}
-use Rattle.network.specs.Residual.{src, dst}
+use Rattle.network.specs.Residual.{codes, src, dst}
 use Rattle.certificates.specs.Codes.{even-code, odd-code, even-arc, odd-arc}
 use Rattle.certificates.specs.Room.{roomy, roomOf}
 use Rattle.certificates.specs.Push.{InBounds, all-roomy, one-bounds, one-room, all-other, pushOne, pushAll}
@@ -23,7 +23,7 @@ use Rattle.arc_change.specs.Detours.{RoomAbove, takes, TakenOff, PutOn}
 
 pub path-room : (N : Net) (f : List ℕ) (free : List Bool) (s t k : ℕ) (cs : List ℕ) → Path N f free s t (suc k) cs → RoomAbove N f k cs
 path-room N f free s t k cs p = record {
-  codes-in = way-codes (arcs N + arcs N) (src N) (dst N) s t cs (p .trail);
+  codes-in = way-codes (codes N) (src N) (dst N) s t cs (p .trail);
   distinct = p .distinct;
   above = every-map (λ c. suc k + suc k ≤ c) (λ c. k < c / 2) cs (λ c h. omega arith) (p .low);
   room = every-map (λ c. goes N f free c ≡ true) (λ c. 0 < roomOf N f c) cs (goes-room N f free) (p .passes);
@@ -31,7 +31,7 @@ path-room N f free s t k cs p = record {
 
 module _ (N : Net) (f : List ℕ) (k : ℕ) (cs : List ℕ) (p : RoomAbove N f k cs) where
   -- after code c of arc k itself
-  after-code : (δ c : ℕ) → InBounds N f → c < arcs N + arcs N → c / 2 ≡ k → roomy N f δ c ≡ true → Every (λ c. δ ≤ roomOf N f c) cs → Pushable N δ (pushOne δ c f) cs
+  after-code : (δ c : ℕ) → InBounds N f → c < codes N → c / 2 ≡ k → roomy N f δ c ≡ true → Every (λ c. δ ≤ roomOf N f c) cs → Pushable N δ (pushOne δ c f) cs
   after-code δ c b l e room h = record {
     bounds = one-bounds N δ f c b l room;
     codes-in = p .codes-in;

@@ -15,7 +15,7 @@ use Rattle.laws.specs.Integers.{*-nonneg, times-same}
 use Rattle.laws.specs.Linear.{lin, ring, given, given2, given3, given4}
 use Rattle.laws.specs.Sum.{sum, sum-cong, sum-mono, sum-none, sum-term}
 use Rattle.network.specs.Network.{Net, nodes, arcs, tail, head, low, up, balance, on, netOut, IsFlow, LeastCost, WellFormed}
-use Rattle.network.specs.Residual.{src, dst, usable}
+use Rattle.network.specs.Residual.{codes, src, dst, usable}
 use Rattle.certificates.specs.Codes.{even-code, odd-code, even-arc, odd-arc}
 use Rattle.certificates.specs.Optimality.{circulation, weighted}
 
@@ -36,7 +36,7 @@ pub record Closed (N : Net) (f : List ℕ) (free : ℕ → Type 0) (S : ℕ → 
   pub back : (a : ℕ) → a < arcs N → free a → S (head N a) ≡ true → low N a < getD f a 0 → S (tail N a) ≡ true
 
 abbrev pub ClosedSteps : Net → List ℕ → (ℕ → Type 0) → (ℕ → Bool) → Type 0
-ClosedSteps N f free S = (c : ℕ) → c < arcs N + arcs N → free (c / 2) → usable N f c ≡ true → S (src N c) ≡ true → S (dst N c) ≡ true
+ClosedSteps N f free S = (c : ℕ) → c < codes N → free (c / 2) → usable N f c ≡ true → S (src N c) ≡ true → S (dst N c) ≡ true
 
 pub closed-steps : (N : Net) (f : List ℕ) (free : ℕ → Type 0) (S : ℕ → Bool) → ClosedSteps N f free S → Closed N f free S
 closed-steps N f free S p = record { out = forth; back = back }

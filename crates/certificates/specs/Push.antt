@@ -19,7 +19,7 @@ use Rattle.laws.specs.Linear.{lin, ring, given, given2, given3}
 use Rattle.laws.specs.Members.{Every, every-map2}
 use Rattle.laws.specs.Sum.{sum-change}
 use Rattle.network.specs.Network.{Net, arcs, tail, head, low, up, cost, balance, on, netOut, IsFlow, costOf, LeastCost}
-use Rattle.network.specs.Residual.{either, src, dst, stepCost, walkCost}
+use Rattle.network.specs.Residual.{codes, either, src, dst, stepCost, walkCost}
 use Rattle.certificates.specs.Codes.{even-code, odd-code, even-arc, odd-arc}
 use Rattle.certificates.specs.Cuts.{Agree}
 use Rattle.certificates.specs.Room.{roomy, roomy-forth, roomy-back, roomy-both, roomOf}
@@ -89,13 +89,13 @@ pub record InBounds (N : Net) (f : List ℕ) : Type 0 where
 pub flow-bounds : (N : Net) (f : List ℕ) → IsFlow N f → InBounds N f
 flow-bounds N f h = record { all-arcs = h .all-arcs; above = h .above; below = h .below }
 
-pub room-roomy : (N : Net) (f : List ℕ) (δ c : ℕ) → InBounds N f → c < arcs N + arcs N → δ ≤ roomOf N f c → roomy N f δ c ≡ true
+pub room-roomy : (N : Net) (f : List ℕ) (δ c : ℕ) → InBounds N f → c < codes N → δ ≤ roomOf N f c → roomy N f δ c ≡ true
 room-roomy N f δ c b l h = roomy-both N f δ c
     (λ e. (let r : δ ≤ up N (c / 2) - getD f (c / 2) 0 = rw e at h in omega (arith, b .below (c / 2) (omega arith))))
     (λ e. (let r : δ ≤ getD f (c / 2) 0 - low N (c / 2) = rw e at h in omega (arith, b .above (c / 2) (omega arith))))
 
-pub all-roomy : (N : Net) (f : List ℕ) (δ : ℕ) (cs : List ℕ) → InBounds N f → Every (λ c. c < arcs N + arcs N) cs → Every (λ c. δ ≤ roomOf N f c) cs → Every (λ c. roomy N f δ c ≡ true) cs
-all-roomy N f δ cs b = every-map2 (λ c. c < arcs N + arcs N) (λ c. δ ≤ roomOf N f c) (λ c. roomy N f δ c ≡ true) cs (λ c l r. room-roomy N f δ c b l r)
+pub all-roomy : (N : Net) (f : List ℕ) (δ : ℕ) (cs : List ℕ) → InBounds N f → Every (λ c. c < codes N) cs → Every (λ c. δ ≤ roomOf N f c) cs → Every (λ c. roomy N f δ c ≡ true) cs
+all-roomy N f δ cs b = every-map2 (λ c. c < codes N) (λ c. δ ≤ roomOf N f c) (λ c. roomy N f δ c ≡ true) cs (λ c l r. room-roomy N f δ c b l r)
 
 pos-add : (x δ : ℕ) → pos (x + δ) ≡ pos x +ℤ pos δ
 pos-add x δ = refl
@@ -112,7 +112,7 @@ same-way c d e ne true p q = ne (omega (arith, test-same (c % 2) 0 p, test-same 
 same-way c d e ne false p q = ne (omega (arith, test-differ (c % 2) 0 p, test-differ (d % 2) 0 q))
 
 module _ (N : Net) (δ : ℕ) where
-  module _ (f : List ℕ) (c : ℕ) (b : InBounds N f) (l : c < arcs N + arcs N) (room : roomy N f δ c ≡ true) where
+  module _ (f : List ℕ) (c : ℕ) (b : InBounds N f) (l : c < codes N) (room : roomy N f δ c ≡ true) where
     arc-in : c / 2 < arcs N
     arc-in = omega arith
 
@@ -197,7 +197,7 @@ way-append hi sr ds [] k u v w p q = subst (λ (i : ℕ). Way hi sr ds u i k) p 
 way-append hi sr ds (c ∷ l) k u v w p q = (p .0, p .1, way-append hi sr ds l k u v (sr c) (p .2) q)
 
 abbrev pub Trail : Net → ℕ → ℕ → List ℕ → Type 0
-Trail N u v cs = Way (arcs N + arcs N) (src N) (dst N) u v cs
+Trail N u v cs = Way (codes N) (src N) (dst N) u v cs
 
 module _ (N : Net) (δ : ℕ) where
   pub all-bounds : (cs : List ℕ) (f : List ℕ) (u v : ℕ) → InBounds N f → Trail N u v cs → Distinct cs → Every (λ c. roomy N f δ c ≡ true) cs → InBounds N (pushAll δ cs f)
@@ -318,7 +318,7 @@ module _ (N : Net) (π : ℕ → ℤ) where
     pub same-before : Agree k f f′
     pub at-k : getD f′ k 0 ≡ y
 
-  moved : (δ : ℕ) (f : List ℕ) (k c : ℕ) (cs : List ℕ) → c / 2 ≡ k → c < arcs N + arcs N → LeastCost N f → reduced N π k ≡ pos 0 → roomy N f δ c ≡ true
+  moved : (δ : ℕ) (f : List ℕ) (k c : ℕ) (cs : List ℕ) → c / 2 ≡ k → c < codes N → LeastCost N f → reduced N π k ≡ pos 0 → roomy N f δ c ≡ true
       → Detour δ f k (dst N c) (src N c) cs
       → (y : ℕ) → getD (pushOne δ c f) k 0 ≡ y → Moved f (pushAll δ (c ∷ cs) f) k y
   moved δ f k c cs e l lf ti room de y at-y = record {

@@ -13,8 +13,8 @@ use Rattle.laws.specs.Integers.{leZ-true, leZ-or-lt}
 use Rattle.laws.specs.Linear.{lin, given3}
 use Rattle.laws.specs.Members.{Every, every-map}
 use Rattle.laws.specs.Tests.{and-true, and-stops-second}
-use Rattle.network.specs.Network.{Net, arcs}
-use Rattle.network.specs.Residual.{src, dst}
+use Rattle.network.specs.Network.{Net}
+use Rattle.network.specs.Residual.{codes, src, dst}
 use Rattle.certificates.specs.Room.{roomOf}
 use Rattle.certificates.specs.Push.{InBounds, all-roomy, pushAll}
 use Rattle.certificates.specs.Graph.{graph}
@@ -40,9 +40,9 @@ module _ (N : Net) (f : List ℕ) (free : List Bool) (s t most : ℕ) (x : ℤ) 
 path-able : (N : Net) (f : List ℕ) (free : List Bool) (s t from δ : ℕ) (cs : List ℕ) → InBounds N f → Path N f free s t from cs → Every (λ c. δ ≤ roomOf N f c) cs → Pushable N δ f cs
 path-able N f free s t from δ cs b p h = record {
   bounds = b;
-  codes-in = way-codes (arcs N + arcs N) (src N) (dst N) s t cs (p .trail);
+  codes-in = way-codes (codes N) (src N) (dst N) s t cs (p .trail);
   distinct = p .distinct;
-  room = all-roomy N f δ cs b (way-codes (arcs N + arcs N) (src N) (dst N) s t cs (p .trail)) h;
+  room = all-roomy N f δ cs b (way-codes (codes N) (src N) (dst N) s t cs (p .trail)) h;
 }
 
 able-without-heads : (t h l u : List ℕ) (δ : ℕ) (f cs : List ℕ) → Pushable (graph t h l u) δ f cs → Pushable (graph t t l u) δ f cs
