@@ -1,5 +1,5 @@
-// A walk through the full list of a network, as a state by value: the line that it stands on, its cost, and the marks of the arcs that may
-// differ between two lines, which are worked out once for the whole list.
+// A walk through the full list of a network, as a state by value: the line that it stands on, its cost, and marks on arcs, worked out once for
+// the whole list: an arc without a mark has one number in all lines.
 ghost use mathlib.Core.Path.{_≡_};
 ghost use Prim.Native.Nat.{ℕ, _+_, _≤_, _<_};
 ghost use lib.ListN.{getD, take};

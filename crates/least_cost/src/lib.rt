@@ -45,7 +45,8 @@ fn mark(
     costs::mark_tight(tails, heads, costs, labels, tight);
 }
 
-// The first flow, and its marks; false if there is none. A list begins here, so the marks are narrowed: a single step would not repay it.
+// The first flow, and its marks; false if there is none. A walk through a whole list may follow, so the marks are narrowed, which one step
+// (after `mark_if_least`) would not repay.
 pub fn first_flow(
     tails: &[u8],
     heads: &[u8],

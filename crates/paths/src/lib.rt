@@ -16,6 +16,7 @@ pub enum Route {
 }
 
 // Code c leads from u to v, and goes if `on`: v is reached if u is. How many nodes are reached now.
+// `count` is at most 64 before an arc, and so at most 65 before its second code.
 fn spread(
     rank: &mut [usize],
     via: &mut [usize],
@@ -25,7 +26,7 @@ fn spread(
     v: usize,
     c: usize,
 ) -> usize
-    requires { ⌜ (u < length (now rank)) × (v < length (now rank)) × (v < length (now via)) × (count < 1000) ⌝ }
+    requires { ⌜ (u < length (now rank)) × (v < length (now rank)) × (v < length (now via)) × (count ≤ 65) ⌝ }
     ensures { λ r. ⌜ Spread on (now (rank .entry)) (now (via .entry)) count u v c (now (rank .exit)) (now (via .exit)) r ⌝ }
 {
     if !on {
@@ -57,7 +58,7 @@ fn spread_arc(
     count: usize,
     a: usize,
 ) -> usize
-    requires { ⌜ Searchable (length (now rank)) (graph (now tails) (now heads) (now lows) (now ups)) (now flow) (now free) × (length (now via) ≡ length (now rank)) × (count < 900) × (a < length (now tails)) ⌝ }
+    requires { ⌜ Searchable (length (now rank)) (graph (now tails) (now heads) (now lows) (now ups)) (now flow) (now free) × (length (now via) ≡ length (now rank)) × (count ≤ 64) × (a < length (now tails)) ⌝ }
     ensures { λ r. ⌜ SpreadArc (graph (now (tails .entry)) (now (heads .entry)) (now (lows .entry)) (now (ups .entry))) (now (flow .entry)) (now (free .entry)) a (now (rank .entry)) (now (via .entry)) count (now (rank .exit)) (now (via .exit)) r ⌝ }
 {
     if !free[a] {

@@ -34,11 +34,11 @@ push-step N δ goal cur l c rest e t cur′ p = rw p (go (rw e at t))
 
 -- what pushing along the first code asks
 pub push-asks : (N : Net) (δ : ℕ) (goal cur l : List ℕ) (c : ℕ) (rest : List ℕ) → SmallBounds N → l ≡ c ∷ rest → PushTurn N δ goal cur l
-    → (c / 2 < length cur) × (eqb (c % 2) 0 ≡ true → getD cur (c / 2) 0 + δ ≤ 4000000000) × (eqb (c % 2) 0 ≡ false → δ ≤ getD cur (c / 2) 0)
+    → (c / 2 < length cur) × (eqb (c % 2) 0 ≡ true → getD cur (c / 2) 0 + δ ≤ 1000000) × (eqb (c % 2) 0 ≡ false → δ ≤ getD cur (c / 2) 0)
 push-asks N δ goal cur l c rest z e t = go (rw e at t)
   where
     go : PushTurn N δ goal cur (c ∷ rest)
-        → (c / 2 < length cur) × (eqb (c % 2) 0 ≡ true → getD cur (c / 2) 0 + δ ≤ 4000000000) × (eqb (c % 2) 0 ≡ false → δ ≤ getD cur (c / 2) 0)
+        → (c / 2 < length cur) × (eqb (c % 2) 0 ≡ true → getD cur (c / 2) 0 + δ ≤ 1000000) × (eqb (c % 2) 0 ≡ false → δ ≤ getD cur (c / 2) 0)
     go t =
         let a = t .able in
         let k : c / 2 < arcs N = omega (arith, a .codes-in .0) in

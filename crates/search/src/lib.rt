@@ -9,7 +9,7 @@ ghost use Rattle.relaxation.specs.Labels.{SmallGraph, Relaxable};
 ghost use Rattle.search.specs.Predecessors.{Returns, WentBack, Collected};
 ghost use Rattle.search.specs.Search.{Searched};
 
-// 64 predecessors back from v, or 64 where a node without one is met.
+// The node 64 predecessors back from v, which is on a cycle; or 64, no node, where one without a predecessor is met.
 fn go_back(tails: &[u8], heads: &[u8], preds: &[u16], v: usize) -> usize
     requires { ⌜ SmallGraph (costGraph (now tails) (now heads) [] [] []) × (length (now preds) ≡ 64) × (v < 64) ⌝ }
     ensures { λ r. ⌜ WentBack (costGraph (now (tails .entry)) (now (heads .entry)) [] [] []) (now (preds .entry)) v r ⌝ }
@@ -55,7 +55,8 @@ fn clear(labels: &mut [i64])
     }
 }
 
-// A residual cycle of negative cost, each of its arcs with room for `need` more: its codes, the last first, and how many; or 0, and labels that show there is none.
+// A residual cycle of negative cost with room for `need` more on each arc (with 1, any): its codes, the last first, and how many;
+// or 0, and labels that show that there is none.
 pub fn find_cycle(
     tails: &[u8],
     heads: &[u8],
@@ -72,7 +73,9 @@ pub fn find_cycle(
 {
     clear(labels);
     let mut preds = [65535u16; 64];
+    // The rounds so far, which are fewer than 64. Only the proof reads it.
     let mut k: usize = 0;
+    // A node on a cycle, or 64 after a round that changed no label.
     let node = 'rounds: loop {
         let last = relaxation::round(
             tails,

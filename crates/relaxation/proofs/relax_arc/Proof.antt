@@ -75,10 +75,10 @@ module _ (r : tie.After-relax) where
   forth : state (r .relax .last .0) (r .relax .last .1 .0) (r .relax .result) ≡ relaxed (net entry) (entry .args .flow .now) (entry .args .need) (entry .args .a + entry .args .a) begun
   forth = r .relax .ensures ∙ forward (net entry) (entry .args .flow .now) (entry .args .need) (entry .args .a) begun _ (cost-read (r .before .before .before .before .before))
 
-  sized : Sized 90001000000 (r .relax .last .0) (r .relax .last .1 .0)
+  sized : Sized 65537000000 (r .relax .last .0) (r .relax .last .1 .0)
   sized =
-      subst (λ (S : State). Sized 90001000000 (S .labels) (S .preds)) (sym forth)
-      (one-sized (net entry) (entry .args .flow .now) (ok entry) (entry .args .need) 90000000000 begun (entry .args .a + entry .args .a) (omega (arith, inside entry)) (entry .pre .1))
+      subst (λ (S : State). Sized 65537000000 (S .labels) (S .preds)) (sym forth)
+      (one-sized (net entry) (entry .args .flow .now) (ok entry) (entry .args .need) 65536000000 begun (entry .args .a + entry .args .a) (omega (arith, inside entry)) (entry .pre .1))
 
   in-labels : {v : ℕ} → v < 64 → v < length (r .relax .last .0)
   in-labels h = omega (arith, sized .labels-len)
