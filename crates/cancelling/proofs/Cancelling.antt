@@ -77,10 +77,10 @@ cycle-of N f δ d out r (found h C) ne = (h, C)
 -- ---- the same of the lists that the code holds
 module _ (t h l u : List ℕ) (k : List ℤ) (f : List ℕ) (ok : Relaxable (costGraph t h l u k) f) where
   pub small-of : SmallBounds (graph t t l u)
-  small-of = record { few = ok .graph .few; lows-len = ok .lows-len; ups-len = ok .ups-len; ups-small = ok .up-small }
+  small-of = let z = ok .small in record { few = z .few; lows-len = z .lows-len; ups-len = z .ups-len; ups-small = z .ups-small }
 
   pub bounds-of : InBounds (graph t t l u) f
-  bounds-of = record { all-arcs = ok .flow-len; above = ok .low-flow; below = ok .flow-up }
+  bounds-of = let b = ok .bounds in record { all-arcs = b .all-arcs; above = b .above; below = b .below }
 
   pub codes-of : (δ : ℕ) (cs : List ℕ) → NegativeCycle (costGraph t h l u k) f δ cs → Every (λ c. c < length t + length t) cs
   codes-of δ cs C =
@@ -98,37 +98,26 @@ module _ (t h l u : List ℕ) (k : List ℤ) (f : List ℕ) (ok : Relaxable (cos
   pub cancelled : (δ : ℕ) (cs : List ℕ) → NegativeCycle (costGraph t h l u k) f δ cs → (d : ℕ) → d ≡ roomAll (graph t t l u) f 1000000 cs → (g : List ℕ) → g ≡ pushAll d cs f
       → Rerouted (costGraph t h l u k) f g × (costOf (costGraph t h l u k) g <ℤ costOf (costGraph t h l u k) f)
   cancelled δ cs C d e g q =
-      let b : InBounds (costGraph t h l u k) f = record { all-arcs = ok .flow-len; above = ok .low-flow; below = ok .flow-up } in
       let r : Every (λ c. d ≤ roomOf (costGraph t h l u k) f c) cs = rw e (room-each (graph t t l u) f 1000000 cs) in
       let p : 0 < d = rw e (room-pos (graph t t l u) f 1000000 cs (omega arith) (walk-room (costGraph t h l u k) f (C .cycle .node) (C .cycle .node) cs (C .cycle .closed))) in
-      rw q (pushed (costGraph t h l u k) f b δ cs C d r, cheaper (costGraph t h l u k) f b δ cs C d r p)
+      rw q (pushed (costGraph t h l u k) f (ok .bounds) δ cs C d r, cheaper (costGraph t h l u k) f (ok .bounds) δ cs C d r p)
 
 -- ---- one after another
 pub same-flow : (N : Net) (f : List ℕ) → Relaxable N f → Rerouted N f f
-same-flow N f ok = record { bounds = record { all-arcs = ok .flow-len; above = ok .low-flow; below = ok .flow-up }; same = λ v. refl }
+same-flow N f ok = record { bounds = ok .bounds; same = λ v. refl }
 
 pub further : (N : Net) (f g h : List ℕ) → Rerouted N f g → Rerouted N g h → Rerouted N f h
 further N f g h a b = record { bounds = b .bounds; same = λ v. b .same v ∙ a .same v }
 
 pub relaxable-again : (N : Net) (f g : List ℕ) → Relaxable N f → InBounds N g → Relaxable N g
-relaxable-again N f g ok b = record {
-  graph = ok .graph;
-  lows-len = ok .lows-len;
-  ups-len = ok .ups-len;
-  costs-len = ok .costs-len;
-  flow-len = b .all-arcs;
-  up-small = ok .up-small;
-  low-flow = b .above;
-  flow-up = b .below;
-  cost-small = ok .cost-small;
-}
+relaxable-again N f g ok b = record { graph = ok .graph; small = ok .small; bounds = b; costs-len = ok .costs-len; cost-small = ok .cost-small }
 
 -- ---- the cost is at most 512 · 10¹² either way, so it cannot fall for ever
 cost-small : (N : Net) (f : List ℕ) → Relaxable N f → Bounded 512000000000000 (costOf N f)
 cost-small N f ok =
     bounded-more (omega (arith, ok .graph .few))
     (sum-within (arcs N) 1000000000000 (λ a. cost N a *ℤ on f a)
-    (λ a k. bounded-more (omega arith) (bounded-mul {B = 1000000} (ok .cost-small a k) (record { up = omega (arith, ok .flow-up a k, ok .up-small a k); down = omega arith }))))
+    (λ a k. bounded-more (omega arith) (bounded-mul {B = 1000000} (ok .cost-small a k) (record { up = omega (arith, ok .bounds .below a k, ok .small .ups-small a k); down = omega arith }))))
 
 abbrev pub left : Net → List ℕ → ℕ
 left N f = plus (costOf N f +ℤ pos 512000000000000)

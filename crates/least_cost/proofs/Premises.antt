@@ -51,13 +51,9 @@ module _ (b : List ℤ) (t h l u : List ℕ) (c : List ℤ) (ok : AcceptedNet (n
         tail-in = λ a k. omega (arith, ok .well-formed .tail-in a k, ok .few-nodes);
         head-in = λ a k. omega (arith, ok .well-formed .head-in a k, ok .few-nodes);
       };
-      lows-len = ok .well-formed .lows-len;
-      ups-len = ok .well-formed .ups-len;
+      small = record { few = small .few; lows-len = small .lows-len; ups-len = small .ups-len; ups-small = small .ups-small };
+      bounds = record { all-arcs = bounds .all-arcs; above = bounds .above; below = bounds .below };
       costs-len = ok .well-formed .costs-len;
-      flow-len = bounds .all-arcs;
-      up-small = ok .up-small;
-      low-flow = bounds .above;
-      flow-up = bounds .below;
       cost-small = cost-small;
     }
 

@@ -55,7 +55,7 @@ cancel-requires : tie.Need-cancel-requires Inv-loop μ-loop
 cancel-requires c κs = let l = c .before .before in let s = l .before .before .before .before .before .before in (l .loop .inv .0, s .pre .1, s .pre .2, l .loop .inv .2)
 
 same-length : tie.Need-same-length Inv-loop μ-loop
-same-length c = let a = c .before .before .before .before in a .cancel .kept .1 .1 .1 .1 .1 .0 ∙ before a .loop .inv .0 .flow-len ∙ sym (start a .pre .0 .flow-len)
+same-length c = let a = c .before .before .before .before in a .cancel .kept .1 .1 .1 .1 .1 .0 ∙ before a .loop .inv .0 .bounds .all-arcs ∙ sym (start a .pre .0 .bounds .all-arcs)
 
 same-length-2 : tie.Need-same-length-2 Inv-loop μ-loop
 same-length-2 c = let a = c .before .before .before .before in labels-len a ∙ sym (start a .pre .3)

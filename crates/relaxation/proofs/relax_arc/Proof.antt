@@ -93,7 +93,7 @@ cast-h : tie.Need-cast-h
 cast-h c = omega (arith, head-in (c .before .before .before .before .before .before .before .before))
 
 add-forward : tie.Need-add-forward
-add-forward c = omega (arith, ok (c .before .before .before .before .before .before .before .before .before .before .before) .flow-up (c .before .before .before .before .before .before .before .before .before .before .before .args .a) (inside (c .before .before .before .before .before .before .before .before .before .before .before)), ok (c .before .before .before .before .before .before .before .before .before .before .before) .up-small (c .before .before .before .before .before .before .before .before .before .before .before .args .a) (inside (c .before .before .before .before .before .before .before .before .before .before .before)), c .before .before .before .before .before .before .before .before .before .before .before .pre .3)
+add-forward c = omega (arith, ok (c .before .before .before .before .before .before .before .before .before .before .before) .bounds .below (c .before .before .before .before .before .before .before .before .before .before .before .args .a) (inside (c .before .before .before .before .before .before .before .before .before .before .before)), ok (c .before .before .before .before .before .before .before .before .before .before .before) .small .ups-small (c .before .before .before .before .before .before .before .before .before .before .before .args .a) (inside (c .before .before .before .before .before .before .before .before .before .before .before)), c .before .before .before .before .before .before .before .before .before .before .before .pre .3)
 
 relax-requires : tie.Need-relax-requires
 relax-requires c κs =
@@ -102,7 +102,7 @@ relax-requires c κs =
     (at-label s (tail-in s), at-label s (head-in s), at-pred s (head-in s), rw (cost-read w) (fits (omega arith) (s .pre .1 .small _ (tail-in s)) (cost-small s)))
 
 add-backward : tie.Need-add-backward
-add-backward c = omega (arith, ok (c .before .before .before .before .before .before .before .before .before .before .before .before .before .before .before .before .before .before .before) .low-flow (c .before .before .before .before .before .before .before .before .before .before .before .before .before .before .before .before .before .before .before .args .a) (inside (c .before .before .before .before .before .before .before .before .before .before .before .before .before .before .before .before .before .before .before)), ok (c .before .before .before .before .before .before .before .before .before .before .before .before .before .before .before .before .before .before .before) .flow-up (c .before .before .before .before .before .before .before .before .before .before .before .before .before .before .before .before .before .before .before .args .a) (inside (c .before .before .before .before .before .before .before .before .before .before .before .before .before .before .before .before .before .before .before)), ok (c .before .before .before .before .before .before .before .before .before .before .before .before .before .before .before .before .before .before .before) .up-small (c .before .before .before .before .before .before .before .before .before .before .before .before .before .before .before .before .before .before .before .args .a) (inside (c .before .before .before .before .before .before .before .before .before .before .before .before .before .before .before .before .before .before .before)), c .before .before .before .before .before .before .before .before .before .before .before .before .before .before .before .before .before .before .before .pre .3)
+add-backward c = omega (arith, ok (c .before .before .before .before .before .before .before .before .before .before .before .before .before .before .before .before .before .before .before) .bounds .above (c .before .before .before .before .before .before .before .before .before .before .before .before .before .before .before .before .before .before .before .args .a) (inside (c .before .before .before .before .before .before .before .before .before .before .before .before .before .before .before .before .before .before .before)), ok (c .before .before .before .before .before .before .before .before .before .before .before .before .before .before .before .before .before .before .before) .bounds .below (c .before .before .before .before .before .before .before .before .before .before .before .before .before .before .before .before .before .before .before .args .a) (inside (c .before .before .before .before .before .before .before .before .before .before .before .before .before .before .before .before .before .before .before)), ok (c .before .before .before .before .before .before .before .before .before .before .before .before .before .before .before .before .before .before .before) .small .ups-small (c .before .before .before .before .before .before .before .before .before .before .before .before .before .before .before .before .before .before .before .args .a) (inside (c .before .before .before .before .before .before .before .before .before .before .before .before .before .before .before .before .before .before .before)), c .before .before .before .before .before .before .before .before .before .before .before .before .before .before .before .before .before .before .before .pre .3)
 
 sub-relax : tie.Need-sub-relax
 sub-relax c = rw (cost-read (c .before .before .before .before .before .before .before .before .before .before .before)) (bounded-fits w64 1000000 _ (minus-small (cost-small (c .before .before .before .before .before .before .before .before .before .before .before .before .before .before .before .before .before .before .before .before .before))) (omega arith))
