@@ -1,4 +1,4 @@
--- What prices add: pushing round a tight arc keeps the least cost, and a set of nodes that no free code leaves shows that no least-cost flow
+-- What a feasible potential adds: pushing round a tight arc keeps the least cost, and a set of nodes that no free code leaves shows that no least-cost flow
 -- with the same arcs before has less, or more, on the arc.
 use mathlib.Core.Path.{_≡_, refl, sym, _∙_}
 use mathlib.Core.Logic.{_⊎_, inl, inr, _≢_}
@@ -13,7 +13,7 @@ use Rattle.laws.specs.Members.{Every, every-map2}
 use Rattle.laws.specs.Tests.{and-true, true-and}
 use Rattle.network.specs.Network.{Net, arcs, tail, head, low, up, LeastCost}
 use Rattle.network.specs.Residual.{codes, usable}
-use Rattle.certificates.specs.Optimality.{reduced, optimal-any}
+use Rattle.certificates.specs.Optimality.{reduced, feasible-any}
 use Rattle.certificates.specs.Cuts.{Closed, closed-steps, no-more, no-less}
 use Rattle.certificates.specs.Room.{roomOf}
 use Rattle.certificates.specs.Push.{flow-bounds, Detour, Moved, raised, lowered, pushAll, all-roomy}
@@ -28,7 +28,7 @@ tight-any N π tight f g ti lg = record {
   marked = ti .marked;
   unmarked = λ a l e h lh. ti .unmarked a l e h lh ∙ sym (ti .unmarked a l e g lg);
   least = lg;
-  optimal = optimal-any N (ti .well-formed) f g π (ti .least .flow) (ti .optimal) lg;
+  feasible = feasible-any N (ti .well-formed) f g π (ti .least .flow) (ti .feasible) lg;
 }
 
 module _ (N : Net) (f : List ℕ) (tight : List Bool) (k : ℕ) (π : ℕ → ℤ) (ti : Tight N π tight f) (l : k < arcs N) where

@@ -29,11 +29,11 @@ abbrev pub stepReduced : Net → (ℕ → ℤ) → ℕ → ℤ
 stepReduced N π c = (stepCost N c +ℤ π (src N c)) -ℤ π (dst N c)
 
 -- a feasible potential of the residual arcs, arc by arc
-pub record Optimal (N : Net) (f : List ℕ) (π : ℕ → ℤ) : Type 0 where
-  pub room-up : (a : ℕ) → a < arcs N → getD f a 0 < up N a → pos 0 ≤ℤ reduced N π a
-  pub room-down : (a : ℕ) → a < arcs N → low N a < getD f a 0 → reduced N π a ≤ℤ pos 0
+record Optimal (N : Net) (f : List ℕ) (π : ℕ → ℤ) : Type 0 where
+  room-up : (a : ℕ) → a < arcs N → getD f a 0 < up N a → pos 0 ≤ℤ reduced N π a
+  room-down : (a : ℕ) → a < arcs N → low N a < getD f a 0 → reduced N π a ≤ℤ pos 0
 
-pub feasible-optimal : (N : Net) (f : List ℕ) (π : ℕ → ℤ) → FeasiblePotential N (roomy N f 1) π → Optimal N f π
+feasible-optimal : (N : Net) (f : List ℕ) (π : ℕ → ℤ) → FeasiblePotential N (roomy N f 1) π → Optimal N f π
 feasible-optimal N f π p = record { room-up = forth; room-down = back }
   where
     forth : (a : ℕ) → a < arcs N → getD f a 0 < up N a → pos 0 ≤ℤ reduced N π a
@@ -42,15 +42,15 @@ feasible-optimal N f π p = record { room-up = forth; room-down = back }
     back : (a : ℕ) → a < arcs N → low N a < getD f a 0 → reduced N π a ≤ℤ pos 0
     back a h l = given (rw (odd-code a, odd-arc a) at (p (suc (a + a)) (omega arith) (rw (odd-code a, odd-arc a) (le-leb (low N a + 1) (getD f a 0) (omega arith))))) (simp lin (omega arith))
 
-pub optimal-feasible : (N : Net) (f : List ℕ) (π : ℕ → ℤ) → Optimal N f π → FeasiblePotential N (roomy N f 1) π
+optimal-feasible : (N : Net) (f : List ℕ) (π : ℕ → ℤ) → Optimal N f π → FeasiblePotential N (roomy N f 1) π
 optimal-feasible N f π o c k r = go (eqb (c % 2) 0) refl
   where
     go : (t : Bool) → eqb (c % 2) 0 ≡ t → π (dst N c) ≤ℤ (π (src N c) +ℤ stepCost N c)
     go true e = rw e (given (o .room-up (c / 2) (omega arith) (omega (arith, roomy-forth N f 1 c r e))) (simp lin (omega arith)))
     go false e = rw e (given (o .room-down (c / 2) (omega arith) (omega (arith, roomy-back N f 1 c r e))) (simp lin (omega arith)))
 
-price-arc : (r : ℤ) (x y l u : ℕ) → l ≤ y → y ≤ u → (x < u → pos 0 ≤ℤ r) → (l < x → r ≤ℤ pos 0) → pos 0 ≤ℤ (r *ℤ (pos y -ℤ pos x))
-price-arc r x y l u p q f g = go (decLt x y) (decLt y x)
+arc-nonneg : (r : ℤ) (x y l u : ℕ) → l ≤ y → y ≤ u → (x < u → pos 0 ≤ℤ r) → (l < x → r ≤ℤ pos 0) → pos 0 ≤ℤ (r *ℤ (pos y -ℤ pos x))
+arc-nonneg r x y l u p q f g = go (decLt x y) (decLt y x)
   where
     go : Dec (x < y) → Dec (y < x) → pos 0 ≤ℤ (r *ℤ (pos y -ℤ pos x))
     go (yes h) d = *-nonneg (f (omega arith)) (simp lin (omega arith))
@@ -95,10 +95,10 @@ module _ (N : Net) (ok : WellFormed N) where
       costs = sum-sub (arcs N) (λ a. cost N a *ℤ on g a) (λ a. cost N a *ℤ on f a)
 
   terms : (f g : List ℕ) (π : ℕ → ℤ) → Optimal N f π → IsFlow N g → (a : ℕ) → a < arcs N → pos 0 ≤ℤ (reduced N π a *ℤ (on g a -ℤ on f a))
-  terms f g π o fg a l = price-arc (reduced N π a) (getD f a 0) (getD g a 0) (low N a) (up N a) (fg .above a l) (fg .below a l) (o .room-up a l) (o .room-down a l)
+  terms f g π o fg a l = arc-nonneg (reduced N π a) (getD f a 0) (getD g a 0) (low N a) (up N a) (fg .above a l) (fg .below a l) (o .room-up a l) (o .room-down a l)
 
   -- (a) optimality
-  pub optimal-least : (f : List ℕ) (π : ℕ → ℤ) → IsFlow N f → Optimal N f π → LeastCost N f
+  optimal-least : (f : List ℕ) (π : ℕ → ℤ) → IsFlow N f → Optimal N f π → LeastCost N f
   optimal-least f π ff o = record { flow = ff; least = least }
     where
       least : (g : List ℕ) → IsFlow N g → costOf N f ≤ℤ costOf N g
@@ -108,11 +108,14 @@ module _ (N : Net) (ok : WellFormed N) where
   feasible-least f π ff p = optimal-least f π ff (feasible-optimal N f π p)
 
   -- (b) tight arcs
-  pub off-tight : (f g : List ℕ) (π : ℕ → ℤ) → IsFlow N f → Optimal N f π → LeastCost N g → (a : ℕ) → a < arcs N → reduced N π a ≢ pos 0 → getD g a 0 ≡ getD f a 0
-  off-tight f g π ff o lg a l ne =
+  pub off-tight : (f g : List ℕ) (π : ℕ → ℤ) → IsFlow N f → FeasiblePotential N (roomy N f 1) π → LeastCost N g → (a : ℕ) → a < arcs N → reduced N π a ≢ pos 0 → getD g a 0 ≡ getD f a 0
+  off-tight f g π ff p lg a l ne =
       given (zero-product (reduced N π a) (on g a -ℤ on f a) (sum-zero-each (arcs N) (λ a. reduced N π a *ℤ (on g a -ℤ on f a)) (terms f g π o (lg .flow)) none a l) ne)
       (simp lin (omega arith))
     where
+      o : Optimal N f π
+      o = feasible-optimal N f π p
+
       none : sum (arcs N) (λ a. reduced N π a *ℤ (on g a -ℤ on f a)) ≡ pos 0
       none = close (costOf N g) (costOf N f) (sum (arcs N) (λ a. reduced N π a *ℤ (on g a -ℤ on f a))) (gap f g π ff (lg .flow)) (lg .least f ff) (optimal-least f π ff o .least g (lg .flow))
         where
@@ -120,13 +123,17 @@ module _ (N : Net) (ok : WellFormed N) where
           close x y s e p q = given3 e p q (simp lin (omega arith))
 
   -- a feasible potential of one least-cost flow is one of every other
-  pub optimal-any : (f g : List ℕ) (π : ℕ → ℤ) → IsFlow N f → Optimal N f π → LeastCost N g → Optimal N g π
-  optimal-any f g π ff o lg = record { room-up = λ a l h. up-go a l h (leZ-or-lt (pos 0) (reduced N π a)); room-down = λ a l h. down-go a l h (leZ-or-lt (reduced N π a) (pos 0)) }
+  pub feasible-any : (f g : List ℕ) (π : ℕ → ℤ) → IsFlow N f → FeasiblePotential N (roomy N f 1) π → LeastCost N g → FeasiblePotential N (roomy N g 1) π
+  feasible-any f g π ff p lg =
+      optimal-feasible N g π (record { room-up = λ a l h. up-go a l h (leZ-or-lt (pos 0) (reduced N π a)); room-down = λ a l h. down-go a l h (leZ-or-lt (reduced N π a) (pos 0)) })
     where
+      o : Optimal N f π
+      o = feasible-optimal N f π p
+
       up-go : (a : ℕ) → a < arcs N → getD g a 0 < up N a → (pos 0 ≤ℤ reduced N π a) ⊎ (reduced N π a <ℤ pos 0) → pos 0 ≤ℤ reduced N π a
-      up-go a l h (inl p) = p
-      up-go a l h (inr p) = o .room-up a l (omega (arith, off-tight f g π ff o lg a l (λ e. given2 e p (simp lin (omega arith)))))
+      up-go a l h (inl q) = q
+      up-go a l h (inr q) = o .room-up a l (omega (arith, off-tight f g π ff p lg a l (λ e. given2 e q (simp lin (omega arith)))))
 
       down-go : (a : ℕ) → a < arcs N → low N a < getD g a 0 → (reduced N π a ≤ℤ pos 0) ⊎ (pos 0 <ℤ reduced N π a) → reduced N π a ≤ℤ pos 0
-      down-go a l h (inl p) = p
-      down-go a l h (inr p) = o .room-down a l (omega (arith, off-tight f g π ff o lg a l (λ e. given2 e p (simp lin (omega arith)))))
+      down-go a l h (inl q) = q
+      down-go a l h (inr q) = o .room-down a l (omega (arith, off-tight f g π ff p lg a l (λ e. given2 e q (simp lin (omega arith)))))

@@ -89,7 +89,7 @@ pub record InBounds (N : Net) (f : List ℕ) : Type 0 where
 pub flow-bounds : (N : Net) (f : List ℕ) → IsFlow N f → InBounds N f
 flow-bounds N f h = record { all-arcs = h .all-arcs; above = h .above; below = h .below }
 
-pub room-roomy : (N : Net) (f : List ℕ) (δ c : ℕ) → InBounds N f → c < codes N → δ ≤ roomOf N f c → roomy N f δ c ≡ true
+room-roomy : (N : Net) (f : List ℕ) (δ c : ℕ) → InBounds N f → c < codes N → δ ≤ roomOf N f c → roomy N f δ c ≡ true
 room-roomy N f δ c b l h = roomy-both N f δ c
     (λ e. (let r : δ ≤ up N (c / 2) - getD f (c / 2) 0 = rw e at h in omega (arith, b .below (c / 2) (omega arith))))
     (λ e. (let r : δ ≤ getD f (c / 2) 0 - low N (c / 2) = rw e at h in omega (arith, b .above (c / 2) (omega arith))))

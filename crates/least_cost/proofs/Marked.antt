@@ -1,4 +1,4 @@
--- From the labels of a flow to its marks, and back to a potential.
+-- From the labels of a flow to its marks, and back to a feasible potential.
 use mathlib.Core.Path.{_≡_, ap, _∙_}
 use mathlib.Core.Logic.{⊎-elim}
 use mathlib.Core.Bool.{Bool}
@@ -12,7 +12,7 @@ use Rattle.network.specs.Network.{Net, low, WellFormed, IsFlow, LeastCost}
 use Rattle.network.specs.FullList.{firstFlow}
 use Rattle.laws.specs.Members.{first?}
 use Rattle.network.proofs.FullList.{none-iff}
-use Rattle.certificates.specs.Optimality.{Optimal, feasible-optimal, optimal-feasible, off-tight}
+use Rattle.certificates.specs.Optimality.{off-tight}
 use Rattle.certificates.specs.Order.{first-line}
 use Rattle.certificates.specs.FreeArcs.{NotRaisable, NotLowerable}
 use Rattle.certificates.specs.Graph.{graph, netWith, costGraph}
@@ -33,7 +33,7 @@ narrowed t h l u b c π tight f ti left n = record {
   marked = λ a p e. ti .marked a p (⊎-elim (λ r. r .0) (λ r. r .0) (n .left a p e));
   unmarked = λ a p e g lg. same a p g lg (n .others a p e);
   least = ti .least;
-  optimal = ti .optimal;
+  feasible = ti .feasible;
 }
   where
     same : (a : ℕ) → a < length t → (g : List ℕ) → LeastCost (netWith b t h l u c) g → NotRaisable (graph t h l u) f tight 0 a × NotLowerable (graph t h l u) f tight 0 a → getD g a 0 ≡ getD f a 0
@@ -54,17 +54,14 @@ module _ (b : List ℤ) (t h l u : List ℕ) (c : List ℤ) (f : List ℕ) where
     marks = record {
       well-formed = ok;
       marked = m .marked;
-      unmarked = λ a k z g lg. off-tight (netWith b t h l u c) ok f g π (least .flow) optimal lg a k (m .unmarked a k z);
+      unmarked = λ a k z g lg. off-tight (netWith b t h l u c) ok f g π (least .flow) (q .feasible) lg a k (m .unmarked a k z);
       least = least;
-      optimal = optimal;
+      feasible = q .feasible;
     };
   }
     where
       π : ℕ → ℤ
       π v = getD d v (pos 0)
-
-      optimal : Optimal (netWith b t h l u c) f π
-      optimal = feasible-optimal (netWith b t h l u c) f π (q .feasible)
 
   pub marked-narrowed : (tight left : List Bool) → Marked (netWith b t h l u c) tight f → length left ≡ length tight → Narrowed (graph t h l u) f tight left → Marked (netWith b t h l u c) left f
   marked-narrowed tight left m e n = record {
@@ -73,11 +70,11 @@ module _ (b : List ℤ) (t h l u : List ℕ) (c : List ℤ) (f : List ℕ) where
     marks = narrowed t h l u b c (m .potential) tight f (m .marks) left n;
   }
 
-  -- a potential from the marks
+  -- a feasible potential from the marks
   pub marked-settled : (tight : List Bool) → Marked (netWith b t h l u c) tight f → Settled (netWith b t h l u c) f 1
   marked-settled tight m = record {
     potential = m .potential;
-    feasible = optimal-feasible (netWith b t h l u c) f (m .potential) (m .marks .optimal);
+    feasible = m .marks .feasible;
   }
 
 -- the marks of one flow serve every other
