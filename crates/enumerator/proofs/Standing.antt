@@ -11,9 +11,10 @@ use Rattle.certificates.specs.Graph.{graph}
 use Rattle.certificates.specs.Ready.{Ready}
 use Rattle.relaxation.specs.Labels.{costGraph, Relaxable}
 use Rattle.relaxation.specs.Potentials.{Settled}
+use Rattle.relaxation.proofs.Accepted.{relaxable}
 use Rattle.prices.specs.Prices.{PriceLabels}
 use Rattle.prices.proofs.Pricing.{labels-price}
-use Rattle.least_cost.proofs.Premises.{relaxable, ready}
+use Rattle.least_cost.proofs.Premises.{ready}
 use Rattle.least_cost.proofs.Marked.{settled-bare, marked-settled}
 use Rattle.enumerator.specs.Enumerator.{netOf, flowIn, Stands}
 use Rattle.enumerator.specs.declared.Enumerator.{Enumerator}

@@ -9,9 +9,10 @@ use borrow.Author.Tests.{not-true, not-false}
 use Rattle.network.specs.Network.{Net, IsFlow, LeastCost}
 use Rattle.certificates.specs.Push.{flow-bounds}
 use Rattle.certificates.specs.Graph.{netWith}
+use Rattle.relaxation.proofs.Accepted.{relaxable}
 use Rattle.cancelling.proofs.Cheapest.{cheapest}
 use Rattle.least_cost.specs.Marked.{Marked}
-use Rattle.least_cost.proofs.Premises.{given, relaxable, ready}
+use Rattle.least_cost.proofs.Premises.{given, ready}
 use Rattle.least_cost.proofs.Marked.{labels-whole, marked-narrowed, first-marked, no-first}
 use Rattle.least_cost.proofs.first_flow.Statement.{statement}
 use Rattle.least_cost.proofs.first_flow.Tie as tie
