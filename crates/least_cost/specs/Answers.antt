@@ -7,13 +7,14 @@ use Prim.Native.Nat.{ℕ}
 use lib.IntN.{ℤ}
 use Rattle.network.specs.Network.{Net, LeastCost}
 use Rattle.network.specs.FullList.{firstFlow}
+use Rattle.certificates.specs.Push.{InBounds}
 use Rattle.search.specs.Search.{QuietLabels}
 use Rattle.least_cost.specs.Marked.{Marked}
 
--- the first flow, marked; or there is none, and the marks are as they were
+-- the first flow, marked; or there is none, the numbers are within the bounds, and the marks are as they were
 abbrev pub FirstFlow : Net → List ℕ → List Bool → List Bool → Bool → Type 0
 FirstFlow N f tight tight′ true = (firstFlow N ≡ some f) × Marked N tight′ f
-FirstFlow N f tight tight′ false = (firstFlow N ≡ none) × (tight′ ≡ tight)
+FirstFlow N f tight tight′ false = (firstFlow N ≡ none) × InBounds N f × (tight′ ≡ tight)
 
 -- whether f is a least-cost flow; if so, under labels d no negative cycle has room for 1
 abbrev pub Tested : Net → List ℕ → List ℤ → Bool → Type 0

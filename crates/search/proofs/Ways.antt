@@ -6,7 +6,8 @@ use native.Mathlib.Omega.{arith}
 use native.Mathlib.Numerals.{add-one}
 use native.Mathlib.Decide.{ℕ-discrete}
 use lib.ListN.{length, take, drop, set, length-set}
-use lib.Seq.{take-suc-set, drop-set-lt, drop-drop}
+use lib.Seq.{take-suc-set}
+use Rattle.laws.specs.Store.{drop-set-next}
 use Rattle.network.specs.Network.{Net, arcs}
 use Rattle.network.specs.Residual.{codes, src}
 use Rattle.relaxation.specs.Labels.{SmallGraph}
@@ -78,9 +79,6 @@ module _ (N : Net) (ok : SmallGraph N) (p : List ℕ) (x : ℕ) where
         take-suc-set out len (pred p w) (omega (arith, room, c .long))
         ∙ ap (λ (l : List ℕ). l ++ (pred p w ∷ [])) (c .are) ∙ ap (λ y. trail N p len x ++ (pred p y ∷ [])) (c .is) ∙ sym (trail-more N p len x)
 
-    beyond : drop (len + 1) (set out len (pred p w)) ≡ drop (len + 1) out₀
-    beyond = drop-set-lt (len + 1) out len (pred p w) (omega arith) ∙ sym (drop-drop 1 len out) ∙ ap (λ (l : List ℕ). drop 1 l) (c .rest) ∙ drop-drop 1 len out₀
-
     next-is : (w′ : ℕ) → w′ ≡ src N (pred p w) → w′ ≡ back N p (suc len) x
     unfolding back
     next-is w′ e = e ∙ ap (λ y. src N (pred p y)) (c .is)
@@ -93,7 +91,7 @@ module _ (N : Net) (ok : SmallGraph N) (p : List ℕ) (x : ℕ) where
       away = λ i l k. apart i l (rw add-one at k) (ℕ-discrete i (suc len));
       long = length-set out len (pred p w) ∙ c .long;
       are = rw add-one stored;
-      rest = beyond;
+      rest = drop-set-next out out₀ len (pred p w) (c .rest);
     }
       where
         later : Dec (suc len ≡ c .returns .steps) → suc len < c .returns .steps
@@ -117,5 +115,5 @@ module _ (N : Net) (ok : SmallGraph N) (p : List ℕ) (x : ℕ) where
         first = λ i l k. c .away i l (omega arith);
       });
       are = rw add-one stored;
-      rest = beyond;
+      rest = drop-set-next out out₀ len (pred p w) (c .rest);
     }

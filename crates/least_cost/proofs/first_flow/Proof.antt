@@ -24,7 +24,7 @@ starting-flow-requires : tie.Need-starting-flow-requires
 starting-flow-requires c κs = let s = c .before .before .before .before .before .before .before in (given (s .args .balances .now) (s .args .tails .now) (s .args .heads .now) (s .args .lows .now) (s .args .ups .now) (s .args .costs .now) (s .pre .0) (s .args .flow .now) (s .pre .1), s .pre .0 .well-formed .costs-len)
 
 returns : tie.Need-returns
-returns c = let s = c .before .before .before .before .before .before .before .before .before .before .before in (no-first (whole s) (s .pre .0 .well-formed) (λ g. c .before .before .before .starting-flow .ensures .none (not-true _ (c .if1 .taken)) (s .args .costs .now) (s .pre .0 .well-formed .costs-len) g), refl)
+returns c = let s = c .before .before .before .before .before .before .before .before .before .before .before in let b = c .before .before .before .starting-flow .ensures .bounds in (no-first (whole s) (s .pre .0 .well-formed) (λ g. c .before .before .before .starting-flow .ensures .none (not-true _ (c .if1 .taken)) (s .args .costs .now) (s .pre .0 .well-formed .costs-len) g), record { all-arcs = b .all-arcs; above = b .above; below = b .below }, refl)
 
 -- a flow was found
 flow-of : (c : tie.Else1) → IsFlow (whole (c .before .before .before .before .before .before .before .before .before .before .before)) (c .before .before .before .starting-flow .last .1 .1 .1 .1 .1 .1 .0)
