@@ -66,13 +66,13 @@ module _ (N : Net) (f : List ℕ) (b : InBounds N f) (δ : ℕ) (cs : List ℕ) 
       less (costOf N (pushAll d cs f)) (costOf N f) (walkCost N cs) (pos d) (all-cost N d cs f (C .cycle .node) (C .cycle .node) b trail differ all-room) (C .negative) (simp lin (omega arith))
 
 -- ---- what the search found
-pub labels-of : (N : Net) (f : List ℕ) (δ : ℕ) (d : List ℤ) (out : List ℕ) (r : ℕ) → Searched N f δ d out r → r ≡ 0 → QuietLabels N f δ d
-labels-of N f δ d out r (none _ q) e = q
-labels-of N f δ d out r (found _ C) e = absurd (let h : 0 < length (take 0 out) = subst (λ (k : ℕ). 0 < length (take k out)) e (C .cycle .some) in omega arith)
+pub labels-of : (N : Net) (f : List ℕ) (δ : ℕ) (d : List ℤ) (out out′ : List ℕ) (r : ℕ) → Searched N f δ d out out′ r → r ≡ 0 → QuietLabels N f δ d
+labels-of N f δ d out out′ r (none _ _ q _) e = q
+labels-of N f δ d out out′ r (found _ C _) e = absurd (let h : 0 < length (take 0 out′) = subst (λ (k : ℕ). 0 < length (take k out′)) e (C .cycle .some) in omega arith)
 
-pub cycle-of : (N : Net) (f : List ℕ) (δ : ℕ) (d : List ℤ) (out : List ℕ) (r : ℕ) → Searched N f δ d out r → r ≢ 0 → (r ≤ 64) × NegativeCycle N f δ (take r out)
-cycle-of N f δ d out r (none e _) ne = absurd (ne e)
-cycle-of N f δ d out r (found h C) ne = (h, C)
+pub cycle-of : (N : Net) (f : List ℕ) (δ : ℕ) (d : List ℤ) (out out′ : List ℕ) (r : ℕ) → Searched N f δ d out out′ r → r ≢ 0 → (r ≤ 64) × NegativeCycle N f δ (take r out′)
+cycle-of N f δ d out out′ r (none e _ _ _) ne = absurd (ne e)
+cycle-of N f δ d out out′ r (found h C _) ne = (h, C)
 
 -- ---- the same of the lists that the code holds
 module _ (t h l u : List ℕ) (k : List ℤ) (f : List ℕ) (ok : Relaxable (costGraph t h l u k) f) where

@@ -56,8 +56,9 @@ module _ (b : List ℤ) (t h l u : List ℕ) (f₀ : List ℕ) (G : Given b t h 
   formed : (c : List ℤ) → length c ≡ length t → WellFormed (netWith b t h l u c)
   formed c e = record { heads-len = G .heads-len; lows-len = G .small .lows-len; ups-len = G .small .ups-len; costs-len = e; tail-in = G .tail-in; head-in = G .head-in }
 
-  pub no-balance : (g : List ℕ) → ¬ (sum (length b) (λ v. getD b v (pos 0)) ≡ pos 0) → Answer b t h l u g false
-  no-balance g ne = record {
+  pub no-balance : (g : List ℕ) → InBounds (graph t h l u) g → ¬ (sum (length b) (λ v. getD b v (pos 0)) ≡ pos 0) → Answer b t h l u g false
+  no-balance g k ne = record {
+    bounds = k;
     found = λ q. absurd (let w : _≡_ {A = ℕ} 0 1 = cc in omega arith);
     none = λ _ c d x F. ne (balances-sum (netWith b t h l u c) (formed c d) x F);
   }
@@ -65,13 +66,15 @@ module _ (b : List ℤ) (t h l u : List ℕ) (f₀ : List ℕ) (G : Given b t h 
   module _ (f : List ℕ) (k : InBounds (graph t h l u) f) (ex : List ℤ) (L : Excesses b t h f ex) where
     pub all-sent : sum (length b) (λ v. getD b v (pos 0)) ≡ pos 0 → (r : ℕ) → FirstExcess ex r → length ex ≤ r → Answer b t h l u f true
     all-sent e r F z = record {
+      bounds = k;
       found = λ _ c d. all-met (netWith b t h l u c) (formed c d) f (record { all-arcs = k .all-arcs; above = k .above; below = k .below }) e
           (λ v i. rw (← (L .is v i)) (F .none z v (omega (arith, L .len))));
       none = λ q. absurd (let w : _≡_ {A = ℕ} 0 1 = cc in omega arith);
     }
 
-    pub no-flow-left : (free : List Bool) → AllFree t free → (s : ℕ) → s < length ex → pos 0 <ℤ getD ex s (pos 0) → CutOff (graph t h l u) f free ex s (length ex) → (g : List ℕ) → Answer b t h l u g false
-    no-flow-left free F s i p C g = record {
+    pub no-flow-left : (free : List Bool) → AllFree t free → (s : ℕ) → s < length ex → pos 0 <ℤ getD ex s (pos 0) → CutOff (graph t h l u) f free ex s (length ex) → (g : List ℕ) → InBounds (graph t h l u) g → Answer b t h l u g false
+    no-flow-left free F s i p C g m = record {
+      bounds = m;
       found = λ q. absurd (let w : _≡_ {A = ℕ} 0 1 = cc in omega arith);
       none = λ _ c d. stuck (netWith b t h l u c) (formed c d) f (C .inside)
           (closed-steps (netWith b t h l u c) f (λ a. Unit {0}) (C .inside) (λ x y _ v w. C .shut x y (rw (F .marked (x / 2) (omega arith)) v) w))

@@ -1,8 +1,9 @@
 -- Searches over the residual arcs of the arcs marked free, and the paths that they find.
+use mathlib.Core.Path.{_≡_}
 use mathlib.Core.List.{List}
 use mathlib.Core.Bool.{Bool}
 use Prim.Native.Nat.{ℕ, suc, _+_, _≤_}
-use lib.ListN.{length, take}
+use lib.ListN.{length, take, drop}
 use Rattle.network.specs.Network.{Net}
 use Rattle.network.specs.Residual.{codes, src, dst}
 use Rattle.certificates.specs.FreeArcs.{goes, Path, Blocked}
@@ -28,7 +29,7 @@ pub record SpreadArc (N : Net) (f : List ℕ) (free : List Bool) (a : ℕ) (rank
   pub forth : Spread (goes N f free (a + a)) rank via count (src N (a + a)) (dst N (a + a)) (a + a) mid-rank mid-via mid
   pub back : Spread (goes N f free (suc (a + a))) mid-rank mid-via mid (src N (suc (a + a))) (dst N (suc (a + a))) (suc (a + a)) rank′ via′ r
 
--- the first r codes are a path from s to t, or there is none
-abbrev pub Detoured : Net → List ℕ → List Bool → ℕ → ℕ → ℕ → List ℕ → Route → Type 0
-Detoured N f free s t from codes (Codes r) = (r ≤ length codes) × Path N f free s t from (take r codes)
-Detoured N f free s t from codes Cut = Blocked N f free s t from
+-- the first r codes are a path from s to t, or there is none; the lent list keeps what it held beyond them
+abbrev pub Detoured : Net → List ℕ → List Bool → ℕ → ℕ → ℕ → List ℕ → List ℕ → Route → Type 0
+Detoured N f free s t from codes codes′ (Codes r) = (r ≤ length codes′) × Path N f free s t from (take r codes′) × (drop r codes′ ≡ drop r codes)
+Detoured N f free s t from codes codes′ Cut = Blocked N f free s t from × (codes′ ≡ codes)

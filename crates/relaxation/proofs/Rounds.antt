@@ -5,7 +5,7 @@ use mathlib.Core.List.{List, [], _∷_}
 use Prim.Native.Nat.{ℕ, zero, suc, _+_, _*_, _≤_, _<_}
 use native.Mathlib.Omega.{arith}
 use native.Mathlib.Decide.{ℕ-discrete}
-use lib.ListN.{length, getD, set, length-set}
+use lib.ListN.{length, getD, set, replicate, length-set}
 use lib.Seq.{getD-set-same}
 use lib.IntN.{ℤ, pos, _+ℤ_}
 use lib.Signed.{ltZ, _≤ℤ_, _<ℤ_}
@@ -27,6 +27,11 @@ abbrev pub AtMost : Net → List ℕ → ℕ → ℕ → List ℤ → Type 0
 AtMost N f δ k d = (u v : ℕ) (cs : List ℕ) → length cs ≤ k → Trip N f δ u v cs → getD d v (pos 0) ≤ℤ walkCost N cs
 
 -- labels that are all 0
+pub zero-at : (n v : ℕ) → getD (replicate n (pos 0)) v (pos 0) ≡ pos 0
+zero-at zero v = refl
+zero-at (suc n) zero = refl
+zero-at (suc n) (suc v) = zero-at n v
+
 module _ (d : List ℤ) (zeros : (v : ℕ) → getD d v (pos 0) ≡ pos 0) where
   pub zeros-at-most : (N : Net) (f : List ℕ) (δ : ℕ) → AtMost N f δ 0 d
   zeros-at-most N f δ u v [] h w = rw (zeros v) (simp lin (omega arith))

@@ -29,7 +29,7 @@ fn go_back(tails: &[u8], heads: &[u8], preds: &[u16], v: usize) -> usize
 // The codes of the cycle through x, the last first. How many.
 fn collect(tails: &[u8], heads: &[u8], preds: &[u16], x: usize, out: &mut [usize]) -> usize
     requires { ⌜ SmallGraph (costGraph (now tails) (now heads) [] [] []) × (length (now preds) ≡ 64) × (length (now out) ≡ 64) × Returns (costGraph (now tails) (now heads) [] [] []) (now preds) x ⌝ }
-    ensures { λ r. ⌜ Collected (costGraph (now (tails .entry)) (now (heads .entry)) [] [] []) (now (preds .entry)) x (now (out .exit)) r ⌝ }
+    ensures { λ r. ⌜ Collected (costGraph (now (tails .entry)) (now (heads .entry)) [] [] []) (now (preds .entry)) x (now (out .entry)) (now (out .exit)) r ⌝ }
 {
     let mut w = x;
     let mut len = 0;
@@ -69,7 +69,7 @@ pub fn find_cycle(
     out: &mut [usize],
 ) -> usize
     requires { ⌜ Relaxable (costGraph (now tails) (now heads) (now lows) (now ups) (now costs)) (now flow) × (0 < need) × (need ≤ 1000000) × (length (now labels) ≡ 64) × (length (now out) ≡ 64) ⌝ }
-    ensures { λ r. ⌜ Searched (costGraph (now (tails .entry)) (now (heads .entry)) (now (lows .entry)) (now (ups .entry)) (now (costs .entry))) (now (flow .entry)) need (now (labels .exit)) (now (out .exit)) r ⌝ }
+    ensures { λ r. ⌜ Searched (costGraph (now (tails .entry)) (now (heads .entry)) (now (lows .entry)) (now (ups .entry)) (now (costs .entry))) (now (flow .entry)) need (now (labels .exit)) (now (out .entry)) (now (out .exit)) r ⌝ }
 {
     clear(labels);
     let mut preds = [65535u16; 64];

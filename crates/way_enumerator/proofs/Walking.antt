@@ -9,7 +9,7 @@ use lib.ListN.{length, take, length-take}
 use Rattle.laws.specs.Padded.{padded}
 use Rattle.laws.specs.Members.{none-some}
 use Rattle.laws.specs.Image.{mapOption}
-use Rattle.network.specs.Network.{LeastCost, costOf}
+use Rattle.network.specs.Network.{WellFormed, LeastCost, costOf}
 use Rattle.network.specs.Struct.{netIn, Sound}
 use Rattle.network.specs.declared.Network.{Network}
 use Rattle.enumerator.specs.declared.Place.{Place}
@@ -17,6 +17,7 @@ use Rattle.enumerator.specs.declared.Place.the-variants.{Start, Line, None, End
 use Rattle.enumerator.specs.declared.Enumerator.{Enumerator}
 use Rattle.enumerator.specs.Enumerator.{netOf, flowIn, lineAt, lineOf, placeOf, Stands}
 use Rattle.enumerator.specs.Enumerator as flows
+use Rattle.enumerator.proofs.Given.{resumed-on, resumed-off}
 use Rattle.book.specs.Book.{Book}
 use Rattle.book.specs.declared.CheckedBook.{CheckedBook}
 use Rattle.allocation.specs.Follow.{size}
@@ -126,12 +127,15 @@ module _ (k : CheckedBook) (N : Network) (makes : MakesNet k N) where
         → flows.Resumes (netIn N) (take (N .arcs) flow) r → ResumesIn b w (record { walk = r; entries = k .count })
     resumes w flow len lays step = record {
       walks = walks;
-      on = λ p. (let l = is-way (step .on p .1) in (ap (λ q. mapOption (wayOf b) (lineAt q (flowIn r))) p ∙ ap some (ap (wayOf b) (step .on p .0 ∙ laid) ∙ way-back b w (l .way)), l));
-      off = λ n l. step .off n (subst (λ M. LeastCost M (take (N .arcs) flow)) (sym made) (least .1 l));
+      on = λ p. (let (same-flow, f) = resumed-on (netIn N) ok (take (N .arcs) flow) r step p in let l = is-way f in (ap (λ q. mapOption (wayOf b) (lineAt q (flowIn r))) p ∙ ap some (ap (wayOf b) (same-flow ∙ laid) ∙ way-back b w (l .way)), l));
+      off = λ n l. resumed-off (netIn N) ok (take (N .arcs) flow) r step n (subst (λ M. LeastCost M (take (N .arcs) flow)) (sym made) (least .1 l));
     }
       where
         made : netIn N ≡ bookNet b
         made = made-net b k h N makes
+
+        ok : WellFormed (netIn N)
+        ok = made-sound b k h N makes .accepted .well-formed
 
         held : N .arcs ≡ length (take (N .arcs) (N .tails))
         held = made-sound b k h N makes .arcs-held

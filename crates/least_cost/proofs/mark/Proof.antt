@@ -1,7 +1,7 @@
 use mathlib.Core.Path.{_∙_}
 use native.Mathlib.Omega.{arith}
 use borrow.Author.Needs.{needs}
-use Rattle.least_cost.proofs.Premises.{cost-small}
+use Rattle.relaxation.proofs.Accepted.{cost-small}
 use Rattle.least_cost.proofs.Marked.{marked-by}
 use Rattle.least_cost.proofs.mark.Statement.{statement}
 use Rattle.least_cost.proofs.mark.Tie as tie
