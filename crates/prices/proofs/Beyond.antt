@@ -9,8 +9,7 @@ use lib.IntN.{ℤ, pos}
 use Rattle.network.specs.Network.{nodes, WellFormed}
 use Rattle.network.specs.Residual.{Walk, walkCost}
 use Rattle.certificates.specs.Codes.{dst-below}
-use Rattle.certificates.specs.Graph.{netWith}
-use Rattle.certificates.specs.Graph.{costGraph}
+use Rattle.certificates.specs.Graph.{netWith, costGraph}
 use Rattle.prices.specs.Prices.{PriceLabels}
 
 module _ (b : List ℤ) (t h l u : List ℕ) (c : List ℤ) (f : List ℕ) (ok : WellFormed (netWith b t h l u c)) (d : List ℤ) (P : PriceLabels (costGraph t h l u c) f d) where

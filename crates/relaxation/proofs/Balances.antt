@@ -4,8 +4,7 @@ use mathlib.Core.List.{List, [], _∷_}
 use Prim.Native.Nat.{ℕ}
 use lib.IntN.{ℤ, _+ℤ_}
 use Rattle.network.specs.Residual.{src, stepCost, Walk, walkCost}
-use Rattle.certificates.specs.Graph.{netWith}
-use Rattle.certificates.specs.Graph.{costGraph}
+use Rattle.certificates.specs.Graph.{netWith, costGraph}
 
 module _ (b : List ℤ) (t h l u : List ℕ) (c : List ℤ) (f : List ℕ) where
   pub walk-whole : (x v : ℕ) (cs : List ℕ) → Walk (costGraph t h l u c) f x v cs → Walk (netWith b t h l u c) f x v cs

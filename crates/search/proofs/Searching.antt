@@ -22,7 +22,7 @@ use Rattle.search.proofs.Cycles.{comes-round, period-cycle, period-room
 
 -- labels that show that there is no negative cycle
 pub searched-none : (N : Net) (f : List ℕ) (δ : ℕ) (d : List ℤ) (out : List ℕ) → QuietLabels N f δ d → Searched N f δ d out out 0
-searched-none N f δ d out q = none refl (λ cs C. given2 (closed-nonneg N f δ (λ v. getD d v (pos 0)) (q .quiet) (C .cycle .node) cs (C .cycle .closed) (C .room)) (C .negative) (simp lin (omega arith))) q refl
+searched-none N f δ d out q = none refl (λ cs C. given2 (closed-nonneg N f δ (λ v. getD d v (pos 0)) (q .feasible) (C .cycle .node) cs (C .cycle .closed) (C .room)) (C .negative) (simp lin (omega arith))) q refl
 
 pub record Searching (N : Net) (f : List ℕ) (δ : ℕ) (d : List ℤ) (p : List ℕ) (k : ℕ) : Type 0 where
   pub early : k < 64
