@@ -40,16 +40,16 @@ abbrev pub listingCode : List ℕ → ℕ
 listingCode s = orElse (refusal s) (noneCode (ways s))
 
 -- "The rest of the result is then zero and no lent list changes." "'None' and 'end' are no refusals; they too write nothing."
-abbrev pub onlyWith0 : {A : Type 0} → ℕ → A → A → A
-onlyWith0 zero x y = x
-onlyWith0 (suc n) x y = y
+abbrev pub ifListed : {A : Type 0} → ℕ → A → A → A
+ifListed zero x y = x
+ifListed (suc n) x y = y
 
 -- a call of the listing: the reply, and the lent list at exit
 pub record BookListing (s before : List ℕ) (r : Reply) (after : List ℕ) : Type 0 where
   pub code-is : r .code ≡ listingCode s
-  pub value-is : r .value ≡ pos (onlyWith0 (listingCode s) (length (listing s)) 0)
+  pub value-is : r .value ≡ pos (ifListed (listingCode s) (length (listing s)) 0)
   pub told : Told s (refusal s) (r .line)
-  pub text-is : after ≡ onlyWith0 (listingCode s) (fit (listing s) before) before
+  pub text-is : after ≡ ifListed (listingCode s) (fit (listing s) before) before
   pub few : length (listing s) ≤ 98304
 
 -- what both take: the text that `ways` prints at the front of a list, and the code and the line of the reply
