@@ -12,7 +12,7 @@ ghost use Rattle.book_calls.specs.BookCalls.{CountsBook};
 ghost use Rattle.book_calls.specs.BookRun.{AnswersBook};
 ghost use Rattle.book_names.specs.Name.{nameRefusal};
 ghost use Rattle.book_names.specs.BookNames.{Names};
-ghost use Rattle.book_listing.specs.Listing.{Listed};
+ghost use Rattle.book_listing.specs.Listing.{BookListing};
 use book_names::Span;
 use calls::Reply;
 
@@ -79,8 +79,8 @@ pub extern "C" fn desk_count(book: &[u8], cap: u16) -> Reply
 }
 
 #[no_mangle]
-pub extern "C" fn desk_listing(book: &[u8], text: &mut [u8]) -> usize
-    ensures { λ r. ⌜ Listed (now (book .entry)) (now (text .entry)) (now (text .exit)) r ⌝ }
+pub extern "C" fn desk_listing(book: &[u8], text: &mut [u8]) -> Reply
+    ensures { λ r. ⌜ BookListing (now (book .entry)) (now (text .entry)) r (now (text .exit)) ⌝ }
 {
     book_listing::list(book, text)
 }

@@ -36,10 +36,10 @@ waysText b = listWays (wayCost b) (fullWays b)
 pub record ListsOne (s : WayWalk) (before : List ℕ) (at : ℕ) (after : List ℕ) (r : ℕ) : Type 0 where
   pub each : (b : Book) → Walks b s → (w : List ℕ) → wayAt b s ≡ some w → Appended before at (wayLine w) after r
 
--- all lines but the first, of a walk that stands on the first way
+-- all lines after `(cost C)`, of a walk that stands on the first way
 pub record ListsFrom (s : WayWalk) (before : List ℕ) (at : ℕ) (after : List ℕ) (r : ℕ) : Type 0 where
   pub each : (b : Book) → Walks b s → wayAt b s ≡ firstWay b → Appended before at (wayLines (take 1000 (fullWays b)) ++ lastLine (counted 1000 (length (fullWays b)))) after r
 
--- the whole text
+-- the whole text, of a walk that stands on the first way
 pub record Lists (s : WayWalk) (before after : List ℕ) (r : ℕ) : Type 0 where
-  pub each : (b : Book) → Walks b s → Appended before 0 (waysText b) after r
+  pub each : (b : Book) → Walks b s → wayAt b s ≡ firstWay b → Appended before 0 (waysText b) after r

@@ -42,20 +42,13 @@ fn list_from(walk: WayWalk, out: &mut [u8], at: usize) -> usize
     }
 }
 
-// The listing of all ways, at the front of the list; how long it is.
+// The listing of all ways, at the front of the list, by a walk that stands on the first of them; how long it is.
 pub fn list(walk: WayWalk, out: &mut [u8]) -> usize
-    requires { ⌜ Walking walk × (90031 ≤ length (now out)) ⌝ }
+    requires { ⌜ Walking walk × (walk .walk .place ≡ Line) × (90031 ≤ length (now out)) ⌝ }
     ensures { λ r. ⌜ Lists walk (now (out .entry)) (now (out .exit)) r ⌝ }
 {
-    let first = walk.first();
-    let inner = first.walk;
-    let place = inner.place;
-    match place {
-        Place::Line => {
-            let cost = inner.cost;
-            let at = listing::put_cost(out, 0, cost as u64);
-            list_from(first, out, at)
-        }
-        _ => listing::put_none(out, 0),
-    }
+    let inner = walk.walk;
+    let cost = inner.cost;
+    let at = listing::put_cost(out, 0, cost as u64);
+    list_from(walk, out, at)
 }
