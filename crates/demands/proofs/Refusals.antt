@@ -70,7 +70,7 @@ module _ {F N Lists : Type 0} (Tells : ℕ → ℕ → Type 0) (cost : List ℕ 
 
 -- a count, which is lent no list
 module _ (Tells : ℕ → ℕ → Type 0) (r : Reply) where
-  pub count-1 : (n : ℕ) (k : Count) → r .code ≡ countUnless n k .code → r .value ≡ countUnless n k .value → Tells n (r .line) → (n ≡ 0 → r .line ≡ 0) → Demand1 Tells n tt (sees r tt)
+  pub count-1 : (n : ℕ) (k : Count) → r .code ≡ countUnless n k .code → r .value ≡ countUnless n k .value → Tells n (r .line) → (n ≡ 0 → r .line ≡ 0) → Demand1 {Lists = Unit {0}} Tells n tt (sees r tt)
   count-1 zero (exactly m) c v t l = record { number-told = λ z. absurd (z refl); nothing-else = λ _. (inl c, l refl); changes-nothing = λ z. absurd (z c) }
   count-1 zero more c v t l = record { number-told = λ z. absurd (z refl); nothing-else = λ _. (inr (omega (arith, c)), l refl); changes-nothing = λ _. (v, refl) }
   count-1 (suc n) k c v t l = record { number-told = λ _. (c, t); nothing-else = λ z. absurd (omega arith); changes-nothing = λ _. (v, refl) }

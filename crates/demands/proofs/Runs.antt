@@ -21,13 +21,11 @@ use Rattle.network_calls.specs.NetworkRun.{NoLine, RightNetwork, Answers}
 use Rattle.network_calls.specs.NetworkEntries.{NetworkCount}
 use Rattle.network_calls.proofs.NetworkRun.{network-run, network-lists, network-count}
 use Rattle.network_calls.proofs.FirstFlow.{first-finds}
-use Rattle.book.specs.Questions as book
+use Rattle.book.specs.Questions.{refusal as bookRefusal}
 use Rattle.book.specs.Book.{Book, parse}
 use Rattle.way_bytes.specs.Told.{ToldIn, Told}
-use Rattle.allocation.specs.BookBytes.{ways}
-use Rattle.allocation.specs.BookBytes as book
-use Rattle.book_calls.specs.BookCalls as book
-use Rattle.book_calls.specs.BookCalls.{BookCall, countWays}
+use Rattle.allocation.specs.BookBytes.{ways, costOf as bookCost}
+use Rattle.book_calls.specs.BookCalls.{BookCall, countWays, lent as bookLent, number as bookNumber, refuses as bookRefuses, Wrote as BookWrote}
 use Rattle.book_calls.specs.BookRun.{RightBook, AnswersBook}
 use Rattle.book_calls.specs.BookEntries.{BookCount}
 use Rattle.book_calls.proofs.BookRun.{book-run, book-lists, book-count}
@@ -89,30 +87,30 @@ no-line-told (some b) l h = h .of-other (λ e. omega arith) (λ e. omega arith) 
 module _ (s : List ℕ) where
   demand-3-book : (e : BookCall × Seen (List ℕ)) → AnswersBook s (e .0) (e .1) → Demand3Book s e
   demand-3-book e h =
-      let more = one-more same-list encodeWords (ways s) (book.refuses s) (RightBook s) e h in
+      let more = one-more same-list encodeWords (ways s) (bookRefuses s) (RightBook s) e h in
       record { kept = more; read = λ r k g. book-run s (r ++ (e ∷ [])) g (more r k); lists = λ r k w. book-lists s (r ++ (e ∷ [])) w (more r k) }
 
   pub first-way-demands : (l : List ℕ) (t : Seen (List ℕ)) → AnswersBook s (first l) t → FirstWayDemands s l t
   first-way-demands l t h = record {
-    demand1 = demand-1 (Told s) (book.costOf s) book.lent book.Wrote (ways s) (book.number s) (first l) t h;
+    demand1 = demand-1 (Told s) (bookCost s) bookLent BookWrote (ways s) (bookNumber s) (first l) t h;
     demand2 = λ z. first-finds-way s l t (ap failed z) h;
     demand3 = demand-3-book (first l, t) h;
   }
 
   pub next-way-demands : (g l : List ℕ) (t : Seen (List ℕ)) → AnswersBook s (next g l) t → NextWayDemands s g l t
   next-way-demands g l t h = record {
-    demand1 = demand-1 (Told s) (book.costOf s) book.lent book.Wrote (ways s) (book.number s) (next g l) t h;
+    demand1 = demand-1 (Told s) (bookCost s) bookLent BookWrote (ways s) (bookNumber s) (next g l) t h;
     demand3 = demand-3-book (next g l, t) h;
   }
 
   pub count-ways-demands : (cap : ℕ) (r : Reply) → BookCount s cap r → CountWaysDemands s cap r
   count-ways-demands cap r h =
       let k = countWays s cap in
-      let line-is : book.refusal s ≡ 0 → r .line ≡ 0 = λ ok. no-line-told (parse s) (r .line) (rw ok at (h .told)) in
-      let passed : book.refusal s ≡ 0 → r ≡ countReply k =
+      let line-is : bookRefusal s ≡ 0 → r .line ≡ 0 = λ ok. no-line-told (parse s) (r .line) (rw ok at (h .told)) in
+      let passed : bookRefusal s ≡ 0 → r ≡ countReply k =
       λ ok. reply-is r (countReply k) (h .code-is ∙ ap (λ n. countUnless n k .code) ok) (line-is ok ∙ sym (count-line 0 k)) (h .value-is ∙ ap (λ n. countUnless n k .value) ok) in
       record {
-        demand1 = count-1 (Told s) r (book.refusal s) k (h .code-is) (h .value-is) (h .told) line-is;
+        demand1 = count-1 (Told s) r (bookRefusal s) k (h .code-is) (h .value-is) (h .told) line-is;
         exact = passed;
         handed-out = λ ok. rw (book-count s ok cap) (passed ok);
       }

@@ -18,19 +18,18 @@ use Rattle.network.specs.declared.Arc.{Arc}
 use Rattle.network.specs.Network.{arcs, costOf}
 use Rattle.network.specs.Input.{rows}
 use Rattle.network.specs.FullList.{fullList}
+use Rattle.network_questions.proofs.Accepted.{accepted-net}
 use Rattle.calls.specs.Replies.{failed, codeOf}
 use Rattle.flow_bytes.specs.NetworkBytes.{net}
+use Rattle.flow_bytes.proofs.NetworkLines.{full-flows}
 use Rattle.network_calls.specs.NetworkCalls.{Lent, NetCall, lent, number, refuses, Wrote}
 use Rattle.network_calls.specs.NetworkRun.{NoLine, Answers}
 use Rattle.network_calls.proofs.NetworkRun.{accepts, network-run, flow-copied}
 use Rattle.way_bytes.specs.Told.{Told}
-use Rattle.allocation.specs.BookBytes.{ways, size}
-use Rattle.allocation.specs.BookBytes as book
-use Rattle.book_calls.specs.BookCalls as book
-use Rattle.book_calls.specs.BookCalls.{BookCall}
+use Rattle.allocation.specs.BookBytes.{ways, size, costOf as bookCost}
+use Rattle.book_calls.specs.BookCalls.{BookCall, lent as bookLent, number as bookNumber, Wrote as BookWrote}
 use Rattle.book_calls.specs.BookRun.{AnswersBook}
-use Rattle.book_calls.proofs.BookRun as book
-use Rattle.book_calls.proofs.BookRun.{book-run}
+use Rattle.book_calls.proofs.BookRun.{book-run, full as full-ways, accepts as accepts-book}
 use Rattle.demands.specs.Demands.{WalkFlowsDemands, WalkWaysDemands, madeOf}
 
 module _ {F N Lists : Type 0} (Tells : ℕ → ℕ → Type 0) (cost : List ℕ → ℤ) (lent : Call F (List ℕ) N → Lists)
@@ -96,8 +95,8 @@ module _ (bs xs : List ℕ) (l : Lent) (s : Seen Lent) (h : Answers bs xs (first
         let N = net bs xs in
         let (v, m, e, w, k) = first-line NoLine (costOf N) lent (Wrote N) (fullList N) (number bs xs) l s h z in
         let q = k .lists-are .flows-are in
-        let c = flow-copied bs xs (accepts bs xs (first l) (ap failed e)) (first l) s v m k .1 in
-        omega (arith, line-bytes bs xs, ap length c, length-encode v, ap length q, length-append (encodeWords v) (drop (length (encodeWords v)) (l .flows)))
+        let c = full-flows N (accepted-net bs xs (accepts bs xs (first l) (ap failed e))) .long v m in
+        omega (arith, line-bytes bs xs, c, length-encode v, ap length q, length-append (encodeWords v) (drop (length (encodeWords v)) (l .flows)))
 
     module _ (g fs ls : List ℕ) (t u : Seen Lent) (i : Answers bs xs (next (take (length xs / 20 * 4) (s .lists .flows)) fs) t) (j : Answers bs xs (next g ls) u) where
       pub walk-three : (n : ℕ) → n ≡ s .number → WalkFlowsDemands bs xs g (madeOf n (first l, s) (next (take (length xs / 20 * 4) (s .lists .flows)) fs, t) (next g ls, u))
@@ -119,10 +118,10 @@ module _ (s l : List ℕ) (t : Seen (List ℕ)) (h : AnswersBook s (first l) t) 
     pub walk-three-ways : (n : ℕ) → n ≡ t .number → WalkWaysDemands s l g (madeOf n (first l, t) (next (t .lists) fs, u) (next g ls, v))
     walk-three-ways (suc n) e = absurd (omega arith)
     walk-three-ways zero e = record {
-      read = λ x k. three (Told s) (book.costOf s) book.lent book.Wrote (ways s) (book.number s) (book-run s) l (t .lists) g fs ls t u v h i j z
-          (λ w m e q. whole x w (book.full s (book.accepts s (first l) (ap failed e)) .long w m) (q .lists-are)) k;
+      read = λ x k. three (Told s) (bookCost s) bookLent BookWrote (ways s) (bookNumber s) (book-run s) l (t .lists) g fs ls t u v h i j z
+          (λ w m e q. whole x w (full-ways s (accepts-book s (first l) (ap failed e)) .long w m) (q .lists-are)) k;
     }
       where
         -- a list of just E numbers that a way was written to holds the way
         whole : length l ≡ 4 * size s → (w : List ℕ) → length w ≡ size s → t .lists ≡ over (encodeWords w) l → encodeWords w ≡ t .lists
-        whole x w e q = sym (q ∙ ap (λ n. encodeWords w ++ drop n l) (omega (arith, x, e, length-encode w)) ∙ ap (λ r. encodeWords w ++ r) (drop-length l) ∙ append-nil (encodeWords w))
+        whole x w e q = sym (q ∙ ap (λ n. encodeWords w ++ drop n l) {x = length (encodeWords w)} {y = length l} (omega (arith, x, e, length-encode w)) ∙ ap (λ r. encodeWords w ++ r) (drop-length l) ∙ append-nil (encodeWords w))

@@ -20,11 +20,10 @@ use Rattle.flow_bytes.specs.NetworkBytes.{net}
 use Rattle.network_calls.specs.NetworkCalls.{Lent, NetCall, lends, number, refuses}
 use Rattle.network_calls.specs.NetworkRun.{NoLine, ConsistentNetwork, KeptNetwork, ReadNetwork, WalksNetwork, ListsNetwork}
 use Rattle.network_calls.specs.FirstFlow.{Finds, FindsNone}
-use Rattle.book.specs.Questions as book
+use Rattle.book.specs.Questions.{refusal as bookRefusal}
 use Rattle.way_bytes.specs.Told.{Told}
 use Rattle.allocation.specs.BookBytes.{ways, size}
-use Rattle.book_calls.specs.BookCalls as book
-use Rattle.book_calls.specs.BookCalls.{BookCall}
+use Rattle.book_calls.specs.BookCalls.{BookCall, number as bookNumber, refuses as bookRefuses}
 use Rattle.book_calls.specs.BookRun.{ConsistentBook, KeptBook, ReadBook, WalksBook, ListsBook}
 use Rattle.book_calls.specs.FirstWay.{FindsWay, FindsNoWay}
 
@@ -61,7 +60,7 @@ module _ (bs xs : List ℕ) where
 
   -- Counts are exact up to the cap, and those of handing out lines until the list ends or one beyond the cap is met.
   pub record CountFlowsDemands (cap : ℕ) (r : Reply) : Type 0 where
-    pub demand1 : Demand1 NoLine (refusal bs xs) tt (sees r tt)
+    pub demand1 : Demand1 {Lists = Unit {0}} NoLine (refusal bs xs) tt (sees r tt)
     pub exact : refusal bs xs ≡ 0 → r ≡ countReply (counted cap (length (fullList (net bs xs))))
     pub handed-out : refusal bs xs ≡ 0 → r ≡ countReply (count same-list encodeWords (fullList (net bs xs)) cap)
 
@@ -75,22 +74,22 @@ module _ (s : List ℕ) where
   Demand3Book e = Demand3 (KeptBook s) (ConsistentBook s) (ReadBook s off) (WalksBook s) (ListsBook s) e
 
   pub record FirstWayDemands (l : List ℕ) (t : Seen (List ℕ)) : Type 0 where
-    pub demand1 : Demand1 (Told s) (book.number s (first l)) l t
-    pub demand2 : book.number s (first l) ≡ 0 → FindsWay s l t ⊎ FindsNoWay s l t
+    pub demand1 : Demand1 (Told s) (bookNumber s (first l)) l t
+    pub demand2 : bookNumber s (first l) ≡ 0 → FindsWay s l t ⊎ FindsNoWay s l t
     pub demand3 : Demand3Book (first l, t)
 
   pub record NextWayDemands (g l : List ℕ) (t : Seen (List ℕ)) : Type 0 where
-    pub demand1 : Demand1 (Told s) (book.number s (next g l)) l t
+    pub demand1 : Demand1 (Told s) (bookNumber s (next g l)) l t
     pub demand3 : Demand3Book (next g l, t)
 
   pub record CountWaysDemands (cap : ℕ) (r : Reply) : Type 0 where
-    pub demand1 : Demand1 (Told s) (book.refusal s) tt (sees r tt)
-    pub exact : book.refusal s ≡ 0 → r ≡ countReply (counted cap (length (ways s)))
-    pub handed-out : book.refusal s ≡ 0 → r ≡ countReply (count same-list encodeWords (ways s) cap)
+    pub demand1 : Demand1 {Lists = Unit {0}} (Told s) (bookRefusal s) tt (sees r tt)
+    pub exact : bookRefusal s ≡ 0 → r ≡ countReply (counted cap (length (ways s)))
+    pub handed-out : bookRefusal s ≡ 0 → r ≡ countReply (count same-list encodeWords (ways s) cap)
 
   -- The same run of a book: the whole list lent to the first call, of E numbers, is given to the second.
   pub record WalkWaysDemands (l g : List ℕ) (r : List (BookCall × Seen (List ℕ))) : Type 0 where
-    pub read : length l ≡ 4 * size s → Strange same-list encodeWords (ways s) (book.refuses s) g → ReadBook s off r
+    pub read : length l ≡ 4 * size s → Strange same-list encodeWords (ways s) (bookRefuses s) g → ReadBook s off r
 
 -- the calls that were made: all three, or, where the first one's number is not 0, only that
 abbrev pub madeOf : {E : Type 0} → ℕ → E → E → E → List E
