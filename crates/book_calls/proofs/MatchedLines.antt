@@ -1,7 +1,6 @@
 -- Demand 3: ways and flows match line by line, from the bytes of a book.
 use mathlib.Core.Path.{_≡_, ap, sym, _∙_}
 use mathlib.Core.List.{List}
-use mathlib.Core.Option.{some}
 use Prim.Native.Nat.{ℕ}
 use lib.ListN.{getElem?}
 use lib.IntN.{pos}

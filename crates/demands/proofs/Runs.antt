@@ -4,7 +4,6 @@ use mathlib.Core.List.{List, [], _∷_, _++_}
 use mathlib.Core.Option.{Option, none, some}
 use Prim.Native.Nat.{ℕ, zero, suc}
 use native.Mathlib.Omega.{arith}
-use lib.IntN.{ℤ}
 use Rattle.laws.specs.Equality.{same-list}
 use Rattle.laws.specs.Run.{Call, first, next, Answer, respond, Kept}
 use Rattle.laws.specs.Seen.{Seen}

@@ -1,5 +1,5 @@
 -- Runs of three calls: first; next, given what was written; next with a list that is on no line.
-use mathlib.Core.Path.{_≡_, refl, sym, ap, subst, _∙_}
+use mathlib.Core.Path.{_≡_, refl, sym, ap, _∙_}
 use mathlib.Core.List.{List, [], _∷_, _++_, append-nil}
 use mathlib.Core.Logic.{inl, inr}
 use mathlib.Core.Option.{Option, none, some}
@@ -10,7 +10,7 @@ use lib.ListN.{length, take, drop, length-map, length-append}
 use lib.Seq.{drop-length}
 use Rattle.laws.specs.Members.{_∈_, first?, first-at, at-member}
 use Rattle.laws.specs.Equality.{same-list}
-use Rattle.laws.specs.Run.{Call, first, next, Answer, refused, nothing, line, off, shown, written, respond, respondUnless, Strange, ConsistentRun, Kept, AsRead}
+use Rattle.laws.specs.Run.{Call, first, next, Answer, nothing, line, off, shown, written, respond, respondUnless, Strange, ConsistentRun, Kept, AsRead}
 use Rattle.laws.specs.Seen.{Seen, Right}
 use Rattle.bytes32.specs.Words.{encodeWords, over, ints}
 use Rattle.bytes32.proofs.Words.{length-ints, length-encode}
@@ -22,7 +22,7 @@ use Rattle.network_questions.proofs.Accepted.{accepted-net}
 use Rattle.calls.specs.Replies.{failed, codeOf}
 use Rattle.flow_bytes.specs.NetworkBytes.{net}
 use Rattle.flow_bytes.proofs.NetworkLines.{full-flows}
-use Rattle.network_calls.specs.NetworkCalls.{Lent, NetCall, lent, number, refuses, Wrote}
+use Rattle.network_calls.specs.NetworkCalls.{Lent, NetCall, lent, number, Wrote}
 use Rattle.network_calls.specs.NetworkRun.{NoLine, Answers}
 use Rattle.network_calls.proofs.NetworkRun.{accepts, network-run, flow-copied}
 use Rattle.way_bytes.specs.Told.{Told}

@@ -4,8 +4,8 @@ use mathlib.Core.Path.{_≡_}
 use mathlib.Core.List.{List, [], _∷_, _++_}
 use mathlib.Core.Logic.{_⊎_}
 use mathlib.Core.Option.{none}
-use Prim.Native.Nat.{ℕ, zero, suc, _*_, _≤_}
-use lib.ListN.{length}
+use Prim.Native.Nat.{ℕ, zero, suc, _+_, _*_, _-_, _≤_, _<_}
+use lib.ListN.{length, getD}
 use lib.IntN.{pos}
 use Rattle.laws.specs.Equality.{same-list}
 use Rattle.laws.specs.Run.{first, next, off, Strange}
@@ -20,7 +20,13 @@ use Rattle.flow_bytes.specs.NetworkBytes.{net}
 use Rattle.network_calls.specs.NetworkCalls.{Lent, NetCall, lends, number, refuses}
 use Rattle.network_calls.specs.NetworkRun.{NoLine, ConsistentNetwork, KeptNetwork, ReadNetwork, WalksNetwork, ListsNetwork}
 use Rattle.network_calls.specs.FirstFlow.{Finds, FindsNone}
+use Rattle.lines.specs.Columns.{nobody}
+use Rattle.book.specs.Book.{parse}
 use Rattle.book.specs.Questions.{refusal as bookRefusal}
+use Rattle.book.specs.Checked.{entriesOf}
+use Rattle.book_names.specs.declared.Span.{Span}
+use Rattle.book_names.specs.Name.{nameRefusal}
+use Rattle.book_names.specs.BookNames.{part, placeOf}
 use Rattle.way_bytes.specs.Told.{Told}
 use Rattle.allocation.specs.BookBytes.{ways, size}
 use Rattle.book_calls.specs.BookCalls.{BookCall, number as bookNumber, refuses as bookRefuses}
@@ -90,6 +96,14 @@ module _ (s : List ℕ) where
   -- The same run of a book: the whole list lent to the first call, of E numbers, is given to the second.
   pub record WalkWaysDemands (l g : List ℕ) (r : List (BookCall × Seen (List ℕ))) : Type 0 where
     pub read : length l ≡ 4 * size s → Strange same-list encodeWords (ways s) (bookRefuses s) g → ReadBook s off r
+
+  -- The name of entry j, by two calls, p the part and n the number. "The name of an entry is given back as the part of the book that holds it. A refused
+  -- name call gives the empty part, which no name is; a second call on the same book and entry gives the number of the refusal, or 0."
+  pub record NameDemands (j : ℕ) (p : Span) (n : ℕ) : Type 0 where
+    pub number-told : n ≡ nameRefusal s j
+    pub refused : ¬ (n ≡ 0) → p ≡ record { start = 0; length = 0 }
+    pub named : n ≡ 0 → (part s p ≡ getD (entriesOf (parse s)) (j - 1) nobody .name) × (0 < length (part s p)) × (p .start ≡ placeOf s j)
+    pub within : p .start + p .length ≤ length s
 
 -- the calls that were made: all three, or, where the first one's number is not 0, only that
 abbrev pub madeOf : {E : Type 0} → ℕ → E → E → E → List E

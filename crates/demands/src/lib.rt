@@ -5,7 +5,8 @@ ghost use lib.ListN.{length, take};
 ghost use Rattle.laws.specs.Run.{first, next};
 ghost use Rattle.calls.specs.Replies.{sees};
 ghost use Rattle.network_calls.specs.NetworkCalls.{lends};
-ghost use Rattle.demands.specs.Demands.{FirstFlowDemands, NextFlowDemands, CountFlowsDemands, WalkFlowsDemands, FirstWayDemands, NextWayDemands, CountWaysDemands, WalkWaysDemands, madeOf};
+ghost use Rattle.demands.specs.Demands.{FirstFlowDemands, NextFlowDemands, CountFlowsDemands, WalkFlowsDemands, FirstWayDemands, NextWayDemands, CountWaysDemands, NameDemands, WalkWaysDemands, madeOf};
+use book_names::Span;
 use calls::Reply;
 
 pub fn first_flow(balances: &[u8], arcs: &[u8], flows: &mut [u8]) -> Reply
@@ -49,6 +50,23 @@ pub fn count_ways(book: &[u8], cap: u16) -> Reply
     ensures { λ r. ⌜ CountWaysDemands (now (book .entry)) cap r ⌝ }
 {
     desk::desk_count(book, cap)
+}
+
+// The part of the book that holds the name of an entry, and the number of the question that refuses it, or 0.
+pub struct Named {
+    pub part: Span,
+    pub number: u32,
+}
+
+pub fn name_of(book: &[u8], entry: u32) -> Named
+    ensures { λ r. ⌜ NameDemands (now (book .entry)) entry (r .part) (r .number) ⌝ }
+{
+    let part = desk::desk_name(book, entry);
+    let number = desk::desk_name_refusal(book, entry);
+    Named {
+        part: part,
+        number: number,
+    }
 }
 
 // The replies of the calls of a walk; where the first one writes no line, it is the only call, and its reply stands three times.
