@@ -31,7 +31,8 @@ use Rattle.calls.specs.declared.Reply.{Reply}
 use Rattle.way_bytes.specs.declared.Admitted.{Admitted}
 use Rattle.calls.specs.Replies.{orElse, codeOf, sees, word, HandedOut, countReply, refusedAt}
 use Rattle.calls.specs.ByteLists.{room, listed}
-use Rattle.book_calls.specs.BookCalls.{BookCall, lent, number, countWays, CountsBook}
+use Rattle.book_calls.specs.BookCalls.{BookCall, lent, number, countWays}
+use Rattle.book_calls.specs.BookEntries.{BookCount}
 use Rattle.allocation.specs.BookBytes.{waysIn, ways, size, costIn, costOf}
 use Rattle.way_bytes.specs.Told.{Told}
 use Rattle.book_calls.specs.BookRun.{RightBook, AnswersBook}
@@ -117,7 +118,7 @@ module _ (s : List ℕ) where
           rw (h .ok, fits, on, w) (handed (next g l) o r l′ (of-book o 101 r l′ d))
 
   -- counting
-  pub counts-refused : (v : Checked) → Judged s v → (k t cap : ℕ) (r : Reply) → k ≡ questionOf (v .answer) → t ≡ lineOf (v .answer) → ¬ (k ≡ 0) → r ≡ refusedAt k t → CountsBook s cap r
+  pub counts-refused : (v : Checked) → Judged s v → (k t cap : ℕ) (r : Reply) → k ≡ questionOf (v .answer) → t ≡ lineOf (v .answer) → ¬ (k ≡ 0) → r ≡ refusedAt k t → BookCount s cap r
   counts-refused v h zero t cap r e l n q = absurd (n refl)
   counts-refused v h (suc k) t cap r e l n q =
       let no : refusal s ≡ suc k = sym (h .question) ∙ sym e in
@@ -127,7 +128,7 @@ module _ (s : List ℕ) where
         told = rw q (subst (λ i. Told s i t) (h .question) (subst (λ i. Told s (questionOf (v .answer)) i) (sym l) (told s v h)));
       }
 
-  pub counts : refusal s ≡ 0 → (b : Book) → parse s ≡ some b → (cap n : ℕ) → counted cap n ≡ allocation.countWays b cap → (r : Reply) → r ≡ countReply (counted cap n) → CountsBook s cap r
+  pub counts : refusal s ≡ 0 → (b : Book) → parse s ≡ some b → (cap n : ℕ) → counted cap n ≡ allocation.countWays b cap → (r : Reply) → r ≡ countReply (counted cap n) → BookCount s cap r
   counts ok b p cap n is r q =
       let e : r ≡ countReply (countWays s cap) = q ∙ ap countReply (is ∙ ap (λ x. counted cap (length (waysIn x))) (sym p)) in
       record {

@@ -1,4 +1,5 @@
 pub mod BookRun
 pub mod FirstWay
+pub mod MatchedLines
 mod BookEntries
 mod BookExamples

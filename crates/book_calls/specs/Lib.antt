@@ -1,3 +1,5 @@
 pub mod BookCalls
 pub mod BookRun
+pub mod BookEntries
 pub mod FirstWay
+pub mod MatchedLines

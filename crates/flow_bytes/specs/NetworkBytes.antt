@@ -9,6 +9,7 @@ use Rattle.network.specs.Input.{netOf}
 use Rattle.network.specs.Struct.{Sound, netIn}
 use Rattle.network.specs.declared.Network.{Network}
 use Rattle.network_questions.specs.Questions.{refusal}
+use Rattle.network_check.specs.Checked.{checkedNet}
 use Rattle.calls.specs.Replies.{orElse}
 use Rattle.calls.specs.ByteLists.{room}
 use Rattle.flow_bytes.specs.declared.Begun.{Begun}
@@ -23,7 +24,8 @@ pub record Ready (bs xs : List ℕ) (s : Network) : Type 0 where
   pub sound : Sound s
   pub is : netIn s ≡ net bs xs
 
--- questions 1 to 7, with a list of so many bytes lent for the flows
+-- questions 1 to 7, with a list of so many bytes lent for the flows; the struct is that of the check, whatever the number
 pub record Begins (bs xs : List ℕ) (bytes : ℕ) (r : Begun) : Type 0 where
   pub number-is : r .number ≡ orElse (refusal bs xs) (ask (room (arcs (net bs xs)) bytes) 7 0)
+  pub net-is : r .net ≡ checkedNet bs xs
   pub ready : r .number ≡ 0 → Ready bs xs (r .net)

@@ -1,0 +1,4 @@
+pub mod Refusals
+pub mod Runs
+pub mod Names
+pub mod Walks
