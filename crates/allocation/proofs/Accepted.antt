@@ -14,7 +14,7 @@ use Rattle.network.specs.Accepted.{AcceptedNet}
 use Rattle.lines.specs.declared.moves.Move.{Move}
 use Rattle.lines.specs.Questions.{moveOf}
 use Rattle.book.specs.Book.{Book}
-use Rattle.book.proofs.Accepted.{Accepted}
+use Rattle.book.specs.WithinLimits.{WithinLimits}
 use Rattle.allocation.specs.Follow.{size, entryAt, stay, link, inTime}
 use Rattle.allocation.specs.Ways.{orNone}
 use Rattle.allocation.specs.BookNet.{price, bookArcs, bookNet}
@@ -23,7 +23,7 @@ use Rattle.allocation.proofs.Arcs.{arc-holds, part-holds, well-formed}
 use Rattle.allocation.proofs.Fair.{cost-high}
 use Rattle.allocation.proofs.Size.{arcs-few, nodes-few}
 
-module _ (book : Book) (ok : Accepted book) where
+module _ (book : Book) (ok : WithinLimits book) where
   move-small : (a b finish start : ℕ) → orNone (inTime (moveOf (book .moves) a b) finish start) ≤ 1000000
   move-small a b finish start = go (moveOf (book .moves) a b) refl
     where

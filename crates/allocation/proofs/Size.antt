@@ -15,7 +15,7 @@ use Rattle.laws.specs.Totals.{totalOf, total-last, triangle, triangle-mono, squ
 use Rattle.network.specs.Network.{nodes, arcs}
 use Rattle.lines.specs.declared.moves.Move.{Move}
 use Rattle.book.specs.Book.{Book}
-use Rattle.book.proofs.Accepted.{Accepted}
+use Rattle.book.specs.WithinLimits.{WithinLimits}
 use Rattle.allocation.specs.Follow.{size, entryAt, link, inTime, mayFollow}
 use Rattle.allocation.specs.Ways.{given?, permits, oneIf}
 use Rattle.allocation.specs.FullWays.{numbers}
@@ -64,7 +64,7 @@ module _ (book : Book) where
       let block = length-map (sources book s) (joinArc book s) ∙ keep-count (λ i. permits book i s) (size book) in
       omega arith
 
-  module _ (ok : Accepted book) where
+  module _ (ok : WithinLimits book) where
     timed : (j : ℕ) → 1 ≤ j → j ≤ size book → entryAt book j .start < entryAt book j .finish
     timed j h k = fair-entry (entryAt book j) (ok .fair-entries (j - 1) (omega arith)) .ends-later
 

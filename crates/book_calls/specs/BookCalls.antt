@@ -13,7 +13,7 @@ use Rattle.calls.specs.declared.Reply.{Reply}
 use Rattle.calls.specs.Replies.{failed, orElse, countUnless}
 use Rattle.calls.specs.ByteLists.{room, fairGiven}
 use Rattle.allocation.specs.BookBytes.{ways, size}
-use Rattle.way_bytes.specs.Told.{Told}
+use Rattle.book.specs.Told.{Told}
 
 -- `first` is lent a list for a way; `next` is given one and lent one
 abbrev pub BookCall : Type 0

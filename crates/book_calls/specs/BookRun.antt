@@ -10,7 +10,7 @@ use Rattle.bytes32.specs.Words.{encodeWords}
 use Rattle.calls.specs.Replies.{codeOf}
 use Rattle.book_calls.specs.BookCalls.{BookCall, lent, refuses, Wrote}
 use Rattle.allocation.specs.BookBytes.{ways, costOf}
-use Rattle.way_bytes.specs.Told.{Told}
+use Rattle.book.specs.Told.{Told}
 
 -- s: the book as it came. "The book or network is the same throughout".
 module _ (s : List ℕ) where

@@ -9,6 +9,7 @@ use Rattle.laws.specs.Tests.{ask}
 use Rattle.bytes32.specs.Words.{words}
 use Rattle.book.specs.Book.{Book}
 use Rattle.book.specs.Questions.{refusal}
+use Rattle.book.specs.Told.{Told}
 use Rattle.book.specs.Checked.{checkedBook}
 use Rattle.book.specs.declared.CheckedBook.{CheckedBook}
 use Rattle.allocation.specs.Ways.{wayCost}
@@ -21,7 +22,6 @@ use Rattle.calls.specs.Replies.{orElse, HandedOut}
 use Rattle.calls.specs.ByteLists.{room, listed}
 use Rattle.way_bytes.specs.declared.Admitted.{Admitted}
 use Rattle.allocation.specs.BookBytes.{size}
-use Rattle.way_bytes.specs.Told.{Told}
 
 -- questions 11 to 17, with a list of so many bytes lent for the way
 pub record Admits (s : List ℕ) (bytes : ℕ) (r : Admitted) : Type 0 where

@@ -74,7 +74,7 @@ at-way b r walks p o line place = record {
 module _ (b : Book) (s r : WayWalk) (walks : Walks b s) (entries : r .entries ≡ s .entries) (p : Place) (o : Option (List ℕ)) (steps : flows.Steps (s .walk) p o (r .walk)) where
   goes-on : Walks b r
   goes-on = record {
-    accepted = walks .accepted;
+    limits = walks .limits;
     entries-are = entries ∙ walks .entries-are;
     net-is = ap netIn (steps .net-is) ∙ walks .net-is;
     stands = steps .stands;
@@ -102,7 +102,7 @@ module _ (k : CheckedBook) (N : Network) (makes : MakesNet k N) where
   count-is b h = ap (λ (c : CheckedBook). c .count) (h .is)
 
   made-ends : (b : Book) → Holds b k → Ends b (k .count) (take (N .arcs) (N .tails)) (take (N .arcs) (N .heads))
-  made-ends b h = rw (count-is b h) (ends-of b (h .accepted) N (made-net b k h N makes))
+  made-ends b h = rw (count-is b h) (ends-of b (h .limits) N (made-net b k h N makes))
 
   pub net-ends : Held k → HasEnds (k .count) (take (N .arcs) (N .tails)) (take (N .arcs) (N .heads))
   net-ends h = record { book = h .book; ends = made-ends (h .book) (h .holds) }
@@ -110,7 +110,7 @@ module _ (k : CheckedBook) (N : Network) (makes : MakesNet k N) where
   module _ (b : Book) (h : Holds b k) (r : Enumerator) (stands : Stands r) (same : r .net ≡ N) where
     pub walks : Walks b (record { walk = r; entries = k .count })
     walks = record {
-      accepted = h .accepted;
+      limits = h .limits;
       entries-are = count-is b h;
       net-is = ap netIn same ∙ made-net b k h N makes;
       stands = stands;
@@ -163,7 +163,7 @@ module _ (net : Network) (ok : Sound net) where
   in-heads = room (net .heads) (ok .accepted .well-formed .heads-len ∙ sym (ok .arcs-held))
 
 ends : (b : Book) (s : WayWalk) → Walks b s → Ends b (s .entries) (take (s .walk .net .arcs) (s .walk .net .tails)) (take (s .walk .net .arcs) (s .walk .net .heads))
-ends b s h = rw (h .entries-are) (ends-of b (h .accepted) (s .walk .net) (h .net-is))
+ends b s h = rw (h .entries-are) (ends-of b (h .limits) (s .walk .net) (h .net-is))
 
 pub has-ends : (s : WayWalk) → Walking s → HasEnds (s .entries) (take (s .walk .net .arcs) (s .walk .net .tails)) (take (s .walk .net .arcs) (s .walk .net .heads))
 has-ends s h = record { book = h .book; ends = ends (h .book) s (h .walks) }

@@ -13,7 +13,7 @@ use Rattle.enumerator.specs.declared.Place.{Place}
 use Rattle.enumerator.specs.declared.Place.the-variants.{Start, Line}
 use Rattle.book.specs.Book.{Book}
 use Rattle.book.specs.declared.CheckedBook.{CheckedBook}
-use Rattle.book.proofs.Accepted.{Accepted}
+use Rattle.book.specs.WithinLimits.{WithinLimits}
 use Rattle.allocation.specs.Follow.{size}
 use Rattle.allocation.specs.Ways.{wayCost, LeastCostWay}
 use Rattle.allocation.specs.FullWays.{nextWay, countWays}
@@ -24,7 +24,7 @@ use Rattle.way_enumerator.specs.declared.WayWalk.{WayWalk}
 
 -- s walks through the ways of b
 pub record Walks (b : Book) (s : WayWalk) : Type 0 where
-  pub accepted : Accepted b
+  pub limits : WithinLimits b
   pub entries-are : s .entries ≡ size b
   pub net-is : netOf (s .walk) ≡ bookNet b
   pub stands : Stands (s .walk)

@@ -5,14 +5,14 @@ use Prim.Native.Nat.{ℕ}
 use lib.ListN.{getD}
 use Rattle.laws.specs.Padded.{padded}
 use Rattle.book.specs.Book.{Book}
-use Rattle.book.proofs.Accepted.{Accepted}
+use Rattle.book.specs.WithinLimits.{WithinLimits}
 use Rattle.allocation.specs.Follow.{size}
 use Rattle.allocation.specs.Ways.{IsWay}
 use Rattle.allocation.specs.BookNet.{bookArcs}
 use Rattle.allocation.specs.WayFlow.{flowOf}
 
 pub record Ends (b : Book) (e : ℕ) (tails heads : List ℕ) : Type 0 where
-  pub accepted : Accepted b
+  pub limits : WithinLimits b
   pub entries-are : e ≡ size b
   pub tails-are : tails ≡ map (λ a. a .tail) (bookArcs b)
   pub heads-are : heads ≡ map (λ a. a .head) (bookArcs b)

@@ -40,12 +40,12 @@ module _ (b : Book) (s : WayWalk) (on : s .walk .place ≡ Line) where
     is-way = flow-back b (flowIn (s .walk)) (subst (λ N. IsFlow N (flowIn (s .walk))) (walks .net-is) (walks .stands .marked on .marks .least .flow)) .0
 
     pub shown-few : length (shown b s) ≤ 28
-    shown-few = omega (arith, is-way .all-entries, walks .accepted .few)
+    shown-few = omega (arith, is-way .all-entries, walks .limits .few)
 
     pub line-short : length (wayLine (shown b s)) ≤ 90
     line-short =
         way-size (shown b s) shown-few
-        (every-map (λ p. p ≤ size b) (λ p. p ≤ 28) (shown b s) (λ p h. omega (arith, walks .accepted .few)) (joined-small b 1 (shown b s) (is-way .joined)))
+        (every-map (λ p. p ≤ size b) (λ p. p ≤ 28) (shown b s) (λ p h. omega (arith, walks .limits .few)) (joined-small b 1 (shown b s) (is-way .joined)))
 
     pub told : (r : List ℕ) → Tells s r → take (s .entries) r ≡ shown b s
     told r t =

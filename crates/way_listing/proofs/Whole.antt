@@ -12,7 +12,7 @@ use Rattle.enumerator.specs.declared.Place.{Place}
 use Rattle.enumerator.specs.declared.Place.the-variants.{Line}
 use Rattle.listing.specs.Lines.{costLine, noneLine}
 use Rattle.book.specs.Book.{Book}
-use Rattle.book.proofs.Accepted.{Accepted}
+use Rattle.book.specs.WithinLimits.{WithinLimits}
 use Rattle.allocation.specs.Ways.{wayCost}
 use Rattle.allocation.specs.FullWays.{fullWays, firstWay}
 use Rattle.allocation.specs.BookNet.{price}
@@ -45,7 +45,7 @@ along-most : (f : ℕ → ℕ → ℕ) → ((p j : ℕ) → f p j ≤ 1000000) �
 along-most f h j [] = omega arith
 along-most f h j (p ∷ w) = omega (arith, h p j, along-most f h (suc j) w)
 
-cost-small : (b : Book) → Accepted b → (w : List ℕ) → length w ≤ 28 → wayCost b w ≤ 28000000
+cost-small : (b : Book) → WithinLimits b → (w : List ℕ) → length w ≤ 28 → wayCost b w ≤ 28000000
 cost-small b ok w h = omega (arith, price-sum b 1 w, along-most (λ p k. price b p k) (price-small b ok) 1 w)
 
 module _ (b : Book) (word : Place) (r : WayWalk) (a : At b word (firstWay b) r) (on : r .walk .place ≡ Line) where
@@ -56,4 +56,4 @@ module _ (b : Book) (word : Place) (r : WayWalk) (a : At b word (firstWay b) r) 
   cost-is = a .cost-is ∙ ap (costShown b) first-is
 
   pub cost-few : wayCost b (shown b r) ≤ 28000000
-  cost-few = cost-small b (a .walks .accepted) (shown b r) (shown-few b r on (a .walks))
+  cost-few = cost-small b (a .walks .limits) (shown b r) (shown-few b r on (a .walks))

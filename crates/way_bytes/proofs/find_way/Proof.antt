@@ -28,7 +28,7 @@ count-is : (b : Book) (c : CheckedBook) → Holds b c → c .count ≡ size b
 count-is b c h = ap (λ (x : CheckedBook). x .count) (h .is)
 
 few : (c : CheckedBook) → Held c → c .count ≤ 28
-few c h = omega (arith, count-is (h .book) c (h .holds), h .holds .accepted .few)
+few c h = omega (arith, count-is (h .book) c (h .holds), h .holds .limits .few)
 
 -- the numbers given, where their count is right
 read : (c : tie.After-read-words) → take (c .before .before .before .args .book .count) (c .read-words .result) ≡ words (c .before .before .before .args .given .now)
@@ -52,7 +52,7 @@ returns c =
         c .start .ensures .each b h .walks,
         c .start .ensures .each b h .way-is
             ∙ sym (ap (λ t. cond t (some (words g)) none)
-            (other-length (size b) (fullWays b) (full-ways b (h .accepted)) g (λ q. c .before .if1 .taken (q ∙ ap (λ k. 4 * k) (sym (count-is b (a .args .book) h)))))),
+            (other-length (size b) (fullWays b) (full-ways b (h .limits)) g (λ q. c .before .if1 .taken (q ∙ ap (λ k. 4 * k) (sym (count-is b (a .args .book) h)))))),
       );
     }
 
@@ -79,7 +79,7 @@ returns-2 c =
           let k = c .resume .ensures .each b h in
           let e : length g ≡ 4 * size b = r .before .if1 .left ∙ ap (λ n. 4 * n) (count-is b (a .args .book) h) in (
             k .walks,
-            found (size b) (fullWays b) (full-ways b (h .accepted)) g (every-at g 256 (λ i h. r .before .before .shared-slice-known .given i .fits)) e (w .walk .place) (wayAt b w)
+            found (size b) (fullWays b) (full-ways b (h .limits)) g (every-at g 256 (λ i h. r .before .before .shared-slice-known .given i .fits)) e (w .walk .place) (wayAt b w)
                 (λ p. (k .on p .0 ∙ ap some (read r), full-way b (words g) .1 (rw (read r) at (k .on p .1))))
                 (λ n. (ap (mapOption (wayOf b)) (off-line (w .walk .place) (flowIn (w .walk)) n), λ m. k .off n (rw (read r) (full-way b (words g) .0 m)))),
           )

@@ -14,7 +14,7 @@ abbrev μ-loop : tie.MeasureT-loop
 μ-loop e tails heads flow way₀ joins k₀ way k = joins - k
 
 few : (c : tie.Start Inv-loop μ-loop) → c .args .e ≤ 28
-few c = omega (arith, c .pre .0 .ends .entries-are, c .pre .0 .ends .accepted .few)
+few c = omega (arith, c .pre .0 .ends .entries-are, c .pre .0 .ends .limits .few)
 
 -- as many heads and flows as tails, and as many as there are arcs behind the joins
 long : (c : tie.Start Inv-loop μ-loop) → (2 * c .args .e + 1 ≤ length (c .args .tails .now)) × (length (c .args .heads .now) ≡ length (c .args .tails .now)) × (length (c .args .flow .now) ≡ length (c .args .tails .now))
