@@ -5,7 +5,8 @@ use mathlib.Core.Bool.{Bool, true, false, cond, _&&_}
 use mathlib.Core.Option.{Option, none, some}
 use mathlib.Core.List.{List, [], _∷_}
 use native.Mathlib.Omega.{arith}
-use lib.ListN.{length, getD}
+use lib.ListN.{length, take, getD}
+use lib.Seq.{take-all}
 use lib.Dec.{leb, eqb, eqb·suc-zero}
 use borrow.Author.Tests.{le-leb, lt-leb, leb-true, eqb-true, eqb-false}
 use Rattle.lines.specs.declared.moves.Move.{Move}
@@ -24,9 +25,10 @@ use Rattle.book.specs.Told.{ToldOf, Told}
 use Rattle.lines.specs.Questions.{moves, entries, all}
 use Rattle.lines.specs.Columns.{table, nobody}
 use Rattle.book.specs.Checked.{filled, empty, unlessRefused, checkedBook}
-use Rattle.lines.specs.Passes.{Verdict, columnsOf, Placed}
+use Rattle.lines.specs.Passes.{Verdict, kept, columnsOf, Placed}
 use Rattle.book.specs.Steps.{answerOf, headerBad, heldOf, judgedOf}
 use Rattle.lines.proofs.Verdicts.{verdict-none, verdict-more}
+use Rattle.lines.proofs.MovePass.{kept-all}
 use Rattle.book.proofs.Judging.{column-at}
 use Rattle.book.proofs.Told.{told-header, told-move, told-entry, none-told, untold}
 use Rattle.book_check.specs.Judged.{Lies, Judged}
@@ -65,11 +67,11 @@ pub record Found (s : List ℕ) (o : Opening) (m : Moves) (e : Entries) : Type 0
   pub entry-list : List Entry
   pub parsed : parse s ≡ some (record { players = o .players; fee = o .fee; moves = move-list; entries = entry-list })
   pub moves-judged : Verdict 4 (moves [] move-list) (m .bad)
-  pub ticks : m .bad ≡ 0 → m .ticks ≡ table (λ m. m .ticks + 1) move-list
-  pub costs : m .bad ≡ 0 → m .costs ≡ table (λ m. m .cost) move-list
+  pub ticks : m .ticks ≡ table (λ m. m .ticks + 1) (kept [] move-list)
+  pub costs : m .costs ≡ table (λ m. m .cost) (kept [] move-list)
   pub count : e .count ≡ length entry-list
   pub entries-judged : Verdict (4 + length move-list) (entries entry-list) (e .bad)
-  pub columns : length entry-list ≤ 28 → e .columns ≡ columnsOf (length s) entry-list
+  pub columns : e .columns ≡ columnsOf (length s) (take 28 entry-list)
   pub placed : (n : ℕ) → n < length entry-list → Placed s (getD entry-list n nobody)
 
 held-filled : (o : Opening) (m : Moves) (e : Entries) (total : ℕ) (ms : List Move) (es : List Entry)
@@ -131,7 +133,11 @@ module _ (s : List ℕ) (o : Opening) (m : Moves) (e : Entries) (f : Found s o m
           record { question = sym (rw (not-all (header B) (t .0) (t .2))); told = told-header B _ t; passed = λ z. absurd (omega arith) }
 
   fills : questionOf A ≡ 0 → heldOf o m e ≡ filled (length s) B
-  fills q = let p = outcome .passed q in held-filled o m e (length s) (f .move-list) (f .entry-list) (f .ticks (p .0)) (f .costs (p .0)) (f .count) (f .columns (p .1))
+  fills q =
+      let p = outcome .passed q in
+      let taken = kept-all (f .move-list) (f .moves-judged .passed (p .0)) in
+      held-filled o m e (length s) (f .move-list) (f .entry-list) (f .ticks ∙ ap (table (λ m. m .ticks + 1)) taken) (f .costs ∙ ap (table (λ m. m .cost)) taken) (f .count)
+      (f .columns ∙ ap (columnsOf (length s)) (take-all 28 (f .entry-list) (p .1)))
 
   book-is : (q : ℕ) → questionOf A ≡ q → cond (eqb q 0) (heldOf o m e) empty ≡ unlessRefused q (length s) (some B)
   book-is zero h = fills h
