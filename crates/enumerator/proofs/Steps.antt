@@ -128,4 +128,4 @@ pub not-marked : (N : Net) (f : List ℕ) (t : List Bool) (r : Bool) → MarkedI
 not-marked N f t r h e = subst (MarkedIfLeast N f t) e h
 
 pub resume-off : (N : Net) (f : List ℕ) (r : Enumerator) → r .place ≡ Start → ¬ LeastCost N f → Resumes N f r
-resume-off N f r e n = record { on = λ h. absurd (no-line Start (λ _. refl) (sym e ∙ h)); off = λ _. n }
+resume-off N f r e n = record { on = λ h. absurd (no-line Start (λ _. refl) (sym e ∙ h)); off = λ _. n; start = λ _. e }

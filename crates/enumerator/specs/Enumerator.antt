@@ -66,7 +66,8 @@ pub record Steps (s : Enumerator) (w : Place) (o : Option (List ℕ)) (r : Enume
   pub line-is : lineOf r ≡ o
   pub place-is : r .place ≡ placeOf w o
 
--- r stands on f if that is a least-cost flow, and else on no line
+-- r stands on f if that is a least-cost flow, and else it has not begun
 pub record Resumes (N : Net) (f : List ℕ) (r : Enumerator) : Type 0 where
   pub on : r .place ≡ Line → (flowIn r ≡ f) × LeastCost N f
   pub off : r .place ≢ Line → ¬ LeastCost N f
+  pub start : r .place ≢ Line → r .place ≡ Start

@@ -47,7 +47,7 @@ pub fn admit(book: &[u8], bytes: usize) -> Admitted
     }
 }
 
-// Question 18: the walk that stands on the way given, or on none.
+// Question 18: the walk that stands on the way given, if it is on the full list; else one that has not begun.
 pub fn find_way(book: CheckedBook, given: &[u8]) -> WayWalk
     requires { ⌜ Held book ⌝ }
     ensures { λ r. ⌜ FindsGiven book (now (given .entry)) r ⌝ }

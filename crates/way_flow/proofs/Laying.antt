@@ -122,7 +122,7 @@ module _ (e players : ℕ) (tails heads w : List ℕ) where
   few : (b : Book) → Ends b e tails heads → length tails ≤ 463
   few b h = omega (arith, arcs-few b (h .limits), count-arcs b, ap length (h .tails-are))
 
-  pub laying-room : HasEnds e tails heads → length tails ≤ 463
+  pub laying-room : HasEnds e players tails heads → length tails ≤ 463
   laying-room h = few (h .book) (h .ends)
 
   pub laying-start : Laying (replicate 512 0) 0

@@ -60,7 +60,7 @@ returns-2 c =
           (cost-summed (netIn n) (s .pre .accepted .well-formed) g g refl _ (c .cost-of .result) (toZ-ofZ (record { sfits = c .cost-of .ok })) (c .cost-of .ensures))
           (subst (λ (x : List Bool). Marked (netIn n) x g) (sym (part-written t (drop (n .arcs) (replicate 512 false)) (n .arcs) (m .marks-len ∙ sym (s .pre .arcs-held)) .1)) m),
       refl,
-      record { on = λ _. (refl, m .marks .least); off = λ h. absurd (h refl) },
+      record { on = λ _. (refl, m .marks .least); off = λ h. absurd (h refl); start = λ h. absurd (h refl) },
     )
 
 pub resume-spec : {M : Type 1} → statement M
