@@ -1,4 +1,4 @@
--- What is told with each question. Assumes nothing.
+-- What is told with each question.
 use mathlib.Core.Path.{_≡_, refl}
 use mathlib.Core.List.{List, []}
 use mathlib.Core.Option.{Option, none, some}

@@ -1,4 +1,4 @@
--- A book that is accepted is within the limits. Assumes nothing.
+-- A book that is accepted is within the limits.
 use Prim.Native.Nat.{ℕ, zero, suc, _<_}
 use mathlib.Core.Path.{_≡_, refl}
 use mathlib.Core.Bool.{Bool, true, false, _&&_}

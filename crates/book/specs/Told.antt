@@ -8,8 +8,8 @@ use Rattle.lines.specs.Questions.{moves, entries, FailsAt}
 use Rattle.book.specs.Book.{Book, parse}
 use Rattle.book.specs.Questions.{header}
 
--- "13, 14 and 15 also carry the number of some line that fails (first line 1)": the players are line 2, the moves begin at line 4.
--- Other refusals carry 0.
+-- "13, 14 and 15 also carry the number of" a line (`FailsAt` says which) "(first line 1)": the players are line 2, the moves begin at
+-- line 4. Other refusals carry 0.
 pub record ToldOf (b : Book) (question line : ℕ) : Type 0 where
   pub of-header : question ≡ 13 → FailsAt 2 (header b) line
   pub of-move : question ≡ 14 → FailsAt 4 (moves [] (b .moves)) line

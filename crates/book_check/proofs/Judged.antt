@@ -1,4 +1,4 @@
--- The questions 11 to 16, from what the passes found. Assumes nothing.
+-- The questions 11 to 16, from what the passes found.
 use Prim.Native.Nat.{ℕ, zero, suc, _+_, _-_, _<_, _≤_}
 use mathlib.Core.Path.{_≡_, refl, sym, ap, _∙_}
 use mathlib.Core.Bool.{Bool, true, false, cond, _&&_}

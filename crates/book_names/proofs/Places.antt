@@ -1,4 +1,4 @@
--- Where the name of an entry lies. Assumes nothing.
+-- Where the name of an entry lies.
 use Prim.Native.Nat.{ℕ, zero, suc, _-_, _≤_, _<_}
 use mathlib.Core.Path.{_≡_, refl, sym, ap, _∙_}
 use mathlib.Core.Bool.{true, false, _&&_}

@@ -1,4 +1,4 @@
--- The pass over the lines of entries. Assumes nothing.
+-- The pass over the lines of entries.
 use Prim.Native.Nat.{ℕ, suc, _+_, _-_, _<_, _≤_}
 use mathlib.Core.Path.{_≡_, refl, sym, ap, subst, _∙_}
 use mathlib.Core.Bool.{Bool, true, false}

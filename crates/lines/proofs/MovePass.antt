@@ -1,4 +1,4 @@
--- The pass over the lines of moves. Assumes nothing.
+-- The pass over the lines of moves.
 use Prim.Native.Nat.{ℕ, _+_}
 use mathlib.Core.Path.{_≡_, refl, sym, ap, _∙_}
 use mathlib.Core.Bool.{Bool, true, false, cond}

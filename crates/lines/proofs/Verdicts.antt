@@ -1,4 +1,4 @@
--- A question put to one line after another. Assumes nothing.
+-- A question put to one line after another.
 use Prim.Native.Nat.{ℕ, zero, suc, _+_, _<_}
 use mathlib.Core.Path.{_≡_, refl, sym, ap, _∙_}
 use mathlib.Core.Bool.{Bool, true, false, cond, _&&_, true≢false}

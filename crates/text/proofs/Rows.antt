@@ -1,4 +1,4 @@
--- The rest of a line. Assumes nothing.
+-- The rest of a line.
 use Prim.Native.Nat.{ℕ, suc, _-_, _<_, _≤_}
 use mathlib.Core.Path.{_≡_, refl, _∙_}
 use mathlib.Core.List.{List, [], _∷_}

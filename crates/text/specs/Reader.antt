@@ -65,13 +65,14 @@ front test (b ∷ s) = elim (test b) [ true ↦ b ∷ front test s | false ↦ [
 unfoldable pub run : (ℕ → Bool) → Reader (List ℕ)
 run test s = reads (front test s) (drop (length (front test s)) s)
 
+-- 48 to 57 are the bytes of 0 to 9, 97 to 122 those of a to z
 abbrev pub digit : ℕ → Bool
 digit b = leb 48 b && leb b 57
 
 abbrev pub letter : ℕ → Bool
 letter b = leb 97 b && leb b 122
 
--- the value of a run of digits after a number a
+-- the value of a run of digits that follows the digits of the number a
 unfoldable pub valueFrom : ℕ → List ℕ → ℕ
 valueFrom a [] = a
 valueFrom a (d ∷ ds) = valueFrom (a * 10 + (d - 48)) ds

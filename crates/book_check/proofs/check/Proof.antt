@@ -1,4 +1,4 @@
--- `book_check::check` meets its contract: each part of the book is read where the one before it ended. Assumes nothing.
+-- `book_check::check` meets its contract: each part of the book is read where the one before it ended.
 use Prim.Native.Nat.{_+_}
 use borrow.Author.Needs.{needs}
 use borrow.Author.Tests.{not-true, not-false}

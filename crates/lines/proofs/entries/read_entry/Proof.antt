@@ -1,4 +1,4 @@
--- `lines::entries::read_entry` meets its contract: each part is read where the one before it ended. Assumes nothing.
+-- `lines::entries::read_entry` meets its contract: each part is read where the one before it ended.
 use Prim.Native.Nat.{ℕ, _+_, _-_}
 use mathlib.Core.List.{List}
 use native.Mathlib.Omega.{arith}

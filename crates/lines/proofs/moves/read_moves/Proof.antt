@@ -1,4 +1,4 @@
--- `lines::moves::read_moves` meets its contract: after each line the tables are those of the lines read. Assumes nothing.
+-- `lines::moves::read_moves` meets its contract: after each line the tables are those of the moves taken.
 use mathlib.Core.List.{List, [], _∷_, _++_}
 use native.Mathlib.Omega.{arith}
 use borrow.Author.Needs.{needs}
