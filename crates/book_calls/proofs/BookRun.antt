@@ -26,7 +26,7 @@ use Rattle.calls.proofs.Turns as turns
 
 module _ (s : List ℕ) where
   pub full : refusal s ≡ 0 → FullOf (size s) (ways s)
-  full e = let (b, p, h) = held s e in rw p (full-ways b (h .accepted))
+  full e = let (b, p, h) = held s e in rw p (full-ways b (h .limits))
 
   apart : refusal s ≡ 0 → Apart encodeWords (ways s)
   apart e = lines-apart (size s) (ways s) (full e)

@@ -23,7 +23,7 @@ book-matched s ok =
     record {
       book = b;
       holds = p;
-      accepted = accepted-net b (h .accepted);
+      accepted = accepted-net b (h .limits);
       lines = λ k. line-matched b k ∙ ap (λ o. mapOption (flowOf b) (getElem? (waysIn o) k)) (sym p);
       costs = λ k w e. way-cost b w (full-way b w .0 (at-member (fullWays b) k w (ap (λ o. getElem? (waysIn o) k) (sym p) ∙ e)) .way) ∙ ap (λ o. pos (costIn o w)) (sym p);
     }

@@ -7,7 +7,7 @@ use Rattle.laws.specs.Run.{first, next}
 use Rattle.book.specs.Questions.{refusal}
 use Rattle.calls.specs.declared.Reply.{Reply}
 use Rattle.calls.specs.Replies.{sees, countUnless}
-use Rattle.way_bytes.specs.Told.{Told}
+use Rattle.book.specs.Told.{Told}
 use Rattle.book_calls.specs.BookCalls.{countWays}
 use Rattle.book_calls.specs.BookRun.{AnswersBook}
 

@@ -17,7 +17,7 @@ use Rattle.calls.specs.Replies.{codeOf}
 use Rattle.calls.specs.ByteLists.{room}
 use Rattle.book_calls.specs.BookCalls.{BookCall, lent, refuses, Wrote}
 use Rattle.allocation.specs.BookBytes.{ways, size, costOf}
-use Rattle.way_bytes.specs.Told.{Told}
+use Rattle.book.specs.Told.{Told}
 
 -- s: the book as it came. "The book or network is the same throughout".
 module _ (s : List ℕ) where

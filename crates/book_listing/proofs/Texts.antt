@@ -24,8 +24,8 @@ use Rattle.way_listing.specs.WayListing.{listWays, waysText}
 use Rattle.calls.specs.declared.Reply.{Reply}
 use Rattle.calls.specs.Replies.{refusedAt}
 use Rattle.calls.proofs.Turns.{first-passed}
-use Rattle.way_bytes.specs.Told.{Told}
-use Rattle.way_bytes.proofs.Told.{told, untold}
+use Rattle.book.specs.Told.{Told}
+use Rattle.book.proofs.Told.{untold}
 use Rattle.book_listing.specs.declared.Written.{Written}
 use Rattle.book_listing.specs.Listing.{listing, noneCode, listingCode, Printed, BookListing, Writes}
 
@@ -48,7 +48,7 @@ some-code (v ∷ l) w e = refl
 
 -- an accepted book tells no line
 no-line : (s : List ℕ) → refusal s ≡ 0 → Told s (refusal s) 0
-no-line s ok = rw ok (untold s ok 0 (λ e. omega arith) (λ e. omega arith) (λ e. omega arith))
+no-line s ok = rw ok (untold 0 (λ e. omega arith) (λ e. omega arith) (λ e. omega arith) s)
 
 -- what is written
 module _ (s before after : List ℕ) (n : ℕ) where
@@ -57,7 +57,7 @@ module _ (s before after : List ℕ) (n : ℕ) where
   writes-refused v h zero t e l f a = absurd (f refl)
   writes-refused v h (suc k) t e l f a =
       let q : refusal s ≡ suc k = sym (h .question) ∙ sym e in
-      record { text = rw q a; code-is = rw q; told = subst (λ i. Told s i t) (h .question) (subst (λ i. Told s (questionOf (v .answer)) i) (sym l) (told s v h)) }
+      record { text = rw q a; code-is = rw q; told = subst (λ i. Told s i t) (h .question) (subst (λ i. Told s (questionOf (v .answer)) i) (sym l) (h .line)) }
 
   module _ (ok : refusal s ≡ 0) (b : Book) (is : parse s ≡ some b) where
     pub writes-none : firstWay b ≡ none → Appended before 0 noneLine after n → Writes s before (record { len = n; code = 100; line = 0 }) after

@@ -13,7 +13,7 @@ use Rattle.way_listing.specs.WayListing.{listWays}
 use Rattle.allocation.specs.BookBytes.{ways, costIn}
 use Rattle.calls.specs.declared.Reply.{Reply}
 use Rattle.calls.specs.Replies.{orElse}
-use Rattle.way_bytes.specs.Told.{Told}
+use Rattle.book.specs.Told.{Told}
 use Rattle.book_listing.specs.declared.Written.{Written}
 
 -- "for a refusal `(refused R)`"

@@ -1,4 +1,4 @@
--- Where the name of an entry lies. Assumes nothing.
+-- Where the name of an entry lies.
 use Prim.Native.Nat.{ℕ, zero, suc, _-_, _≤_, _<_}
 use mathlib.Core.Path.{_≡_, refl, sym, ap, _∙_}
 use mathlib.Core.Bool.{true, false, _&&_}
@@ -16,7 +16,7 @@ use Rattle.book.specs.Questions.{refusal}
 use Rattle.book.specs.Checked.{unlessRefused, checkedBook, entriesOf}
 use Rattle.book_check.specs.Judged.{Lies, Judged}
 use Rattle.book.proofs.Judging.{column-at}
-use Rattle.book.proofs.Accepted.{accepted}
+use Rattle.book.proofs.WithinLimits.{within-limits}
 use Rattle.book_names.specs.Name.{unlessRefused as nameUnless}
 use Rattle.book_names.specs.BookNames.{BookName}
 use Rattle.book_names.proofs.Naming.{from-one, not-refused, refused}
@@ -26,7 +26,7 @@ count-few s = go (refusal s) refl (parse s) refl
   where
     go : (q : ℕ) → refusal s ≡ q → (o : Option Book) → parse s ≡ o → unlessRefused q (length s) o .count ≤ 28
     go zero e none p = omega arith
-    go zero e (some b) p = accepted s b e p .few
+    go zero e (some b) p = within-limits s b e p .few
     go (suc q) e o p = omega arith
 
 -- q is the refusal of the book, o what it holds

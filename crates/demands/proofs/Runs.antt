@@ -22,7 +22,7 @@ use Rattle.network_calls.proofs.NetworkRun.{network-run, network-lists, network
 use Rattle.network_calls.proofs.FirstFlow.{first-finds}
 use Rattle.book.specs.Questions.{refusal as bookRefusal}
 use Rattle.book.specs.Book.{Book, parse}
-use Rattle.way_bytes.specs.Told.{ToldIn, Told}
+use Rattle.book.specs.Told.{ToldIn, Told}
 use Rattle.allocation.specs.BookBytes.{ways, costOf as bookCost}
 use Rattle.book_calls.specs.BookCalls.{BookCall, countWays, lent as bookLent, number as bookNumber, refuses as bookRefuses, Wrote as BookWrote}
 use Rattle.book_calls.specs.BookRun.{RightBook, AnswersBook}

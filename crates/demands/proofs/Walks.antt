@@ -25,7 +25,7 @@ use Rattle.flow_bytes.proofs.NetworkLines.{full-flows}
 use Rattle.network_calls.specs.NetworkCalls.{Lent, NetCall, lent, number, Wrote}
 use Rattle.network_calls.specs.NetworkRun.{NoLine, Answers}
 use Rattle.network_calls.proofs.NetworkRun.{accepts, network-run, flow-copied}
-use Rattle.way_bytes.specs.Told.{Told}
+use Rattle.book.specs.Told.{Told}
 use Rattle.allocation.specs.BookBytes.{ways, size, costOf as bookCost}
 use Rattle.book_calls.specs.BookCalls.{BookCall, lent as bookLent, number as bookNumber, Wrote as BookWrote}
 use Rattle.book_calls.specs.BookRun.{AnswersBook}

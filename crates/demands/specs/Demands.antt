@@ -27,7 +27,7 @@ use Rattle.book.specs.Checked.{entriesOf}
 use Rattle.book_names.specs.declared.Span.{Span}
 use Rattle.book_names.specs.Name.{nameRefusal}
 use Rattle.book_names.specs.BookNames.{part, placeOf}
-use Rattle.way_bytes.specs.Told.{Told}
+use Rattle.book.specs.Told.{Told}
 use Rattle.allocation.specs.BookBytes.{ways, size}
 use Rattle.book_calls.specs.BookCalls.{BookCall, number as bookNumber, refuses as bookRefuses}
 use Rattle.book_calls.specs.BookRun.{ConsistentBook, KeptBook, ReadBook, WalksBook, ListsBook}

@@ -11,7 +11,7 @@ use Rattle.laws.specs.Members.{first?, none-some}
 use Rattle.enumerator.specs.declared.Place.the-variants.{Line}
 use Rattle.listing.specs.Lines.{costLine}
 use Rattle.book.specs.Book.{Book}
-use Rattle.book.proofs.Accepted.{Accepted}
+use Rattle.book.specs.WithinLimits.{WithinLimits}
 use Rattle.allocation.specs.Ways.{wayCost}
 use Rattle.allocation.specs.FullWays.{fullWays, firstWay}
 use Rattle.allocation.specs.BookNet.{price}
@@ -37,7 +37,7 @@ along-most : (f : ℕ → ℕ → ℕ) → ((p j : ℕ) → f p j ≤ 1000000) �
 along-most f h j [] = omega arith
 along-most f h j (p ∷ w) = omega (arith, h p j, along-most f h (suc j) w)
 
-cost-small : (b : Book) → Accepted b → (w : List ℕ) → length w ≤ 28 → wayCost b w ≤ 28000000
+cost-small : (b : Book) → WithinLimits b → (w : List ℕ) → length w ≤ 28 → wayCost b w ≤ 28000000
 cost-small b ok w h = omega (arith, price-sum b 1 w, along-most (λ p k. price b p k) (price-small b ok) 1 w)
 
 module _ (b : Book) (s : WayWalk) (on : s .walk .place ≡ Line) (walks : Walks b s) where
@@ -45,4 +45,4 @@ module _ (b : Book) (s : WayWalk) (on : s .walk .place ≡ Line) (walks : Walks 
   cost-is = cost-held b s walks ∙ ap (costShown b) (on-way b s on)
 
   pub cost-few : wayCost b (shown b s) ≤ 28000000
-  cost-few = cost-small b (walks .accepted) (shown b s) (shown-few b s on walks)
+  cost-few = cost-small b (walks .limits) (shown b s) (shown-few b s on walks)
