@@ -1,4 +1,5 @@
 pub mod Refusals
 pub mod Runs
+pub mod Listings
 pub mod Names
 pub mod Walks

@@ -79,7 +79,7 @@ module _ (bs xs : List ℕ) where
       }
 
 -- no question failed, no line told
-no-line-told : (o : Option Book) (l : ℕ) → ToldIn o 0 l → l ≡ 0
+pub no-line-told : (o : Option Book) (l : ℕ) → ToldIn o 0 l → l ≡ 0
 no-line-told none l h = h
 no-line-told (some b) l h = h .of-other (λ e. omega arith) (λ e. omega arith) (λ e. omega arith)
 

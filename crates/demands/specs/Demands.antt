@@ -2,7 +2,7 @@
 -- less has a caller here that is not proved. n is always the number of the first question that a call fails, or 0.
 use mathlib.Core.Path.{_≡_}
 use mathlib.Core.List.{List, [], _∷_, _++_}
-use mathlib.Core.Logic.{_⊎_}
+use mathlib.Core.Logic.{_⊎_, _↔_}
 use mathlib.Core.Option.{none}
 use Prim.Native.Nat.{ℕ, zero, suc, _+_, _*_, _-_, _≤_, _<_}
 use lib.ListN.{length, getD}
@@ -28,10 +28,13 @@ use Rattle.book_names.specs.declared.Span.{Span}
 use Rattle.book_names.specs.Name.{nameRefusal}
 use Rattle.book_names.specs.BookNames.{part, placeOf}
 use Rattle.book.specs.Told.{Told}
-use Rattle.allocation.specs.BookBytes.{ways, size}
+use Rattle.allocation.specs.BookBytes.{ways, size, costIn}
 use Rattle.book_calls.specs.BookCalls.{BookCall, number as bookNumber, refuses as bookRefuses}
 use Rattle.book_calls.specs.BookRun.{ConsistentBook, KeptBook, ReadBook, WalksBook, ListsBook}
 use Rattle.book_calls.specs.FirstWay.{FindsWay, FindsNoWay}
+use Rattle.listing.specs.Fit.{fit}
+use Rattle.way_listing.specs.WayListing.{listWays}
+use Rattle.book_listing.specs.Listing.{listing}
 
 -- Demand 1. That every call ends and keeps to the memory lent to it is what the prover shows of every function. It "answers each bad book or network
 -- with the number of the first question it fails and changes nothing, and refuses nothing else". s is what is seen of a call that is lent l.
@@ -96,6 +99,13 @@ module _ (s : List ℕ) where
   -- The same run of a book: the whole list lent to the first call, of E numbers, is given to the second.
   pub record WalkWaysDemands (l g : List ℕ) (r : List (BookCall × Seen (List ℕ))) : Type 0 where
     pub read : length l ≡ 4 * size s → Strange same-list encodeWords (ways s) (bookRefuses s) g → ReadBook s off r
+
+  -- The listing: "none" exactly without a way, and otherwise the text of the full list of ways, where the lent list has room for it.
+  pub record ListingDemands (l : List ℕ) (r : Reply) (l′ : List ℕ) : Type 0 where
+    pub demand1 : Demand1 (Told s) (bookRefusal s) l (sees r l′)
+    pub none-exactly : bookRefusal s ≡ 0 → (r .code ≡ 100) ↔ (ways s ≡ [])
+    pub listed : r .code ≡ 0 → (r .value ≡ pos (length (listing s))) × (l′ ≡ fit (listing s) l)
+    pub text-is : bookRefusal s ≡ 0 → listing s ≡ listWays (costIn (parse s)) (ways s)
 
   -- The name of entry j, by two calls, p the part and n the number. "The name of an entry is given back as the part of the book that holds it. A refused
   -- name call gives the empty part, which no name is; a second call on the same book and entry gives the number of the refusal, or 0."

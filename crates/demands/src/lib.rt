@@ -5,7 +5,7 @@ ghost use lib.ListN.{length, take};
 ghost use Rattle.laws.specs.Run.{first, next};
 ghost use Rattle.calls.specs.Replies.{sees};
 ghost use Rattle.network_calls.specs.NetworkCalls.{lends};
-ghost use Rattle.demands.specs.Demands.{FirstFlowDemands, NextFlowDemands, CountFlowsDemands, WalkFlowsDemands, FirstWayDemands, NextWayDemands, CountWaysDemands, NameDemands, WalkWaysDemands, madeOf};
+ghost use Rattle.demands.specs.Demands.{FirstFlowDemands, NextFlowDemands, CountFlowsDemands, WalkFlowsDemands, FirstWayDemands, NextWayDemands, CountWaysDemands, ListingDemands, NameDemands, WalkWaysDemands, madeOf};
 use book_names::Span;
 use calls::Reply;
 
@@ -50,6 +50,12 @@ pub fn count_ways(book: &[u8], cap: u16) -> Reply
     ensures { λ r. ⌜ CountWaysDemands (now (book .entry)) cap r ⌝ }
 {
     desk::desk_count(book, cap)
+}
+
+pub fn list_ways(book: &[u8], text: &mut [u8]) -> Reply
+    ensures { λ r. ⌜ ListingDemands (now (book .entry)) (now (text .entry)) r (now (text .exit)) ⌝ }
+{
+    desk::desk_listing(book, text)
 }
 
 // The part of the book that holds the name of an entry, and the number of the question that refuses it, or 0.
