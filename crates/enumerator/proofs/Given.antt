@@ -34,34 +34,34 @@ missed f (g ∷ L) n = step (same-list g f) (missed f L (λ m. n (inr m)))
     step (yes q) deep = absurd (n (inl (sym q)))
     step (no q) deep = deep
 
-first-in : (l : List (List ℕ)) (g : List ℕ) → first? l ≡ some g → g ∈ l
-first-in [] g e = absurd (none-some g e)
-first-in (x ∷ l) g e = inl (same e)
+pub first-member : (l : List (List ℕ)) (g : List ℕ) → first? l ≡ some g → g ∈ l
+first-member [] g e = absurd (none-some g e)
+first-member (x ∷ l) g e = inl (same e)
   where
     same : some x ≡ some g → g ≡ x
     same e = cc
 
 module _ (N : Net) (ok : WellFormed N) (f : List ℕ) where
-  pub given-least : LeastCost N f → givenLine N f ≡ some f
-  given-least L = found f (fullList N) (full-member N ok f .1 L)
+  line-least : LeastCost N f → givenLine N f ≡ some f
+  line-least L = found f (fullList N) (full-member N ok f .1 L)
 
-  pub given-none : ¬ LeastCost N f → givenLine N f ≡ none
-  given-none n = missed f (fullList N) (λ m. n (full-member N ok f .0 m))
+  no-line : ¬ LeastCost N f → givenLine N f ≡ none
+  no-line n = missed f (fullList N) (λ m. n (full-member N ok f .0 m))
 
   -- a state on the line f, or one that has not begun
   pub resume-on : (r : Enumerator) → LeastCost N f → lineOf r ≡ some f → r .place ≡ Line → Resumes N f r
-  resume-on r L e p = record { line-is = e ∙ sym (given-least L); place-is = p ∙ ap (placeOf Start) (sym (given-least L)) }
+  resume-on r L e p = record { line-is = e ∙ sym (line-least L); place-is = p ∙ ap (placeOf Start) (sym (line-least L)) }
 
   pub resume-off : (r : Enumerator) → ¬ LeastCost N f → r .place ≡ Start → Resumes N f r
-  resume-off r n p = record { line-is = ap (λ q. lineAt q (flowIn r)) p ∙ sym (given-none n); place-is = p ∙ ap (placeOf Start) (sym (given-none n)) }
+  resume-off r n p = record { line-is = ap (λ q. lineAt q (flowIn r)) p ∙ sym (no-line n); place-is = p ∙ ap (placeOf Start) (sym (no-line n)) }
 
   -- and back
   module _ (r : Enumerator) (R : Resumes N f r) where
     pub resumed-on : r .place ≡ Line → (flowIn r ≡ f) × LeastCost N f
     resumed-on p =
-        let (m, t) = kept (λ g. test (same-list g f)) (fullList N) (flowIn r) (first-in (only f (fullList N)) (flowIn r) (sym (R .line-is) ∙ ap (λ q. lineAt q (flowIn r)) p)) in
+        let (m, t) = kept (λ g. test (same-list g f)) (fullList N) (flowIn r) (first-member (only f (fullList N)) (flowIn r) (sym (R .line-is) ∙ ap (λ q. lineAt q (flowIn r)) p)) in
         let e = test-yes (same-list (flowIn r) f) t in
         (e, full-member N ok f .0 (subst (λ g. g ∈ fullList N) e m))
 
     pub resumed-off : r .place ≢ Line → ¬ LeastCost N f
-    resumed-off n L = n (R .place-is ∙ ap (placeOf Start) (given-least L))
+    resumed-off n L = n (R .place-is ∙ ap (placeOf Start) (line-least L))
