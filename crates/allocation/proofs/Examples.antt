@@ -61,9 +61,9 @@ abbrev pub answerCost : Input → Option (List ℕ) → ℤ
 answerCost i none = pos 0
 answerCost i (some v) = lineCost i v
 
--- "with a network's prices"
+-- "with a network's prices", one for each node
 abbrev pub Priced : Input → Option (List ℕ) → List ℤ → Type 0
-Priced (network N) (some f) ps = (v : ℕ) → v < nodes N → Price N f v (getD ps v (pos 0))
+Priced (network N) (some f) ps = (length ps ≡ nodes N) × ((v : ℕ) → v < nodes N → Price N f v (getD ps v (pos 0)))
 Priced (network N) none ps = Unit {0}
 Priced (book s) o ps = Unit {0}
 
@@ -251,7 +251,7 @@ sameAnswer (some v) end = false
 sameAnswer (some v) (line w) = test (same-list v w)
 
 abbrev pricedBy : Input → Option (List ℕ) → List ℤ → List (List ℕ) → Bool
-pricedBy (network N) (some f) ps ws = certifies N f ps ws
+pricedBy (network N) (some f) ps ws = eqb (length ps) (nodes N) && certifies N f ps ws
 pricedBy (network N) none ps ws = true
 pricedBy (book s) o ps ws = true
 
@@ -325,7 +325,7 @@ same-answer (some v) end e = absurd (let z : _≡_ {A = ℕ} 0 1 = cc in omega a
 same-answer (some v) (line w) e = ap line (test-yes (same-list v w) e)
 
 priced-by : (i : Input) (o : Option (List ℕ)) (ps : List ℤ) (ws : List (List ℕ)) → pricedBy i o ps ws ≡ true → Priced i o ps
-priced-by (network N) (some f) ps ws e = prices N f ps ws e
+priced-by (network N) (some f) ps ws e = let (a, b) = and-true (eqb (length ps) (nodes N)) _ e in (eqb-true _ _ a, prices N f ps ws b)
 priced-by (network N) none ps ws e = tt
 priced-by (book s) o ps ws e = tt
 
