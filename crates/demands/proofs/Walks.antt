@@ -8,7 +8,7 @@ use native.Mathlib.Omega.{arith}
 use lib.IntN.{ℤ, natAbs}
 use lib.ListN.{length, take, drop, length-map, length-append}
 use lib.Seq.{drop-length}
-use Rattle.laws.specs.Members.{_∈_, first?, first-at, at-member}
+use Rattle.laws.specs.Members.{_∈_, first?, first-member}
 use Rattle.laws.specs.Equality.{same-list}
 use Rattle.laws.specs.Run.{Call, first, next, Answer, nothing, line, off, shown, written, respond, respondUnless, Strange, ConsistentRun, Kept, AsRead}
 use Rattle.laws.specs.Seen.{Seen, Right}
@@ -51,7 +51,7 @@ module _ {F N Lists : Type 0} (Tells : ℕ → ℕ → Type 0) (cost : List ℕ 
       wrote : (o : Option (List ℕ)) → first? L ≡ o → number (first l) ≡ 0 → Shows (first l) (shown o nothing) s
           → (v : List ℕ) × (v ∈ L) × (number (first l) ≡ 0) × (written none (says (first l)) ≡ some v) × Shows (first l) (line v) s
       wrote none q e k = absurd (omega (arith, z, k .number-is))
-      wrote (some v) q e k = (v, at-member L 0 v (sym (first-at L) ∙ q), e, rw (e, q) refl, k)
+      wrote (some v) q e k = (v, first-member L v q, e, rw (e, q) refl, k)
 
       go : (n : ℕ) → number (first l) ≡ n → Shows (first l) (respondUnless same-list encodeWords L refusing (failed n) (first l)) s
           → (v : List ℕ) × (v ∈ L) × (number (first l) ≡ 0) × (written none (says (first l)) ≡ some v) × Shows (first l) (line v) s

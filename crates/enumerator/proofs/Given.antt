@@ -5,7 +5,7 @@ use mathlib.Core.List.{List, [], _∷_}
 use mathlib.Core.Option.{none, some}
 use Prim.Native.Nat.{ℕ}
 use Rattle.laws.specs.Equality.{same-list}
-use Rattle.laws.specs.Members.{_∈_, keepIf, keep, kept, first?, none-some}
+use Rattle.laws.specs.Members.{_∈_, keepIf, keep, kept, first?, first-member}
 use Rattle.laws.specs.Tests.{test, test-yes}
 use Rattle.network.specs.Network.{Net, WellFormed, LeastCost}
 use Rattle.network.specs.FullList.{fullList}
@@ -34,18 +34,11 @@ missed f (g ∷ L) n = step (same-list g f) (missed f L (λ m. n (inr m)))
     step (yes q) deep = absurd (n (inl (sym q)))
     step (no q) deep = deep
 
-pub first-member : (l : List (List ℕ)) (g : List ℕ) → first? l ≡ some g → g ∈ l
-first-member [] g e = absurd (none-some g e)
-first-member (x ∷ l) g e = inl (same e)
-  where
-    same : some x ≡ some g → g ≡ x
-    same e = cc
-
 module _ (N : Net) (ok : WellFormed N) (f : List ℕ) where
-  line-least : LeastCost N f → givenLine N f ≡ some f
+  pub line-least : LeastCost N f → givenLine N f ≡ some f
   line-least L = found f (fullList N) (full-member N ok f .1 L)
 
-  no-line : ¬ LeastCost N f → givenLine N f ≡ none
+  pub no-line : ¬ LeastCost N f → givenLine N f ≡ none
   no-line n = missed f (fullList N) (λ m. n (full-member N ok f .0 m))
 
   -- a state on the line f, or one that has not begun

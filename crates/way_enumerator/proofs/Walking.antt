@@ -18,7 +18,7 @@ use Rattle.enumerator.specs.declared.Place.the-variants.{Start, Line, None, End
 use Rattle.enumerator.specs.declared.Enumerator.{Enumerator}
 use Rattle.enumerator.specs.Enumerator.{netOf, flowIn, lineAt, lineOf, placeOf, Stands}
 use Rattle.enumerator.specs.Enumerator as flows
-use Rattle.enumerator.proofs.Given.{given-least, given-none}
+use Rattle.enumerator.proofs.Given.{line-least, no-line}
 use Rattle.book.specs.Book.{Book}
 use Rattle.book.specs.declared.CheckedBook.{CheckedBook}
 use Rattle.allocation.specs.Follow.{size}
@@ -132,7 +132,7 @@ module _ (k : CheckedBook) (N : Network) (makes : MakesNet k N) where
     pub resumes : (w flow : List ℕ) → length w ≡ k .count
         → LaysFlow (k .count) (k .players) (take (N .arcs) (N .tails)) (take (N .arcs) (N .heads)) w flow
         → flows.Resumes (netIn N) (take (N .arcs) flow) r → ResumesIn b w (record { walk = r; entries = k .count })
-    resumes w flow len lays step = record { on = on; off = λ n. begins (step .place-is ∙ ap (placeOf Start) (given-none (netIn N) ok (take (N .arcs) flow) (λ l. n (is-way l)))) }
+    resumes w flow len lays step = record { on = on; off = λ n. begins (step .place-is ∙ ap (placeOf Start) (no-line (netIn N) ok (take (N .arcs) flow) (λ l. n (is-way l)))) }
       where
         made : netIn N ≡ bookNet b
         made = made-net b k h N makes
@@ -157,7 +157,7 @@ module _ (k : CheckedBook) (N : Network) (makes : MakesNet k N) where
 
         on : LeastCostWay b w → At b Start (some w) (record { walk = r; entries = k .count })
         on l =
-            let e = given-least (netIn N) ok (take (N .arcs) flow) (subst (λ M. LeastCost M (take (N .arcs) flow)) (sym made) (least .1 l)) in
+            let e = line-least (netIn N) ok (take (N .arcs) flow) (subst (λ M. LeastCost M (take (N .arcs) flow)) (sym made) (least .1 l)) in
             subst (λ v. At b Start (some v) (record { walk = r; entries = k .count })) (ap (wayOf b) laid ∙ way-back b w (l .way))
             (at-way b (record { walk = r; entries = k .count }) walks Start (some (take (N .arcs) flow)) (step .line-is ∙ e) (step .place-is ∙ ap (placeOf Start) e))
 
