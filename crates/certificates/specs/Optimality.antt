@@ -21,10 +21,11 @@ use Rattle.network.specs.Potential.{FeasiblePotential}
 use Rattle.certificates.specs.Codes.{even-code, odd-code, even-arc, odd-arc}
 use Rattle.certificates.specs.Room.{roomy, roomy-forth, roomy-back}
 
+-- the reduced cost of an arc
 abbrev pub reduced : Net → (ℕ → ℤ) → ℕ → ℤ
 reduced N π a = (cost N a +ℤ π (tail N a)) -ℤ π (head N a)
 
--- the reduced cost of a step
+-- and of a residual arc
 abbrev pub stepReduced : Net → (ℕ → ℤ) → ℕ → ℤ
 stepReduced N π c = (stepCost N c +ℤ π (src N c)) -ℤ π (dst N c)
 

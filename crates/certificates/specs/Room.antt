@@ -13,7 +13,7 @@ use Rattle.network.specs.Residual.{either}
 abbrev pub roomy : Net → List ℕ → ℕ → ℕ → Bool
 roomy N f δ c = either c (leb (getD f (c / 2) 0 + δ) (up N (c / 2))) (leb (low N (c / 2) + δ) (getD f (c / 2) 0))
 
--- the same as what it asks forward, and backward
+-- what it asks forward, and backward
 pub roomy-forth : (N : Net) (f : List ℕ) (δ c : ℕ) → roomy N f δ c ≡ true → eqb (c % 2) 0 ≡ true → getD f (c / 2) 0 + δ ≤ up N (c / 2)
 roomy-forth N f δ c r e = leb-true (getD f (c / 2) 0 + δ) (up N (c / 2)) (rw e at r)
 

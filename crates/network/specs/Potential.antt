@@ -1,4 +1,4 @@
--- Feasible potentials: numbers on the nodes that bound the cost of residual walks from below.
+-- Feasible potentials: a number for each node, which rises along a walk by no more than the walk costs.
 use mathlib.Core.Path.{_≡_}
 use mathlib.Core.Bool.{Bool, true}
 use Prim.Native.Nat.{ℕ, _<_}

@@ -55,7 +55,7 @@ fn clear(labels: &mut [i64])
     }
 }
 
-// A residual cycle of negative cost with room for `need` more on each arc (with 1, any): its codes, the last first, and how many;
+// A residual cycle of negative cost with room for `need` more on each arc (for 1, any such cycle): its codes, the last first, and how many;
 // or 0, and labels that show that there is none.
 pub fn find_cycle(
     tails: &[u8],
