@@ -10,6 +10,7 @@ use Rattle.listing.specs.Lines.{costLine, wayLine, endLine, moreLine, noneLine}
 use Rattle.book.specs.Book.{Book}
 use Rattle.allocation.specs.Ways.{wayCost}
 use Rattle.allocation.specs.FullWays.{fullWays, firstWay}
+use Rattle.enumerator.specs.declared.Place.the-variants.{Line}
 use Rattle.way_enumerator.specs.WayWalk.{Walks, wayAt}
 use Rattle.way_enumerator.specs.declared.WayWalk.{WayWalk}
 
@@ -31,6 +32,13 @@ listWays cost (w ∷ l) = costLine (cost w) ++ (wayLines (take 1000 (w ∷ l)) +
 -- the text of the ways of a book
 abbrev pub waysText : Book → List ℕ
 waysText b = listWays (wayCost b) (fullWays b)
+
+-- a walk that stands on the first way of a book
+pub record OnFirst (s : WayWalk) : Type 0 where
+  pub book : Book
+  pub walks : Walks book s
+  pub first : wayAt book s ≡ firstWay book
+  pub on : s .walk .place ≡ Line
 
 -- what the functions write, of each book that is walked: the line of the way that the walk stands on
 pub record ListsOne (s : WayWalk) (before : List ℕ) (at : ℕ) (after : List ℕ) (r : ℕ) : Type 0 where

@@ -80,7 +80,7 @@ list-requires c κs =
     let e = c .before in
     let f = e .before .before .before in
     let s = entry (f .before .before .before .before) in
-    (record { book = held (f .before .before .before) .0; walks = on-first f .walks }, is-line (f .first .result .walk .place) (on e), omega (arith, s .pre))
+    (record { book = held (f .before .before .before) .0; walks = on-first f .walks; first = on-first f .way-is; on = is-line (f .first .result .walk .place) (on e) }, omega (arith, s .pre))
 
 returns-3 : tie.Need-returns-3
 returns-3 c =
