@@ -3,9 +3,9 @@ use mathlib.Core.Path.{_≡_, refl}
 use mathlib.Core.List.{List}
 use mathlib.Core.Logic.{inl, inr}
 use mathlib.Core.Option.{Option, none, some}
-use Prim.Native.Nat.{ℕ, zero, suc}
+use Prim.Native.Nat.{ℕ, zero, suc, _≤_}
 use native.Mathlib.Omega.{arith}
-use lib.IntN.{ℤ}
+use lib.IntN.{ℤ, pos}
 use Rattle.laws.specs.Members.{first?}
 use Rattle.laws.specs.Equality.{same-list}
 use Rattle.laws.specs.After.{after}
@@ -24,19 +24,9 @@ module _ {F N Lists : Type 0} (Tells : ℕ → ℕ → Type 0) (cost : List ℕ 
     abbrev Shows : Answer (List ℕ) → Type 0
     Shows a = Right codeOf Tells cost lent Wrote c a s
 
-    says-none : Shows nothing → Demand1 Tells 0 (lent c) s
-    says-none h = record {
-      number-told = λ z. absurd (z refl);
-      nothing-else = λ _. (inr (omega (arith, h .number-is)), h .told-is);
-      changes-nothing = λ _. (h .cost-is, h .lists-are);
-    }
-
-    says-end : Shows end → Demand1 Tells 0 (lent c) s
-    says-end h = record {
-      number-told = λ z. absurd (z refl);
-      nothing-else = λ _. (inr (omega (arith, h .number-is)), h .told-is);
-      changes-nothing = λ _. (h .cost-is, h .lists-are);
-    }
+    -- a word, and nothing written
+    says-word : 100 ≤ s .number → s .told ≡ 0 → s .cost ≡ pos 0 → s .lists ≡ lent c → Demand1 Tells 0 (lent c) s
+    says-word n t k l = record { number-told = λ z. absurd (z refl); nothing-else = λ _. (inr n, t); changes-nothing = λ _. (k, l) }
 
     shows-line : (v : List ℕ) → Shows (line v) → Demand1 Tells 0 (lent c) s
     shows-line v h = record {
@@ -53,11 +43,11 @@ module _ {F N Lists : Type 0} (Tells : ℕ → ℕ → Type 0) (cost : List ℕ 
     }
 
     after-first : (o : Option (List ℕ)) → Shows (shown o nothing) → Demand1 Tells 0 (lent c) s
-    after-first none h = says-none h
+    after-first none h = says-word (omega (arith, h .number-is)) (h .told-is) (h .cost-is) (h .lists-are)
     after-first (some v) h = shows-line v h
 
     after-next : (o : Option (List ℕ)) → Shows (shown o end) → Demand1 Tells 0 (lent c) s
-    after-next none h = says-end h
+    after-next none h = says-word (omega (arith, h .number-is)) (h .told-is) (h .cost-is) (h .lists-are)
     after-next (some v) h = shows-line v h
 
   answered : (c : Call F (List ℕ) N) (s : Seen Lists) (n : ℕ) → Shows c s (respondUnless same-list encodeWords L (λ c. failed (number c)) (failed n) c) → Demand1 Tells n (lent c) s

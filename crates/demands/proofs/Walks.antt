@@ -44,17 +44,21 @@ module _ {F N Lists : Type 0} (Tells : ℕ → ℕ → Type 0) (cost : List ℕ 
   says c = respond same-list encodeWords L refusing c
 
   -- a call of first with number 0 wrote a line
-  first-line : (l : F) (s : Seen Lists) → Shows (first l) (says (first l)) s → s .number ≡ 0
-      → (v : List ℕ) × (v ∈ L) × (number (first l) ≡ 0) × (written none (says (first l)) ≡ some v) × Shows (first l) (line v) s
+  record FirstLine (l : F) (s : Seen Lists) : Type 0 where
+    line-is : List ℕ
+    member : line-is ∈ L
+    passes : number (first l) ≡ 0
+    last-written : written none (says (first l)) ≡ some line-is
+    shows : Shows (first l) (line line-is) s
+
+  first-line : (l : F) (s : Seen Lists) → Shows (first l) (says (first l)) s → s .number ≡ 0 → FirstLine l s
   first-line l s h z = go (number (first l)) refl h
     where
-      wrote : (o : Option (List ℕ)) → first? L ≡ o → number (first l) ≡ 0 → Shows (first l) (shown o nothing) s
-          → (v : List ℕ) × (v ∈ L) × (number (first l) ≡ 0) × (written none (says (first l)) ≡ some v) × Shows (first l) (line v) s
+      wrote : (o : Option (List ℕ)) → first? L ≡ o → number (first l) ≡ 0 → Shows (first l) (shown o nothing) s → FirstLine l s
       wrote none q e k = absurd (omega (arith, z, k .number-is))
-      wrote (some v) q e k = (v, first-member L v q, e, rw (e, q) refl, k)
+      wrote (some v) q e k = record { line-is = v; member = first-member L v q; passes = e; last-written = rw (e, q) refl; shows = k }
 
-      go : (n : ℕ) → number (first l) ≡ n → Shows (first l) (respondUnless same-list encodeWords L refusing (failed n) (first l)) s
-          → (v : List ℕ) × (v ∈ L) × (number (first l) ≡ 0) × (written none (says (first l)) ≡ some v) × Shows (first l) (line v) s
+      go : (n : ℕ) → number (first l) ≡ n → Shows (first l) (respondUnless same-list encodeWords L refusing (failed n) (first l)) s → FirstLine l s
       go (suc k) e h = absurd (omega (arith, z, h .number-is))
       go zero e h = wrote (first? L) refl e h
 
@@ -66,8 +70,10 @@ module _ {F N Lists : Type 0} (Tells : ℕ → ℕ → Type 0) (cost : List ℕ 
       (away : Strange same-list encodeWords L refusing g) where
     three : AsRead same-list encodeWords L refusing Shows off ((first l, s) ∷ (next p b, t) ∷ (next g d, u) ∷ [])
     three =
-        let (v, m, e, w, k) = first-line l s h z in
-        reads ((first l, s) ∷ (next p b, t) ∷ (next g d, u) ∷ []) (tt, (inl (v, w, copies v m e k), (inr away, tt))) (h, (i, (j, tt)))
+        let f = first-line l s h z in
+        reads ((first l, s) ∷ (next p b, t) ∷ (next g d, u) ∷ [])
+        (tt, (inl (f .line-is, f .last-written, copies (f .line-is) (f .member) (f .passes) (f .shows)), (inr away, tt)))
+        (h, (i, (j, tt)))
 
 -- ---- networks
 rows-many : (l : List ℤ) → length (rows l) ≡ length l / 5
@@ -93,9 +99,10 @@ module _ (bs xs : List ℕ) (l : Lent) (s : Seen Lent) (h : Answers bs xs (first
     pub line-within : length xs / 20 * 4 ≤ length (s .lists .flows)
     line-within =
         let N = net bs xs in
-        let (v, m, e, w, k) = first-line NoLine (costOf N) lent (Wrote N) (fullList N) (number bs xs) l s h z in
-        let q = k .lists-are .flows-are in
-        let c = full-flows N (accepted-net bs xs (accepts bs xs (first l) (ap failed e))) .long v m in
+        let f = first-line NoLine (costOf N) lent (Wrote N) (fullList N) (number bs xs) l s h z in
+        let v = f .line-is in
+        let q = f .shows .lists-are .flows-are in
+        let c = full-flows N (accepted-net bs xs (accepts bs xs (first l) (ap failed (f .passes)))) .long v (f .member) in
         omega (arith, line-bytes bs xs, c, length-encode v, ap length q, length-append (encodeWords v) (drop (length (encodeWords v)) (l .flows)))
 
     module _ (g fs ls : List ℕ) (t u : Seen Lent) (i : Answers bs xs (next (take (length xs / 20 * 4) (s .lists .flows)) fs) t) (j : Answers bs xs (next g ls) u) where
