@@ -22,7 +22,7 @@ less-itself : (x y : ℤ) → x -ℤ x ≡ y -ℤ y
 less-itself x y = simp lin (omega arith)
 
 -- two lists of numbers that differ on loops alone leave every node the same
-loops-in-no-balance : (N : Net) (f g : List ℕ) → ((a : ℕ) → a < arcs N → tail N a ≢ head N a → on f a ≡ on g a) → (v : ℕ) → netOut N f v ≡ netOut N g v
+pub loops-in-no-balance : (N : Net) (f g : List ℕ) → ((a : ℕ) → a < arcs N → tail N a ≢ head N a → on f a ≡ on g a) → (v : ℕ) → netOut N f v ≡ netOut N g v
 loops-in-no-balance N f g same v = by-arc N f v ∙ sum-cong (arcs N) (through N f v) (through N g v) (λ a l. one a l (ℕ-discrete (tail N a) (head N a))) ∙ sym (by-arc N g v)
   where
     one : (a : ℕ) → a < arcs N → Dec (tail N a ≡ head N a) → through N f v a ≡ through N g v a
