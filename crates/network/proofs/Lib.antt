@@ -1,4 +1,4 @@
 pub mod FullList
 pub mod Prices
-mod Loops
+pub mod Loops
 pub mod Struct
