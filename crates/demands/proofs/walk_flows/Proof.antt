@@ -1,4 +1,5 @@
 use mathlib.Core.Path.{refl, sym}
+use native.Mathlib.Omega.{arith}
 use lib.Seq.{length-take-le}
 use Rattle.demands.proofs.Walks.{walk-one, line-within, walk-three}
 use borrow.Author.Needs.{needs}
@@ -12,7 +13,7 @@ reshare : tie.Need-slice-reshare-prefix-desk-network-next
 reshare c =
     let f = c .before .before .before .before .before in
     let a = f .before .before .before .before .before .before .before .before .before .before .args in
-    line-within (a .balances .now) (a .arcs .now) _ _ (f .desk-network-first-priced .ensures) (c .if1 .left)
+    omega (arith, line-within (a .balances .now) (a .arcs .now) _ _ (f .desk-network-first-priced .ensures) (c .if1 .left))
 
 aggregate : tie.Need-slice-aggregate-desk-network-next
 aggregate c = sym (length-take-le _ _ (reshare (c .before)))
