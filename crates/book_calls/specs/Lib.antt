@@ -2,4 +2,3 @@ pub mod BookCalls
 pub mod BookRun
 pub mod BookEntries
 pub mod FirstWay
-pub mod MatchedLines

@@ -3,15 +3,18 @@
 use mathlib.Core.Path.{_≡_}
 use mathlib.Core.List.{List, [], _∷_, _++_}
 use mathlib.Core.Logic.{_⊎_, _↔_}
-use mathlib.Core.Option.{none}
+use mathlib.Core.Option.{none, some}
 use Prim.Native.Nat.{ℕ, zero, suc, _+_, _*_, _-_, _≤_, _<_}
-use lib.ListN.{length, getD}
+use lib.ListN.{length, getD, getElem?}
 use lib.IntN.{pos}
+use Rattle.laws.specs.Image.{mapOption}
 use Rattle.laws.specs.Equality.{same-list}
 use Rattle.laws.specs.Run.{first, next, off, Strange}
 use Rattle.laws.specs.Seen.{Seen}
 use Rattle.laws.specs.Count.{counted, count}
 use Rattle.bytes32.specs.Words.{encodeWords}
+use Rattle.network.specs.Network.{costOf}
+use Rattle.network.specs.Accepted.{AcceptedNet}
 use Rattle.network.specs.FullList.{fullList}
 use Rattle.network_questions.specs.Questions.{refusal}
 use Rattle.calls.specs.declared.Reply.{Reply}
@@ -21,14 +24,16 @@ use Rattle.network_calls.specs.NetworkCalls.{Lent, NetCall, lends, number, refu
 use Rattle.network_calls.specs.NetworkRun.{NoLine, ConsistentNetwork, KeptNetwork, ReadNetwork, WalksNetwork, ListsNetwork}
 use Rattle.network_calls.specs.FirstFlow.{Finds, FindsNone}
 use Rattle.lines.specs.Columns.{nobody}
-use Rattle.book.specs.Book.{parse}
+use Rattle.book.specs.Book.{Book, parse}
 use Rattle.book.specs.Questions.{refusal as bookRefusal}
 use Rattle.book.specs.Checked.{entriesOf}
 use Rattle.book_names.specs.declared.Span.{Span}
 use Rattle.book_names.specs.Name.{nameRefusal}
 use Rattle.book_names.specs.BookNames.{part, placeOf}
 use Rattle.book.specs.Told.{Told}
-use Rattle.allocation.specs.BookBytes.{ways, size, costIn}
+use Rattle.allocation.specs.BookNet.{bookNet}
+use Rattle.allocation.specs.WayFlow.{flowOf}
+use Rattle.allocation.specs.BookBytes.{ways, size, costIn, costOf as wayCost}
 use Rattle.book_calls.specs.BookCalls.{BookCall, number as bookNumber, refuses as bookRefuses}
 use Rattle.book_calls.specs.BookRun.{ConsistentBook, KeptBook, ReadBook, WalksBook, ListsBook}
 use Rattle.book_calls.specs.FirstWay.{FindsWay, FindsNoWay}
@@ -99,6 +104,15 @@ module _ (s : List ℕ) where
   -- The same run of a book: the whole list lent to the first call, of E numbers, is given to the second.
   pub record WalkWaysDemands (l g : List ℕ) (r : List (BookCall × Seen (List ℕ))) : Type 0 where
     pub read : length l ≡ 4 * size s → Strange same-list encodeWords (ways s) (bookRefuses s) g → ReadBook s off r
+
+  -- Demand 3: "ways and flows match line by line". The network of the book is an accepted one, and its full list has the flow of each way on the
+  -- way's line, at the way's cost, and no other line.
+  pub record MatchedLines : Type 0 where
+    pub book : Book
+    pub holds : parse s ≡ some book
+    pub accepted : AcceptedNet (bookNet book)
+    pub lines : (k : ℕ) → getElem? (fullList (bookNet book)) k ≡ mapOption (flowOf book) (getElem? (ways s) k)
+    pub costs : (k : ℕ) (w : List ℕ) → getElem? (ways s) k ≡ some w → costOf (bookNet book) (flowOf book w) ≡ wayCost s w
 
   -- The listing: "none" exactly without a way, and otherwise the text of the full list of ways, where the lent list has room for it.
   pub record ListingDemands (l : List ℕ) (r : Reply) (l′ : List ℕ) : Type 0 where

@@ -15,7 +15,7 @@ use Rattle.allocation.proofs.Accepted.{accepted-net}
 use Rattle.allocation.proofs.FullWays.{full-way}
 use Rattle.allocation.proofs.Matched.{way-cost}
 use Rattle.allocation.proofs.LineByLine.{line-matched}
-use Rattle.book_calls.specs.MatchedLines.{MatchedLines}
+use Rattle.demands.specs.Demands.{MatchedLines}
 
 pub book-matched : (s : List ℕ) → refusal s ≡ 0 → MatchedLines s
 book-matched s ok =
