@@ -13,11 +13,11 @@ struct LentBook {
     desk_reply first() { return desk_first(book(), text.size(), way.data(), way.size()); }
     desk_reply next(std::vector<uint8_t> &to) { return desk_next(book(), text.size(), way.data(), way.size(), to.data(), to.size()); }
     desk_reply count(uint16_t cap) { return desk_count(book(), text.size(), cap); }
-    size_t list() { return desk_listing(book(), text.size(), listing.data(), listing.size()); }
+    desk_reply list() { return desk_listing(book(), text.size(), listing.data(), listing.size()); }
     desk_span name() { return desk_name(book(), text.size(), 1); }
     uint32_t questions() { return desk_name_refusal(book(), text.size(), 1); }      // 11 to 16, then 19
     std::string last_line() {
-        std::string t(listing.begin(), listing.begin() + list());
+        std::string t(listing.begin(), listing.begin() + list().value);
         return t.substr(t.rfind('\n', t.size() - 2) + 1);
     }
 };

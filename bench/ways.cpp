@@ -66,7 +66,7 @@ static void long_lists_of(Table &table, const Named &set) {
             wrong++;
             printf("DIFFERENT, listing: it ends in %s", book.last_line().c_str());
         }
-        lengths.push_back(double(book.list()));
+        lengths.push_back(double(book.list().value));
         listings.push_back(time_of([&] { book.list(); }));
     }
     table.row({set.what, whole(double(set.books.size())), shown(median(by_cap[0])), shown(median(by_cap[1])), shown(median(all)), shown(median(listings) / 1000),

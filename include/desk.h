@@ -11,7 +11,7 @@
 #define DESK_H
 
 /* The version of the library and of the program ways. */
-#define DESK_VERSION "1.0.0"
+#define DESK_VERSION "2.0.0"
 
 #include <stddef.h>
 #include <stdint.h>
@@ -22,7 +22,7 @@ extern "C" {
 
 /* The codes of a reply that are no refusal. Any other code is the number of the first question that the call fails. */
 enum {
-    DESK_OK = 0,     /* a way or a flow was written, or counting came to the end */
+    DESK_OK = 0,     /* a way or a flow was written, counting came to the end, or there is a listing */
     DESK_NONE = 100, /* there is no way, or no flow */
     DESK_END = 101,  /* no least-cost way or flow follows the one given */
     DESK_MORE = 102  /* there are more than the cap */
@@ -35,7 +35,7 @@ enum {
 #define DESK_ARCS 512
 #define DESK_LISTING_ROOM 98304
 
-/* value: with DESK_OK the cost or the count, and otherwise 0.
+/* value: with DESK_OK the cost, the count or the length of the listing, and otherwise 0.
  * line: with 13, 14 and 15 a line of the book that fails that question, counted from 1, and otherwise 0. */
 typedef struct {
     uint32_t code;
@@ -92,10 +92,11 @@ desk_reply desk_next(const uint8_t *book, size_t book_len, const uint8_t *given,
 desk_reply desk_count(const uint8_t *book, size_t book_len, uint16_t cap);
 
 /* The listing of a book: `(cost C)`, `(way ..)` with its E numbers for each least-cost way in order, then `(end N)` with their count; after
- * 1000 ways, if there are more, `(more 1000)`; `(none)` without a way, `(refused R)` for a book that fails question R, 11 to 16. Each line
- * ends in byte 10; no byte 0 follows the last. The length of the whole text is handed back, at most DESK_LISTING_ROOM. The text is written to
- * the front of a list that has room for all of it, and the bytes after it keep what they held; a shorter list does not change. */
-size_t desk_listing(const uint8_t *book, size_t book_len, uint8_t *text, size_t text_len);
+ * 1000 ways, if there are more, `(more 1000)`. Each line ends in byte 10; no byte 0 follows the last. The value is the length of the whole
+ * text, at most DESK_LISTING_ROOM. The text is written to the front of a list that has room for all of it, and the bytes after it keep what
+ * they held; a shorter list does not change, and the code is DESK_OK all the same.
+ * Codes: DESK_OK, DESK_NONE, 11 to 16. */
+desk_reply desk_listing(const uint8_t *book, size_t book_len, uint8_t *text, size_t text_len);
 
 /* Where the name of an entry, from 1 to E, lies in the book; start is counted from 0. (0, 0) if it is refused, and no name is empty: of an
  * accepted book, E + 1 is the first entry whose name has length 0. */

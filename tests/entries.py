@@ -26,7 +26,7 @@ ENTRIES = {                            # the lists that are read, the lists that
     "desk_network_next": (["balances", "arcs", "given"], ["flows"], None),
     "desk_network_count": (["balances", "arcs"], [], "cap"),
 }
-RESULTS = {"desk_listing": ctypes.c_size_t, "desk_name": way_library.Span, "desk_name_refusal": ctypes.c_uint32}
+RESULTS = {"desk_name": way_library.Span, "desk_name_refusal": ctypes.c_uint32}
 NUMBERS = {"cap": ctypes.c_uint16, "entry": ctypes.c_uint32}
 
 
@@ -48,24 +48,17 @@ def ways_reader(book):
     return way_trial.Reader(book)
 
 
-@functools.lru_cache(256)
-def listing(book):
-    return way_trial.listing(book)
-
-
 def expected(entry, a):
     """The answer to a call, the lent lists after it, and the lines that may be told."""
     read, lent, _ = ENTRIES[entry]
     lent = [a[name] for name in lent]
-    if entry == "desk_listing":
-        text = listing(a["book"])
-        return len(text), [text + lent[0][len(text):] if len(text) <= len(lent[0]) else lent[0]], [0]
     if entry in ("desk_name", "desk_name_refusal"):
         question, (start, end) = book_reader.name(a["book"], a["entry"])
         return (start, end - start) if entry == "desk_name" else question, [], [0]
     reader = ways_reader(a["book"]) if "book" in a else network_reader(a["balances"], a["arcs"])
     told = reader.told if "book" in a else [0]
     if entry.endswith("count"): return reader.count(a["cap"]), [], told
+    if entry == "desk_listing": return *reader.listing(*lent), told
     if "given" not in a: return *reader.first(*lent), told
     if a["given"] in reader.place: reader.finger = reader.place[a["given"]]
     return *reader.next(a["given"], *lent), told

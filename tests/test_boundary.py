@@ -107,7 +107,7 @@ class Boundary(unittest.TestCase):
     def test_fair(self):
         """What is called fair is not refused."""
         for entry, a in self.calls(): self.compare(entry, a)
-        self.assertEqual({entry: codes for entry, codes in self.seen.items() if codes != {OK}}, {"desk_listing": {42}, "desk_name": {EXAMPLE.index(b"xylo")}})
+        self.assertEqual({entry: codes for entry, codes in self.seen.items() if codes != {OK}}, {"desk_name": {EXAMPLE.index(b"xylo")}})
 
     def test_every_length(self):
         """Each list cut at every byte, and up to 24 bytes longer; of two lists, all pairs of lengths."""
@@ -116,7 +116,7 @@ class Boundary(unittest.TestCase):
                 for size in range(len(a[name]) + 25): self.compare(entry, {**a, name: (a[name] + self.rng.randbytes(24))[:size]})
             for one, two in itertools.combinations([name for name in lists(entry) if len(a[name]) <= 16], 2):
                 for i, j in itertools.product(range(19), repeat=2): self.compare(entry, {**a, one: (a[one] + bytes(6))[:i], two: (a[two] + bytes(6))[:j]})
-        self.answered({"desk_first": {OK, 12, 17}, "desk_next": {OK, 12, 17, 18}, "desk_network_first": {OK, NONE, 1, 2, 3, 7},
+        self.answered({"desk_first": {OK, 12, 17}, "desk_next": {OK, 12, 17, 18}, "desk_listing": {OK, 12}, "desk_network_first": {OK, NONE, 1, 2, 3, 7},
                        "desk_network_first_priced": {OK, NONE, 1, 2, 3, 7}, "desk_network_next": {OK, 1, 2, 3, 7, 8}})
 
     def test_empty(self):
@@ -125,7 +125,7 @@ class Boundary(unittest.TestCase):
             for choice in itertools.product(range(3), repeat=len(lists(entry))):
                 empty = {name: b"" for name, kind in zip(lists(entry), choice) if kind}
                 self.compare(entry, {**a, **empty}, {name: Fenced(b"") for name, kind in zip(lists(entry), choice) if kind == 2})
-        self.answered({"desk_first": {OK, 12, 17}, "desk_next": {OK, 12, 17, 18}, "desk_count": {OK, 12}, "desk_name_refusal": {0, 12},
+        self.answered({"desk_first": {OK, 12, 17}, "desk_next": {OK, 12, 17, 18}, "desk_count": {OK, 12}, "desk_listing": {OK, 12}, "desk_name_refusal": {0, 12},
                        "desk_network_first": {OK, NONE, 1, 7}, "desk_network_next": {OK, 1, 7, 8}})
 
     def test_addresses(self):
@@ -148,6 +148,13 @@ class Boundary(unittest.TestCase):
                 for entry in ("desk_count", "desk_name", "desk_name_refusal", "desk_listing"):
                     a = {**fair(entry, self.rng), "book": book, **({"text": self.rng.randbytes(40000)} if entry == "desk_listing" else {})}
                     self.compare(entry, a, {"book": Fenced(book, at_end), **({"text": Fenced(a["text"], at_end)} if "text" in a else {})})
+        self.answered({"desk_count": {OK, MORE, *range(11, 17)}, "desk_listing": {OK, *range(11, 17)}})
+
+    def test_listing(self):
+        """Lent lists of every length to a book with ways, one without and those that are refused: only a listing that fits is written."""
+        for book in (EXAMPLE, made(), made(1, 0, [], [(b"a", 1, 0, 2), (b"b", 1, 1, 3)]), *REFUSED):
+            for size in range(60): self.compare("desk_listing", dict(book=book, text=self.rng.randbytes(size)))
+        self.assertEqual(self.seen, {"desk_listing": {OK, NONE, *range(11, 17)}})
 
     def test_longer(self):
         """Lent lists far longer than a line: the bytes beyond it stay."""
@@ -228,7 +235,7 @@ class Boundary(unittest.TestCase):
         for _ in range(6000):
             for entry, code in damaged_calls(self.rng, self.surface): self.seen.setdefault(entry, set()).add(code)
         books, nets = {*range(11, 17)}, {*range(1, 7)}
-        self.answered({"desk_first": {OK, NONE, 17, *books}, "desk_next": {OK, END, 17, 18, *books}, "desk_count": {OK, MORE, *books}, "desk_name_refusal": {0, 19, *books},
+        self.answered({"desk_first": {OK, NONE, 17, *books}, "desk_next": {OK, END, 17, 18, *books}, "desk_count": {OK, MORE, *books}, "desk_listing": {OK, NONE, *books}, "desk_name_refusal": {0, 19, *books},
                        "desk_network_first": {OK, NONE, 7, *nets}, "desk_network_first_priced": {OK, NONE, 7, *nets}, "desk_network_next": {OK, END, 7, 8, *nets}, "desk_network_count": {OK, MORE, *nets}})
 
 

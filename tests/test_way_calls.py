@@ -81,14 +81,15 @@ class WayCalls(unittest.TestCase):
         return code, cost, lines
 
     def listed(self, book, listing):
-        """The listing, into lists that are shorter, as long and longer."""
-        size = len(listing)
-        for room in sorted({0, 1, size // 2, size - 1}):
+        """The listing, as `ways` prints it, into lists that are shorter, as long and longer; without a way, and refused, nothing is written."""
+        size, lines = len(listing), book_reader.refusal(book)[1]
+        if listing == b"(none)\n": answer, listing = (NONE, 0), b""
+        elif listing.startswith(b"(refused "): answer, listing = (int(listing[9:-2]), 0), b""
+        else: answer = (OK, size)
+        for room in sorted({0, 1, size // 2, size - 1, size, size + 1, size + 30}):
             text = bytes((7 * k + 1) % 256 for k in range(room))
-            self.assertEqual(self.desk.listing(book, text), (size, text))
-        for room in (size, size + 1, size + 30):
-            text = bytes((7 * k + 1) % 256 for k in range(room))
-            self.assertEqual(self.desk.listing(book, text), (size, listing + text[size:]))
+            self.assertEqual(self.desk.listing(book, text), (answer, [listing + text[len(listing):] if room >= size else text]))
+            self.assertIn(self.desk.line, lines)
 
     def test_document_01(self):
         for name, book, cost, ways in DOCUMENT:
@@ -133,9 +134,8 @@ class WayCalls(unittest.TestCase):
             run.walk(0.15, 0.02 if k % 4 == 0 else 0.0, most=100)
             run.counts()
             self.assertEqual(run.reader.refused, 0)
-            listing = way_trial.listing(book)
-            text = run.rng.randbytes(len(listing) + run.rng.randint(0, 5))
-            self.assertEqual(self.desk.listing(book, text), (len(listing), listing + text[len(listing):]), book)
+            text = run.rng.randbytes(max(0, len(run.reader.text) + run.rng.randint(-1, 5)))
+            self.assertEqual(self.desk.listing(book, text), run.reader.listing(text), book)
             length = len(run.reader.lines)
             seen[min(length, 20)] = seen.get(min(length, 20), 0) + 1
             for code, times in run.calls.items(): calls[code] = calls.get(code, 0) + times

@@ -71,7 +71,7 @@ class WaysProgram(unittest.TestCase):
         self.assertEqual(out, way_trial.listing(EXAMPLE))
 
     def test_library(self):
-        """What the program prints is what desk_listing writes, of larger books too."""
+        """What the program prints is what desk_listing answers, of larger books too."""
         desk, rng = way_library.load(), random.Random(25)
         books = [book for name, book, listing in examples()] + [book for question, book in refused()] + [large(rng, e) for e in (8, 12, 20, 28, 28, 28) for _ in range(8)]
         for book in books: self.assertEqual(printed(book), desk.listed(book), book[:300])

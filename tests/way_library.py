@@ -2,7 +2,7 @@
 import ctypes
 
 import desk_library
-from desk_library import Entry, Reply
+from desk_library import NONE, OK, Entry, Reply
 
 
 class Span(ctypes.Structure):
@@ -10,13 +10,13 @@ class Span(ctypes.Structure):
 
 
 class Desk:
-    """First, next and count answer (code, value), and `line` is the line that the last of them told; first and next also give the lent lists after the call."""
+    """First, next, count and listing answer (code, value), and `line` is the line that the last of them told; all but count also give the lent lists after the call."""
 
     def __init__(self, library):
         self.line = 0
         self._entries = {name: Entry(library, "desk_" + name, result, lists, *more)
                          for name, result, lists, more in [("first", Reply, 2, []), ("next", Reply, 3, []), ("count", Reply, 1, [ctypes.c_uint16]),
-                                                           ("listing", ctypes.c_size_t, 2, []), ("name", Span, 1, [ctypes.c_uint32]),
+                                                           ("listing", Reply, 2, []), ("name", Span, 1, [ctypes.c_uint32]),
                                                            ("name_refusal", ctypes.c_uint32, 1, [ctypes.c_uint32])]}
 
     def _call(self, name, read, lent, *more):
@@ -35,15 +35,15 @@ class Desk:
         return self._call("count", [book], [], cap)[0]
 
     def listing(self, book, text):
-        """The length of the whole text, and the lent list after the call."""
-        length, (after,) = self._entries["listing"]([book], [text])
-        return length, after
+        return self._call("listing", [book], [text])
 
     def listed(self, book):
-        """The whole text."""
-        length, after = self.listing(book, b"")
-        length, after = self.listing(book, b"\x77" * length)
-        return after
+        """The whole answer as `ways` prints it."""
+        (code, length), _ = self.listing(book, b"")
+        if code != OK: return b"(none)\n" if code == NONE else b"(refused %d)\n" % code
+        again, (text,) = self.listing(book, b"\x77" * length)
+        assert again == (OK, length), "another answer with room: %r" % (again,)
+        return text
 
     def name(self, book, entry):
         """Where the name starts in the book, and its length."""

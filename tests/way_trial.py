@@ -42,15 +42,19 @@ def full_list(book):
     return cheapest(ways(book))
 
 
+def shown(lines, cost):
+    """The listing of these ways."""
+    rows = [b"(way%s)\n" % b"".join(b" %d" % i for i in way) for way in lines[:SHOWN]]
+    last = b"(more %d)\n" % SHOWN if len(lines) > SHOWN else b"(end %d)\n" % len(lines)
+    return b"(cost %d)\n" % cost + b"".join(rows) + last
+
+
 def listing(text):
     """What `ways` prints of these bytes."""
     refused, _, book = book_reader.refusal(text)
     if refused: return b"(refused %d)\n" % refused
     lines, cost = full_list(book)
-    if not lines: return b"(none)\n"
-    shown = [b"(way%s)\n" % b"".join(b" %d" % i for i in way) for way in lines[:SHOWN]]
-    last = b"(more %d)\n" % SHOWN if len(lines) > SHOWN else b"(end %d)\n" % len(lines)
-    return b"(cost %d)\n" % cost + b"".join(shown) + last
+    return shown(lines, cost) if lines else b"(none)\n"
 
 
 def network_of(book):
@@ -87,4 +91,13 @@ class Reader(trial.Reader):
         self.refused, self.told, book = book_reader.refusal(text)
         self.n, self.m = 0, len(book.entries) if book else 0
         self.everything = ways(book) if book else []
-        self._take(*cheapest(self.everything))
+        lines, cost = cheapest(self.everything)
+        self.text = shown(lines, cost)
+        self._take(lines, cost)
+
+    def listing(self, text):
+        """The answer, and the lent list after the call: the text over the front of one that has room for it."""
+        if self.refused: return (self.refused, 0), [text]
+        if not self.lines: return (self.NONE, 0), [text]
+        size = len(self.text)
+        return (self.OK, size), [self.text + text[size:] if size <= len(text) else text]

@@ -2,7 +2,7 @@
 use mathlib.Core.Path.{_≡_, refl}
 use mathlib.Core.Bool.{Bool, true, false, cond}
 use mathlib.Core.Option.{Option, none, some}
-use Prim.Native.Nat.{ℕ, zero, suc, _+_, _≤_}
+use Prim.Native.Nat.{ℕ, zero, suc, _≤_}
 use native.Mathlib.Omega.{arith}
 use lib.Dec.{eqb, leb}
 use lib.ListN.{List·getD-map}
@@ -14,8 +14,8 @@ use Rattle.network.specs.Accepted.{AcceptedNet}
 use Rattle.lines.specs.declared.moves.Move.{Move}
 use Rattle.lines.specs.Questions.{moveOf}
 use Rattle.book.specs.Book.{Book}
-use Rattle.book.proofs.Accepted.{Accepted}
-use Rattle.allocation.specs.Follow.{size, entryAt, stay, link, inTime}
+use Rattle.book.specs.WithinLimits.{WithinLimits}
+use Rattle.allocation.specs.Follow.{size, entryAt, stay, link, arrival, inTime}
 use Rattle.allocation.specs.Ways.{orNone}
 use Rattle.allocation.specs.BookNet.{price, bookArcs, bookNet}
 use Rattle.allocation.proofs.Nodes.{Place, origin, odd, even, last, place, noArc, nodes-count, balance-inner, balance-last}
@@ -23,7 +23,7 @@ use Rattle.allocation.proofs.Arcs.{arc-holds, part-holds, well-formed}
 use Rattle.allocation.proofs.Fair.{cost-high}
 use Rattle.allocation.proofs.Size.{arcs-few, nodes-few}
 
-module _ (book : Book) (ok : Accepted book) where
+module _ (book : Book) (ok : WithinLimits book) where
   move-small : (a b finish start : ℕ) → orNone (inTime (moveOf (book .moves) a b) finish start) ≤ 1000000
   move-small a b finish start = go (moveOf (book .moves) a b) refl
     where
@@ -33,7 +33,7 @@ module _ (book : Book) (ok : Accepted book) where
 
       go : (o : Option Move) → moveOf (book .moves) a b ≡ o → orNone (inTime o finish start) ≤ 1000000
       go none e = omega arith
-      go (some m) e = pick (leb (finish + m .ticks) start) m (cost-high m (ok .fair-moves a b m e))
+      go (some m) e = pick (leb (arrival m finish) start) m (cost-high m (ok .fair-moves a b m e))
 
   link-small : (a b finish start : ℕ) → orNone (inTime (link (book .moves) a b) finish start) ≤ 1000000
   link-small a b finish start = go (eqb a b) (move-small a b finish start)
@@ -43,7 +43,7 @@ module _ (book : Book) (ok : Accepted book) where
       pick false = omega arith
 
       go : (t : Bool) → orNone (inTime (moveOf (book .moves) a b) finish start) ≤ 1000000 → orNone (inTime (cond t (some stay) (moveOf (book .moves) a b)) finish start) ≤ 1000000
-      go true k = pick (leb (finish + 0) start)
+      go true k = pick (leb (arrival stay finish) start)
       go false k = k
 
   pub price-small : (i j : ℕ) → price book i j ≤ 1000000

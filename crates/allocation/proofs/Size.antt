@@ -15,8 +15,8 @@ use Rattle.laws.specs.Totals.{totalOf, total-last, triangle, triangle-mono, squ
 use Rattle.network.specs.Network.{nodes, arcs}
 use Rattle.lines.specs.declared.moves.Move.{Move}
 use Rattle.book.specs.Book.{Book}
-use Rattle.book.proofs.Accepted.{Accepted}
-use Rattle.allocation.specs.Follow.{size, entryAt, link, inTime, mayFollow}
+use Rattle.book.specs.WithinLimits.{WithinLimits}
+use Rattle.allocation.specs.Follow.{size, entryAt, link, arrival, inTime, mayFollow}
 use Rattle.allocation.specs.Ways.{given?, permits, oneIf}
 use Rattle.allocation.specs.FullWays.{numbers}
 use Rattle.allocation.specs.BookNet.{down, sources, joinArc, joinArcs, bookNet}
@@ -26,10 +26,10 @@ use Rattle.allocation.proofs.Nodes.{count-arcs, arcs-parts, nodes-count
 -- who follows does not start earlier than the other ends
 in-time : (m : Option Move) (finish start : ℕ) → given? (inTime m finish start) ≡ true → finish ≤ start
 in-time none finish start e = absurd (let z : _≡_ {A = ℕ} 0 1 = cc in omega arith)
-in-time (some m) finish start e = go (leb (finish + m .ticks) start) refl e
+in-time (some m) finish start e = go (leb (arrival m finish) start) refl e
   where
-    go : (t : Bool) → leb (finish + m .ticks) start ≡ t → given? (cond t (some (m .cost)) none) ≡ true → finish ≤ start
-    go true q e = let h = leb-true (finish + m .ticks) start q in omega arith
+    go : (t : Bool) → leb (arrival m finish) start ≡ t → given? (cond t (some (m .cost)) none) ≡ true → finish ≤ start
+    go true q e = let h = leb-true (arrival m finish) start q in omega arith
     go false q e = absurd (let z : _≡_ {A = ℕ} 0 1 = cc in omega arith)
 
 follow-time : (book : Book) (i j : ℕ) → given? (mayFollow book i j) ≡ true → entryAt book i .finish ≤ entryAt book j .start
@@ -64,7 +64,7 @@ module _ (book : Book) where
       let block = length-map (sources book s) (joinArc book s) ∙ keep-count (λ i. permits book i s) (size book) in
       omega arith
 
-  module _ (ok : Accepted book) where
+  module _ (ok : WithinLimits book) where
     timed : (j : ℕ) → 1 ≤ j → j ≤ size book → entryAt book j .start < entryAt book j .finish
     timed j h k = fair-entry (entryAt book j) (ok .fair-entries (j - 1) (omega arith)) .ends-later
 

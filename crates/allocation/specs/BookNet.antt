@@ -62,8 +62,8 @@ lastArc book = record { tail = 0; head = lastNode book; low = 0; up = book .play
 abbrev pub bookArcs : Book → List Arc
 bookArcs book = joinArcs book (size book) 1 ++ (map entryArc (numbers book) ++ (map (endArc book) (numbers book) ++ (lastArc book ∷ [])))
 
-abbrev pub netWith : List ℤ → List Arc → Net
-netWith balances arcs = record {
+abbrev pub netOfArcs : List ℤ → List Arc → Net
+netOfArcs balances arcs = record {
   balances = balances;
   tails = map (λ a. a .tail) arcs;
   heads = map (λ a. a .head) arcs;
@@ -73,4 +73,4 @@ netWith balances arcs = record {
 }
 
 abbrev pub bookNet : Book → Net
-bookNet book = netWith (balancesOf book) (bookArcs book)
+bookNet book = netOfArcs (balancesOf book) (bookArcs book)

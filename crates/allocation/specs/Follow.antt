@@ -30,10 +30,14 @@ stay = record { source = 0; target = 0; ticks = 0; cost = 0 }
 abbrev pub link : List Move → ℕ → ℕ → Option Move
 link moves a b = cond (eqb a b) (some stay) (moveOf moves a b)
 
+-- when a player is there who goes at the tick `finish`: "F of i + T"
+abbrev pub arrival : Move → ℕ → ℕ
+arrival m finish = finish + m .ticks
+
 -- the cost, if there is time to go
 abbrev pub inTime : Option Move → ℕ → ℕ → Option ℕ
 inTime none finish start = none
-inTime (some m) finish start = cond (leb (finish + m .ticks) start) (some (m .cost)) none
+inTime (some m) finish start = cond (leb (arrival m finish) start) (some (m .cost)) none
 
 -- the cost of the join from i to j, if j may follow i
 abbrev pub mayFollow : Book → ℕ → ℕ → Option ℕ

@@ -20,17 +20,20 @@ use Rattle.allocation.specs.Ways.{permits, times, wayCost}
 abbrev pub numbers : Book → List ℕ
 numbers book = from (size book) 1
 
--- whether a list of E numbers from 0 to E is a way
+-- "Each predecessor must be one it may follow": whether those of the entries from j on are
 abbrev pub isJoined : Book → ℕ → List ℕ → Bool
 isJoined book j [] = true
 isJoined book j (p ∷ w) = permits book p j && isJoined book (suc j) w
 
+-- whether a list of E numbers from 0 to E is a way
 abbrev pub isWay : Book → List ℕ → Bool
 isWay book w = isJoined book 1 w && (all (λ i. leb (times i w) 1) (numbers book) && leb (times 0 w) (book .players))
 
+-- whether w costs no more than x
 abbrev pub noDearer : Book → List ℕ → List ℕ → Bool
 noDearer book w x = leb (wayCost book w) (wayCost book x)
 
+-- the bounds of E numbers from 0 to E
 abbrev pub bounds : Book → List (ℕ × ℕ)
 bounds book = replicate (size book) (0, size book)
 

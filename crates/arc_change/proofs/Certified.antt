@@ -1,4 +1,4 @@
--- What prices add: pushing round a tight arc keeps the least cost, and a set of nodes that no free code leaves shows that no least-cost flow
+-- What a feasible potential adds: pushing round a tight arc keeps the least cost, and a set of nodes that no free code leaves shows that no least-cost flow
 -- with the same arcs before has less, or more, on the arc.
 use mathlib.Core.Path.{_≡_, refl, sym, _∙_}
 use mathlib.Core.Logic.{_⊎_, inl, inr, _≢_}
@@ -12,13 +12,14 @@ use lib.IntN.{ℤ, pos}
 use Rattle.laws.specs.Members.{Every, every-map2}
 use Rattle.laws.specs.Tests.{and-true, true-and}
 use Rattle.network.specs.Network.{Net, arcs, tail, head, low, up, LeastCost}
-use Rattle.network.specs.Residual.{usable}
-use Rattle.certificates.specs.Optimality.{reduced, optimal-any}
+use Rattle.network.specs.Residual.{codes, usable}
+use Rattle.certificates.specs.Optimality.{reduced, feasible-any}
 use Rattle.certificates.specs.Cuts.{Closed, closed-steps, no-more, no-less}
-use Rattle.certificates.specs.Push.{roomOf, flow-bounds, Detour, Moved, raised, lowered, pushAll}
+use Rattle.certificates.specs.Room.{roomOf}
+use Rattle.certificates.specs.Push.{flow-bounds, Detour, Moved, raised, lowered, pushAll, all-roomy}
 use Rattle.certificates.specs.FreeArcs.{goes, Path, Blocked}
 use Rattle.arc_change.specs.Tight.{Tight}
-use Rattle.arc_change.proofs.Detours.{path-room, fits-of}
+use Rattle.arc_change.proofs.Detours.{path-room}
 
 -- the marks of one least-cost flow are those of every other
 pub tight-any : (N : Net) (π : ℕ → ℤ) (tight : List Bool) (f g : List ℕ) → Tight N π tight f → LeastCost N g → Tight N π tight g
@@ -27,7 +28,7 @@ tight-any N π tight f g ti lg = record {
   marked = ti .marked;
   unmarked = λ a l e h lh. ti .unmarked a l e h lh ∙ sym (ti .unmarked a l e g lg);
   least = lg;
-  optimal = optimal-any N (ti .well-formed) f g π (ti .least .flow) (ti .optimal) lg;
+  feasible = feasible-any N (ti .well-formed) f g π (ti .least .flow) (ti .feasible) lg;
 }
 
 module _ (N : Net) (f : List ℕ) (tight : List Bool) (k : ℕ) (π : ℕ → ℤ) (ti : Tight N π tight f) (l : k < arcs N) where
@@ -37,8 +38,8 @@ module _ (N : Net) (f : List ℕ) (tight : List Bool) (k : ℕ) (π : ℕ → �
       record {
         trail = p .trail;
         distinct = p .distinct;
-        fits = fits-of N f k cs q δ (flow-bounds N f (ti .least .flow)) h;
-        tight = every-map2 (λ c. c < arcs N + arcs N) (λ c. goes N f tight c ≡ true) (λ c. reduced N π (c / 2) ≡ pos 0) cs (λ c l g. ti .marked (c / 2) (omega arith) (and-true (getD tight (c / 2) false) (usable N f c) g .0)) (q .codes-in) (p .passes);
+        room = all-roomy N f δ cs (flow-bounds N f (ti .least .flow)) (q .codes-in) h;
+        tight = every-map2 (λ c. c < codes N) (λ c. goes N f tight c ≡ true) (λ c. reduced N π (c / 2) ≡ pos 0) cs (λ c l g. ti .marked (c / 2) (omega arith) (and-true (getD tight (c / 2) false) (usable N f c) g .0)) (q .codes-in) (p .passes);
         above = q .above;
       }
 

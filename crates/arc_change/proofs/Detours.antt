@@ -7,11 +7,13 @@ use Prim.Native.Nat.{ℕ, suc, _+_, _-_, _/_, _≤_, _<_}
 use native.Mathlib.Omega.{arith}
 use lib.ListN.{getD, set}
 use lib.Seq.{getD-set-same}
+use borrow.Author.Tests.{le-leb}
 use Rattle.laws.specs.Members.{Every, every-map, every-map2}
 use Rattle.network.specs.Network.{Net, arcs, low, up}
-use Rattle.network.specs.Residual.{src, dst}
+use Rattle.network.specs.Residual.{codes, src, dst}
 use Rattle.certificates.specs.Codes.{even-code, odd-code, even-arc, odd-arc}
-use Rattle.certificates.specs.Push.{InBounds, Fits, roomOf, room-fits, one-bounds, one-fits, all-other, pushOne, pushAll}
+use Rattle.certificates.specs.Room.{roomy, roomOf}
+use Rattle.certificates.specs.Push.{InBounds, all-roomy, one-bounds, one-room, all-other, pushOne, pushAll}
 use Rattle.certificates.specs.FreeArcs.{goes, Path}
 use Rattle.certificates.specs.Graph.{graph}
 use Rattle.pushing.specs.Pushing.{Pushable}
@@ -21,35 +23,32 @@ use Rattle.arc_change.specs.Detours.{RoomAbove, takes, TakenOff, PutOn}
 
 pub path-room : (N : Net) (f : List ℕ) (free : List Bool) (s t k : ℕ) (cs : List ℕ) → Path N f free s t (suc k) cs → RoomAbove N f k cs
 path-room N f free s t k cs p = record {
-  codes-in = way-codes (arcs N + arcs N) (src N) (dst N) s t cs (p .trail);
+  codes-in = way-codes (codes N) (src N) (dst N) s t cs (p .trail);
   distinct = p .distinct;
   above = every-map (λ c. suc k + suc k ≤ c) (λ c. k < c / 2) cs (λ c h. omega arith) (p .low);
   room = every-map (λ c. goes N f free c ≡ true) (λ c. 0 < roomOf N f c) cs (goes-room N f free) (p .passes);
 }
 
 module _ (N : Net) (f : List ℕ) (k : ℕ) (cs : List ℕ) (p : RoomAbove N f k cs) where
-  pub fits-of : (δ : ℕ) → InBounds N f → Every (λ c. δ ≤ roomOf N f c) cs → Every (Fits N δ f) cs
-  fits-of δ b h = every-map2 (λ c. c < arcs N + arcs N) (λ c. δ ≤ roomOf N f c) (Fits N δ f) cs (λ c l r. room-fits N f δ c b l r) (p .codes-in) h
-
   -- after code c of arc k itself
-  after-code : (δ c : ℕ) → InBounds N f → c < arcs N + arcs N → c / 2 ≡ k → Fits N δ f c → Every (λ c. δ ≤ roomOf N f c) cs → Pushable N δ (pushOne δ c f) cs
-  after-code δ c b l e fit h = record {
-    bounds = one-bounds N δ f c b l fit;
+  after-code : (δ c : ℕ) → InBounds N f → c < codes N → c / 2 ≡ k → roomy N f δ c ≡ true → Every (λ c. δ ≤ roomOf N f c) cs → Pushable N δ (pushOne δ c f) cs
+  after-code δ c b l e room h = record {
+    bounds = one-bounds N δ f c b l room;
     codes-in = p .codes-in;
     distinct = p .distinct;
-    fits = every-map2 (λ d. k < d / 2) (Fits N δ f) (Fits N δ (pushOne δ c f)) cs (λ d a r. one-fits N δ f c b l fit d (λ q. omega (arith, ap (λ i. i / 2) q)) r) (p .above) (fits-of δ b h);
+    room = every-map2 (λ d. k < d / 2) (λ d. roomy N f δ d ≡ true) (λ d. roomy N (pushOne δ c f) δ d ≡ true) cs (λ d a r. one-room N δ f c b l room d (λ q. omega (arith, ap (λ i. i / 2) q)) r) (p .above) (all-roomy N f δ cs b (p .codes-in) h);
   }
 
   lower-able : (δ : ℕ) → InBounds N f → k < arcs N → low N k + δ ≤ getD f k 0 → Every (λ c. δ ≤ roomOf N f c) cs → Pushable N δ (set f k (getD f k 0 - δ)) cs
   lower-able δ b l room h =
       subst (λ (g : List ℕ). Pushable N δ g cs) (rw (odd-code k, odd-arc k))
-      (after-code δ (suc (k + k)) b (omega arith) (odd-arc k) (record { forth = λ e. absurd (let z : _≡_ {A = ℕ} 0 1 = cc (e, odd-code k) in omega arith); back = λ _. rw odd-arc room }) h)
+      (after-code δ (suc (k + k)) b (omega arith) (odd-arc k) (rw (odd-code k, odd-arc k) (le-leb (low N k + δ) (getD f k 0) room)) h)
 
   -- one more
   pub put-able : InBounds N f → k < arcs N → getD f k 0 < up N k → Pushable N 1 (set f k (getD f k 0 + 1)) cs
   put-able b l room =
       subst (λ (g : List ℕ). Pushable N 1 g cs) (rw (even-code k, even-arc k))
-      (after-code 1 (k + k) b (omega arith) (even-arc k) (record { forth = λ _. rw even-arc (omega arith); back = λ e. absurd (let z : _≡_ {A = ℕ} 0 1 = cc (e, even-code k) in omega arith) }) (p .room))
+      (after-code 1 (k + k) b (omega arith) (even-arc k) (rw (even-code k, even-arc k) (le-leb (getD f k 0 + 1) (up N k) (omega arith))) (p .room))
 
   -- as much as can be taken off
   pub take-able : InBounds N f → k < arcs N → low N k < getD f k 0 → Pushable N (takes N f k cs) (set f k (getD f k 0 - takes N f k cs)) cs

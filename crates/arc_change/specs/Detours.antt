@@ -5,13 +5,15 @@ use Prim.Native.Nat.{ℕ, _+_, _-_, _/_, _<_}
 use lib.ListN.{getD, set}
 use Rattle.laws.specs.Members.{Every}
 use Rattle.laws.specs.Ascending.{Distinct}
-use Rattle.network.specs.Network.{Net, arcs, low}
-use Rattle.certificates.specs.Push.{InBounds, roomOf, pushAll}
+use Rattle.network.specs.Network.{Net, low}
+use Rattle.network.specs.Residual.{codes}
+use Rattle.certificates.specs.Room.{roomOf}
+use Rattle.certificates.specs.Push.{InBounds, pushAll}
 use Rattle.pushing.specs.Pushing.{roomAll}
 
 -- the codes have room, and their arcs come after arc k
 pub record RoomAbove (N : Net) (f : List ℕ) (k : ℕ) (cs : List ℕ) : Type 0 where
-  pub codes-in : Every (λ c. c < arcs N + arcs N) cs
+  pub codes-in : Every (λ c. c < codes N) cs
   pub distinct : Distinct cs
   pub above : Every (λ c. k < c / 2) cs
   pub room : Every (λ c. 0 < roomOf N f c) cs

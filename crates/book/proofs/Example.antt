@@ -1,4 +1,4 @@
--- The book of 01's listing, by the definitions alone. Assumes nothing.
+-- The book of 01's listing, by the definitions alone.
 use Prim.Native.Nat.{ℕ}
 use mathlib.Core.Path.{_≡_, refl}
 use mathlib.Core.Option.{some}

@@ -1,4 +1,4 @@
--- The checked book of a refusal and of an accepted book, and a column of it at an entry. Assumes nothing.
+-- The checked book of a refusal and of an accepted book, and a column of it at an entry.
 use Prim.Native.Nat.{ℕ, zero, suc, _-_, _<_}
 use mathlib.Core.Path.{_≡_, refl, _∙_}
 use mathlib.Core.List.{List, [], _∷_, map}

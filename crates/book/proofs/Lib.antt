@@ -1,3 +1,4 @@
 pub mod Judging
-pub mod Accepted
+pub mod Told
+pub mod WithinLimits
 pub mod Example

@@ -1,4 +1,6 @@
 pub mod Book
 pub mod Questions
+pub mod Told
+pub mod WithinLimits
 pub mod Checked
 pub mod Steps

@@ -42,7 +42,7 @@ questionOf (BadMove k) = 14
 questionOf (BadEntry k) = 15
 questionOf TooMany = 16
 
--- "13, 14 and 15 also carry the number of some line that fails (first line 1)."
+-- the line that each answer carries, 0 if none
 abbrev pub lineOf : Answer → ℕ
 lineOf Accepted = 0
 lineOf TooLong = 0

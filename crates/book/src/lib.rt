@@ -76,6 +76,7 @@ pub struct Opening {
     pub used: usize,
 }
 
+// The answer, from the lines that fail 13, 14 and 15, each 0 if none does, and the count of entries.
 fn answer_of(header: u32, moves: u32, entries: u32, count: usize) -> Answer
     ensures { λ r. ⌜ r ≡ answerOf header moves entries count ⌝ }
 {
@@ -115,6 +116,7 @@ pub fn refused(answer: Answer) -> Checked
     }
 }
 
+// The checked book, from what the lines gave.
 fn held(o: Opening, m: Moves, e: Entries) -> CheckedBook
     ensures { λ r. ⌜ r ≡ heldOf o m e ⌝ }
 {

@@ -31,14 +31,15 @@ use Rattle.calls.specs.declared.Reply.{Reply}
 use Rattle.way_bytes.specs.declared.Admitted.{Admitted}
 use Rattle.calls.specs.Replies.{orElse, codeOf, sees, word, HandedOut, countReply, refusedAt}
 use Rattle.calls.specs.ByteLists.{room, listed}
-use Rattle.book_calls.specs.BookCalls.{BookCall, lent, number, countWays, CountsBook}
+use Rattle.book_calls.specs.BookCalls.{BookCall, lent, number, countWays}
+use Rattle.book_calls.specs.BookEntries.{BookCount}
 use Rattle.allocation.specs.BookBytes.{waysIn, ways, size, costIn, costOf}
-use Rattle.way_bytes.specs.Told.{Told}
+use Rattle.book.specs.Told.{Told}
 use Rattle.book_calls.specs.BookRun.{RightBook, AnswersBook}
 use Rattle.way_bytes.specs.Steps.{Admits}
 use Rattle.calls.proofs.Turns.{wordOf, first-passed, all-passed}
 use Rattle.calls.proofs.Lines.{after-given}
-use Rattle.way_bytes.proofs.Told.{told, untold}
+use Rattle.book.proofs.Told.{untold}
 use Rattle.book_calls.proofs.BookRun.{full}
 
 -- past questions 11 to 17: the book, which the checked book holds
@@ -106,7 +107,7 @@ module _ (s : List ℕ) where
       pub fails-given : (g : List ℕ) (r : Reply) → listed g (fullWays (h .book)) ≡ false → r ≡ word 18 → AnswersBook s (next g l) (sees r l)
       fails-given g r e q =
           says (next g l) r 17 0 (rw (h .ok, fits, ap (λ x. listed g (waysIn x)) (h .is) ∙ e)) q
-          (untold s (h .ok) 18 (λ e. omega arith) (λ e. omega arith) (λ e. omega arith))
+          (untold 18 (λ e. omega arith) (λ e. omega arith) (λ e. omega arith) s)
 
       pub answers-next : (g : List ℕ) (o : Option (List ℕ)) → listed g (fullWays (h .book)) ≡ true → o ≡ nextWay (h .book) (words g) → (r : Reply) (l′ : List ℕ)
           → HandedOut (λ w. pos (wayCost (h .book) w)) o 101 l r l′ → AnswersBook s (next g l) (sees r l′)
@@ -117,21 +118,21 @@ module _ (s : List ℕ) where
           rw (h .ok, fits, on, w) (handed (next g l) o r l′ (of-book o 101 r l′ d))
 
   -- counting
-  pub counts-refused : (v : Checked) → Judged s v → (k t cap : ℕ) (r : Reply) → k ≡ questionOf (v .answer) → t ≡ lineOf (v .answer) → ¬ (k ≡ 0) → r ≡ refusedAt k t → CountsBook s cap r
+  pub counts-refused : (v : Checked) → Judged s v → (k t cap : ℕ) (r : Reply) → k ≡ questionOf (v .answer) → t ≡ lineOf (v .answer) → ¬ (k ≡ 0) → r ≡ refusedAt k t → BookCount s cap r
   counts-refused v h zero t cap r e l n q = absurd (n refl)
   counts-refused v h (suc k) t cap r e l n q =
       let no : refusal s ≡ suc k = sym (h .question) ∙ sym e in
       record {
         code-is = rw (no, q);
         value-is = rw (no, q);
-        told = rw q (subst (λ i. Told s i t) (h .question) (subst (λ i. Told s (questionOf (v .answer)) i) (sym l) (told s v h)));
+        told = rw q (subst (λ i. Told s i t) (h .question) (subst (λ i. Told s (questionOf (v .answer)) i) (sym l) (h .line)));
       }
 
-  pub counts : refusal s ≡ 0 → (b : Book) → parse s ≡ some b → (cap n : ℕ) → counted cap n ≡ allocation.countWays b cap → (r : Reply) → r ≡ countReply (counted cap n) → CountsBook s cap r
+  pub counts : refusal s ≡ 0 → (b : Book) → parse s ≡ some b → (cap n : ℕ) → counted cap n ≡ allocation.countWays b cap → (r : Reply) → r ≡ countReply (counted cap n) → BookCount s cap r
   counts ok b p cap n is r q =
       let e : r ≡ countReply (countWays s cap) = q ∙ ap countReply (is ∙ ap (λ x. counted cap (length (waysIn x))) (sym p)) in
       record {
         code-is = rw ok (ap (λ (x : Reply). x .code) e);
         value-is = rw ok (ap (λ (x : Reply). x .value) e);
-        told = rw (ok, e, count-line (countWays s cap)) (untold s ok 0 (λ e. omega arith) (λ e. omega arith) (λ e. omega arith));
+        told = rw (ok, e, count-line (countWays s cap)) (untold 0 (λ e. omega arith) (λ e. omega arith) (λ e. omega arith) s);
       }

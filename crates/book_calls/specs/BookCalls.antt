@@ -1,4 +1,4 @@
--- The calls of a book: what they take, questions 17 and 18, what they write, and the reply of counting.
+-- The calls of a book: what they take, questions 17 and 18, what they write; counting.
 use mathlib.Core.Path.{_≡_}
 use mathlib.Core.List.{List}
 use mathlib.Core.Option.{Option}
@@ -9,11 +9,9 @@ use Rattle.laws.specs.Run.{Call, first, next}
 use Rattle.laws.specs.Count.{Count, counted}
 use Rattle.bytes32.specs.Words.{encodeWords, over}
 use Rattle.book.specs.Questions.{refusal}
-use Rattle.calls.specs.declared.Reply.{Reply}
-use Rattle.calls.specs.Replies.{failed, orElse, countUnless}
+use Rattle.calls.specs.Replies.{failed, orElse}
 use Rattle.calls.specs.ByteLists.{room, fairGiven}
 use Rattle.allocation.specs.BookBytes.{ways, size}
-use Rattle.way_bytes.specs.Told.{Told}
 
 -- `first` is lent a list for a way; `next` is given one and lent one
 abbrev pub BookCall : Type 0
@@ -45,9 +43,3 @@ Wrote c w after = after ≡ over (encodeWords w) (lent c)
 -- "the length of the list if that is at most the cap, else 'more'"
 abbrev pub countWays : List ℕ → ℕ → Count
 countWays s cap = counted cap (length (ways s))
-
--- the reply of counting, and the line that it tells with a refusal
-pub record CountsBook (s : List ℕ) (cap : ℕ) (r : Reply) : Type 0 where
-  pub code-is : r .code ≡ countUnless (refusal s) (countWays s cap) .code
-  pub value-is : r .value ≡ countUnless (refusal s) (countWays s cap) .value
-  pub told : Told s (refusal s) (r .line)

@@ -1,16 +1,23 @@
--- What the entries of a book ensure of a call, and demand 3 of a book: a run of calls, fair, with every contract kept, and as the reader with a
--- finger on the full list answers it.
-use mathlib.Core.List.{List}
+-- What the entries of a book ensure of a call, and demand 3 of a book: a run of calls, consistent, with every contract kept, and as the reader with
+-- a finger on the full list answers it.
+use mathlib.Core.Path.{_≡_}
+use mathlib.Core.Bool.{true}
+use mathlib.Core.List.{List, [], _∷_, _++_, map}
 use mathlib.Core.Option.{none}
-use Prim.Native.Nat.{ℕ}
+use Prim.Native.Nat.{ℕ, _*_}
+use lib.ListN.{length, take}
+use Rattle.laws.specs.Members.{Every}
 use Rattle.laws.specs.Equality.{same-list}
-use Rattle.laws.specs.Run.{Answer, Finger, respond, FairRun, Kept, AsRead}
+use Rattle.laws.specs.Run.{Answer, line, Finger, respond, ConsistentRun, Kept, AsRead}
 use Rattle.laws.specs.Seen.{Seen, Right}
+use Rattle.laws.specs.Listing.{FirstThenNext, Shows, lastWord}
 use Rattle.bytes32.specs.Words.{encodeWords}
+use Rattle.book.specs.Questions.{refusal}
 use Rattle.calls.specs.Replies.{codeOf}
+use Rattle.calls.specs.ByteLists.{room}
 use Rattle.book_calls.specs.BookCalls.{BookCall, lent, refuses, Wrote}
-use Rattle.allocation.specs.BookBytes.{ways, costOf}
-use Rattle.way_bytes.specs.Told.{Told}
+use Rattle.allocation.specs.BookBytes.{ways, size, costOf}
+use Rattle.book.specs.Told.{Told}
 
 -- s: the book as it came. "The book or network is the same throughout".
 module _ (s : List ℕ) where
@@ -26,8 +33,8 @@ module _ (s : List ℕ) where
   AnswersBook c t = RightBook c (answer c) t
 
   -- "Next is given a copy of the line last written, or a list that isn't on the full list."
-  abbrev pub FairBook : List (BookCall × Seen (List ℕ)) → Type 0
-  FairBook r = FairRun same-list encodeWords (ways s) (refuses s) none r
+  abbrev pub ConsistentBook : List (BookCall × Seen (List ℕ)) → Type 0
+  ConsistentBook r = ConsistentRun same-list encodeWords (ways s) (refuses s) none r
 
   -- every call keeps what its entry ensures
   abbrev pub KeptBook : List (BookCall × Seen (List ℕ)) → Type 0
@@ -36,3 +43,17 @@ module _ (s : List ℕ) where
   -- "A reader has a finger on it": every call is answered as he does
   abbrev pub ReadBook : Finger → List (BookCall × Seen (List ℕ)) → Type 0
   ReadBook f r = AsRead same-list encodeWords (ways s) (refuses s) RightBook f r
+
+  -- a way as a caller copies it from the list that he lent: its first 4 E bytes
+  abbrev pub copiedWay : Seen (List ℕ) → List ℕ
+  copiedWay t = take (4 * size s) (t .lists)
+
+  -- of an accepted book: `first`, then `next` of each way as it was written, until a call writes none; with room for each
+  pub record WalksBook (r : List (BookCall × Seen (List ℕ))) : Type 0 where
+    pub accepted : refusal s ≡ 0
+    pub asks : FirstThenNext (λ t. t .number) copiedWay r
+    pub fits : Every (λ e. room (size s) (length (lent (e .0))) ≡ true) r
+
+  -- it shows the full list, once, in order, and then "end" ("none" without a way)
+  abbrev pub ListsBook : List (BookCall × Seen (List ℕ)) → Type 0
+  ListsBook r = Shows RightBook r (map line (ways s) ++ (lastWord (ways s) ∷ []))

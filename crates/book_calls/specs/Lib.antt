@@ -1,3 +1,4 @@
 pub mod BookCalls
 pub mod BookRun
+pub mod BookEntries
 pub mod FirstWay

@@ -1,13 +1,10 @@
 // The calls of a book, as `desk` hands them to C: each ensures what a caller sees of it, refused calls included.
-ghost use Rattle.laws.specs.Run.{first, next};
-ghost use Rattle.calls.specs.Replies.{sees};
-ghost use Rattle.book_calls.specs.BookCalls.{CountsBook};
-ghost use Rattle.book_calls.specs.BookRun.{AnswersBook};
+ghost use Rattle.book_calls.specs.BookEntries.{BookFirst, BookNext, BookCount};
 use calls::Reply;
 
 // The first least-cost way, or "none". Questions 11 to 17.
 pub fn first(book: &[u8], way: &mut [u8]) -> Reply
-    ensures { λ r. ⌜ AnswersBook (now (book .entry)) (first (now (way .entry))) (sees r (now (way .exit))) ⌝ }
+    ensures { λ r. ⌜ BookFirst (now (book .entry)) (now (way .entry)) r (now (way .exit)) ⌝ }
 {
     let admitted = way_bytes::admit(book, way.len());
     let number = admitted.number;
@@ -21,7 +18,7 @@ pub fn first(book: &[u8], way: &mut [u8]) -> Reply
 
 // The least-cost way after the one given, or "end". Questions 11 to 18.
 pub fn next(book: &[u8], given: &[u8], way: &mut [u8]) -> Reply
-    ensures { λ r. ⌜ AnswersBook (now (book .entry)) (next (now (given .entry)) (now (way .entry))) (sees r (now (way .exit))) ⌝ }
+    ensures { λ r. ⌜ BookNext (now (book .entry)) (now (given .entry)) (now (way .entry)) r (now (way .exit)) ⌝ }
 {
     let admitted = way_bytes::admit(book, way.len());
     let number = admitted.number;
@@ -40,7 +37,7 @@ pub fn next(book: &[u8], given: &[u8], way: &mut [u8]) -> Reply
 
 // How many least-cost ways there are, up to the cap. Questions 11 to 16.
 pub fn count(book: &[u8], cap: u16) -> Reply
-    ensures { λ r. ⌜ CountsBook (now (book .entry)) cap r ⌝ }
+    ensures { λ r. ⌜ BookCount (now (book .entry)) cap r ⌝ }
 {
     let checked = book_check::check(book);
     let answer = checked.answer;

@@ -1,4 +1,4 @@
--- The first lines of a book, the last one, and the whole. Assumes nothing.
+-- The first lines of a book, the last one, and the whole.
 use Prim.Native.Nat.{ℕ, _+_, _<_, _≤_}
 use mathlib.Core.Path.{_≡_, refl, ap, _∙_}
 use mathlib.Core.Bool.{Bool, true, false, cond}

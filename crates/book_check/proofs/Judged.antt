@@ -1,11 +1,12 @@
--- The questions 11 to 16, from what the passes found. Assumes nothing.
+-- The questions 11 to 16, from what the passes found.
 use Prim.Native.Nat.{ℕ, zero, suc, _+_, _-_, _<_, _≤_}
-use mathlib.Core.Path.{_≡_, refl, sym, ap, subst, _∙_}
+use mathlib.Core.Path.{_≡_, refl, sym, ap, _∙_}
 use mathlib.Core.Bool.{Bool, true, false, cond, _&&_}
 use mathlib.Core.Option.{Option, none, some}
 use mathlib.Core.List.{List, [], _∷_}
 use native.Mathlib.Omega.{arith}
-use lib.ListN.{length, getD}
+use lib.ListN.{length, take, getD}
+use lib.Seq.{take-all}
 use lib.Dec.{leb, eqb, eqb·suc-zero}
 use borrow.Author.Tests.{le-leb, lt-leb, leb-true, eqb-true, eqb-false}
 use Rattle.lines.specs.declared.moves.Move.{Move}
@@ -16,18 +17,21 @@ use Rattle.book.specs.declared.Opening.{Opening}
 use Rattle.book.specs.declared.CheckedBook.{CheckedBook}
 use Rattle.book.specs.declared.Checked.{Checked}
 use Rattle.book.specs.declared.Answer.{Answer}
-use Rattle.book.specs.declared.Answer.the-variants.{Accepted, BadHeader, BadMove, BadEntry, TooMany}
+use Rattle.book.specs.declared.Answer.the-variants.{Accepted, TooLong, Malformed, BadHeader, BadMove, BadEntry, TooMany}
 use Rattle.lines.specs.Lines.{Entry}
 use Rattle.book.specs.Book.{Book, parse}
-use Rattle.book.specs.Questions.{header, askBook, refusal, questionOf}
+use Rattle.book.specs.Questions.{header, askBook, refusal, questionOf, lineOf}
+use Rattle.book.specs.Told.{ToldOf, Told}
 use Rattle.lines.specs.Questions.{moves, entries, all}
 use Rattle.lines.specs.Columns.{table, nobody}
 use Rattle.book.specs.Checked.{filled, empty, unlessRefused, checkedBook}
-use Rattle.lines.specs.Passes.{Verdict, columnsOf, Placed}
+use Rattle.lines.specs.Passes.{Verdict, kept, columnsOf, Placed}
 use Rattle.book.specs.Steps.{answerOf, headerBad, heldOf, judgedOf}
 use Rattle.lines.proofs.Verdicts.{verdict-none, verdict-more}
+use Rattle.lines.proofs.MovePass.{kept-all}
 use Rattle.book.proofs.Judging.{column-at}
-use Rattle.book_check.specs.Judged.{Told, Lies, Judged}
+use Rattle.book.proofs.Told.{told-header, told-move, told-entry, none-told, untold}
+use Rattle.book_check.specs.Judged.{Lies, Judged}
 
 -- some line fails
 not-all : (l : List Bool) (n : ℕ) → getD l n true ≡ false → all l ≡ false
@@ -37,25 +41,25 @@ not-all (a ∷ l) zero e = rw e
 not-all (true ∷ l) (suc n) e = not-all l n e
 not-all (false ∷ l) (suc n) e = refl
 
-pub long : (s : List ℕ) → 16384 < length s → refusal s ≡ 11
-long s h = rw (lt-leb (length s) 16384 h)
-
-pub no-form : (s : List ℕ) → length s ≤ 16384 → parse s ≡ none → refusal s ≡ 12
-no-form s h e = rw (le-leb (length s) 16384 h, e)
-
 asked : (s : List ℕ) (b : Book) → length s ≤ 16384 → parse s ≡ some b → refusal s ≡ askBook b
 asked s b h e = rw (le-leb (length s) 16384 h, e)
 
--- a refusal by 11 or 12
-pub refused-right : (s : List ℕ) (r : Checked) (a : Answer) (q : ℕ) → r ≡ record { answer = a; book = empty } → refusal s ≡ suc q → questionOf a ≡ suc q → ((b : Book) → Told b a) → Judged s r
+refused-right : (s : List ℕ) (r : Checked) (a : Answer) (q : ℕ) → r ≡ record { answer = a; book = empty } → refusal s ≡ suc q → questionOf a ≡ suc q → Told s (questionOf a) (lineOf a) → Judged s r
 refused-right s r a q e f g told =
     rw e
     (record {
       question = g ∙ sym f;
-      line = λ b _. told b;
+      line = told;
       book = rw f;
       lies = λ n h. absurd (omega arith);
     })
+
+-- a refusal by 11, and by 12
+pub long-right : (s : List ℕ) (r : Checked) → r ≡ record { answer = TooLong; book = empty } → 16384 < length s → Judged s r
+long-right s r e h = refused-right s r TooLong 10 e (rw (lt-leb (length s) 16384 h)) refl (untold 11 (λ e. omega arith) (λ e. omega arith) (λ e. omega arith) s)
+
+pub form-right : (s : List ℕ) (r : Checked) → r ≡ record { answer = Malformed; book = empty } → length s ≤ 16384 → parse s ≡ none → Judged s r
+form-right s r e h p = refused-right s r Malformed 11 e (rw (le-leb (length s) 16384 h, p)) refl (untold 12 (λ e. omega arith) (λ e. omega arith) (λ e. omega arith) s)
 
 -- What the passes found of a book that keeps the form.
 pub record Found (s : List ℕ) (o : Opening) (m : Moves) (e : Entries) : Type 0 where
@@ -63,11 +67,11 @@ pub record Found (s : List ℕ) (o : Opening) (m : Moves) (e : Entries) : Type 0
   pub entry-list : List Entry
   pub parsed : parse s ≡ some (record { players = o .players; fee = o .fee; moves = move-list; entries = entry-list })
   pub moves-judged : Verdict 4 (moves [] move-list) (m .bad)
-  pub ticks : m .bad ≡ 0 → m .ticks ≡ table (λ m. m .ticks + 1) move-list
-  pub costs : m .bad ≡ 0 → m .costs ≡ table (λ m. m .cost) move-list
+  pub ticks : m .ticks ≡ table (λ m. m .ticks + 1) (kept [] move-list)
+  pub costs : m .costs ≡ table (λ m. m .cost) (kept [] move-list)
   pub count : e .count ≡ length entry-list
   pub entries-judged : Verdict (4 + length move-list) (entries entry-list) (e .bad)
-  pub columns : length entry-list ≤ 28 → e .columns ≡ columnsOf (length s) entry-list
+  pub columns : e .columns ≡ columnsOf (length s) (take 28 entry-list)
   pub placed : (n : ℕ) → n < length entry-list → Placed s (getD entry-list n nobody)
 
 held-filled : (o : Opening) (m : Moves) (e : Entries) (total : ℕ) (ms : List Move) (es : List Entry)
@@ -80,9 +84,6 @@ held-filled o m e total ms es p q r c =
     let c4 = ap (λ (x : Columns). x .names) c in
     let c5 = ap (λ (x : Columns). x .lengths) c in
     cc
-
-some-same : {a b : Book} → some a ≡ some b → a ≡ b
-some-same e = cc
 
 module _ (s : List ℕ) (o : Opening) (m : Moves) (e : Entries) (f : Found s o m e) where
   abbrev B : Book
@@ -97,7 +98,7 @@ module _ (s : List ℕ) (o : Opening) (m : Moves) (e : Entries) (f : Found s o m
 
   record Outcome (a : Answer) : Type 0 where
     question : questionOf a ≡ askBook B
-    told : Told B a
+    told : ToldOf B (questionOf a) (lineOf a)
     passed : questionOf a ≡ 0 → (m .bad ≡ 0) × (length (f .entry-list) ≤ 28)
 
   outcome : Outcome A
@@ -106,33 +107,37 @@ module _ (s : List ℕ) (o : Opening) (m : Moves) (e : Entries) (f : Found s o m
       by-count : (x : Bool) → leb (e .count) 28 ≡ x → headerBad o ≡ 0 → m .bad ≡ 0 → e .bad ≡ 0 → Outcome (cond x Accepted TooMany)
       by-count true q h1 h2 h3 =
           let l = rw (f .count) at q in
-          record { question = sym (rw (header-judged .passed h1, f .moves-judged .passed h2, f .entries-judged .passed h3, l)); told = tt; passed = λ _. (h2, leb-true _ _ l) }
+          record { question = sym (rw (header-judged .passed h1, f .moves-judged .passed h2, f .entries-judged .passed h3, l)); told = none-told 0 (λ e. omega arith) (λ e. omega arith) (λ e. omega arith) (some B); passed = λ _. (h2, leb-true _ _ l) }
       by-count false q h1 h2 h3 =
           let l = rw (f .count) at q in
-          record { question = sym (rw (header-judged .passed h1, f .moves-judged .passed h2, f .entries-judged .passed h3, l)); told = tt; passed = λ z. absurd (omega arith) }
+          record { question = sym (rw (header-judged .passed h1, f .moves-judged .passed h2, f .entries-judged .passed h3, l)); told = none-told 16 (λ e. omega arith) (λ e. omega arith) (λ e. omega arith) (some B); passed = λ z. absurd (omega arith) }
 
       by-entries : (x : Bool) → eqb (e .bad) 0 ≡ x → headerBad o ≡ 0 → m .bad ≡ 0 → Outcome (cond x (cond (leb (e .count) 28) Accepted TooMany) (BadEntry (e .bad)))
       by-entries true q h1 h2 = by-count (leb (e .count) 28) refl h1 h2 (eqb-true (e .bad) 0 q)
       by-entries false q h1 h2 =
           let t = f .entries-judged .failed (eqb-false (e .bad) 0 q) in
-          record { question = sym (rw (header-judged .passed h1, f .moves-judged .passed h2, not-all (entries (f .entry-list)) (t .0) (t .2))); told = t; passed = λ z. absurd (omega arith) }
+          record { question = sym (rw (header-judged .passed h1, f .moves-judged .passed h2, not-all (entries (f .entry-list)) (t .0) (t .2))); told = told-entry B _ t; passed = λ z. absurd (omega arith) }
 
       by-moves : (x : Bool) → eqb (m .bad) 0 ≡ x → headerBad o ≡ 0
           → Outcome (cond x (cond (eqb (e .bad) 0) (cond (leb (e .count) 28) Accepted TooMany) (BadEntry (e .bad))) (BadMove (m .bad)))
       by-moves true q h1 = by-entries (eqb (e .bad) 0) refl h1 (eqb-true (m .bad) 0 q)
       by-moves false q h1 =
           let t = f .moves-judged .failed (eqb-false (m .bad) 0 q) in
-          record { question = sym (rw (header-judged .passed h1, not-all (moves [] (f .move-list)) (t .0) (t .2))); told = t; passed = λ z. absurd (omega arith) }
+          record { question = sym (rw (header-judged .passed h1, not-all (moves [] (f .move-list)) (t .0) (t .2))); told = told-move B _ t; passed = λ z. absurd (omega arith) }
 
       by-header : (x : Bool) → eqb (headerBad o) 0 ≡ x
           → Outcome (cond x (cond (eqb (m .bad) 0) (cond (eqb (e .bad) 0) (cond (leb (e .count) 28) Accepted TooMany) (BadEntry (e .bad))) (BadMove (m .bad))) (BadHeader (headerBad o)))
       by-header true q = by-moves (eqb (m .bad) 0) refl (eqb-true (headerBad o) 0 q)
       by-header false q =
           let t = header-judged .failed (eqb-false (headerBad o) 0 q) in
-          record { question = sym (rw (not-all (header B) (t .0) (t .2))); told = t; passed = λ z. absurd (omega arith) }
+          record { question = sym (rw (not-all (header B) (t .0) (t .2))); told = told-header B _ t; passed = λ z. absurd (omega arith) }
 
   fills : questionOf A ≡ 0 → heldOf o m e ≡ filled (length s) B
-  fills q = let p = outcome .passed q in held-filled o m e (length s) (f .move-list) (f .entry-list) (f .ticks (p .0)) (f .costs (p .0)) (f .count) (f .columns (p .1))
+  fills q =
+      let p = outcome .passed q in
+      let taken = kept-all (f .move-list) (f .moves-judged .passed (p .0)) in
+      held-filled o m e (length s) (f .move-list) (f .entry-list) (f .ticks ∙ ap (table (λ m. m .ticks + 1)) taken) (f .costs ∙ ap (table (λ m. m .cost)) taken) (f .count)
+      (f .columns ∙ ap (columnsOf (length s)) (take-all 28 (f .entry-list) (p .1)))
 
   book-is : (q : ℕ) → questionOf A ≡ q → cond (eqb q 0) (heldOf o m e) empty ≡ unlessRefused q (length s) (some B)
   book-is zero h = fills h
@@ -151,7 +156,7 @@ module _ (s : List ℕ) (o : Opening) (m : Moves) (e : Entries) (f : Found s o m
   judged-right h =
       record {
         question = sym same;
-        line = λ b p. subst (λ (x : Book). Told x A) (some-same (sym (f .parsed) ∙ p)) (outcome .told);
+        line = rw (f .parsed) (outcome .told);
         book = is;
         lies = rw (f .parsed) (lies-in (questionOf A) refl _ (book-is (questionOf A) refl));
       }

@@ -1,5 +1,7 @@
--- Document 01's example book and others, as bytes: what `ways` prints.
+-- Document 01's example book and others, as bytes: what `ways` prints, and the codes of the call.
 use mathlib.Core.Path.{_≡_, refl}
+use mathlib.Core.List.{List, [], _∷_, map}
+use Prim.Native.Nat.{ℕ}
 use Rattle.text.specs.Reader.{after, _>>=_, _>>_, give, guard, remaining, bytes, begins, text, front, run, valueFrom, number, word, row, more, upTo, many}
 use Rattle.lines.specs.Lines.{move, entry}
 use Rattle.lines.specs.Questions as lines
@@ -7,7 +9,18 @@ use Rattle.book.specs.Book.{opening, book, whole, parse}
 use Rattle.book.proofs.Example.{sample}
 use Rattle.allocation.specs.FullWays.{wayList, fullWays}
 use Rattle.listing.specs.Lines.{digits, decimal, spaced, costLine, wayLine, endLine, moreLine, noneLine, refusedLine}
-use Rattle.book_listing.specs.Listing.{listing}
+use Rattle.book_listing.specs.Listing.{listing, listingCode}
+
+-- one player, and the snare ends at 97
+abbrev late : List ℕ
+late = bytes "(book\n(players 1)\n(fee 6)\n(move 1 2 24 3)\n(move 2 1 24 3)\n(entry (name snare) 1 0 97)\n(entry (name xylo) 2 120 200)\n(entry (name snare2) 1 240 300)\n)\n"
+
+-- no players; nothing closes the book
+abbrev nobody : List ℕ
+nobody = bytes "(book\n(players 0)\n(fee 6)\n)\n"
+
+abbrev unclosed : List ℕ
+unclosed = bytes "(book\n(players 1)\n(fee 6)\n"
 
 -- "prints"
 prints : listing sample ≡ bytes "(cost 12)\n(way 0 0 1)\n(way 0 1 2)\n(end 2)\n"
@@ -15,7 +28,7 @@ unfolding wayList fullWays bytes after _>>=_ _>>_ give guard remaining begins te
 prints = refl
 
 -- "With one player and snare ending at 97: none."
-prints-none : listing (bytes "(book\n(players 1)\n(fee 6)\n(move 1 2 24 3)\n(move 2 1 24 3)\n(entry (name snare) 1 0 97)\n(entry (name xylo) 2 120 200)\n(entry (name snare2) 1 240 300)\n)\n") ≡ bytes "(none)\n"
+prints-none : listing late ≡ bytes "(none)\n"
 unfolding wayList fullWays bytes after _>>=_ _>>_ give guard remaining begins text front run valueFrom number word row more upTo many move entry opening book whole parse lines.moves lines.all digits decimal spaced costLine wayLine endLine moreLine noneLine refusedLine
 prints-none = refl
 
@@ -24,11 +37,14 @@ no-entries : listing (bytes "(book\n(players 1)\n(fee 6)\n)\n") ≡ bytes "(cost
 unfolding wayList fullWays bytes after _>>=_ _>>_ give guard remaining begins text front run valueFrom number word row more upTo many move entry opening book whole parse lines.moves lines.all digits decimal spaced costLine wayLine endLine moreLine noneLine refusedLine
 no-entries = refl
 
--- no players; nothing closes the book
-prints-refusals : listing (bytes "(book\n(players 0)\n(fee 6)\n)\n") ≡ bytes "(refused 13)\n"
+prints-refusals : listing nobody ≡ bytes "(refused 13)\n"
 unfolding wayList fullWays bytes after _>>=_ _>>_ give guard remaining begins text front run valueFrom number word row more upTo many move entry opening book whole parse lines.moves lines.all digits decimal spaced costLine wayLine endLine moreLine noneLine refusedLine
 prints-refusals = refl
 
-prints-malformed : listing (bytes "(book\n(players 1)\n(fee 6)\n") ≡ bytes "(refused 12)\n"
+prints-malformed : listing unclosed ≡ bytes "(refused 12)\n"
 unfolding wayList fullWays bytes after _>>=_ _>>_ give guard remaining begins text front run valueFrom number word row more upTo many move entry opening book whole parse lines.moves lines.all digits decimal spaced costLine wayLine endLine moreLine noneLine refusedLine
 prints-malformed = refl
+
+codes : map listingCode (sample ∷ late ∷ nobody ∷ unclosed ∷ []) ≡ 0 ∷ 100 ∷ 13 ∷ 12 ∷ []
+unfolding wayList fullWays bytes after _>>=_ _>>_ give guard remaining begins text front run valueFrom number word row more upTo many move entry opening book whole parse lines.moves lines.all
+codes = refl

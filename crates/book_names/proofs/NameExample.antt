@@ -1,4 +1,4 @@
--- The names in the book of 01's listing, by the definitions alone. Assumes nothing.
+-- The names in the book of 01's listing, by the definitions alone.
 use mathlib.Core.Path.{_≡_, refl}
 use Rattle.text.specs.Reader.{after, _>>=_, _>>_, give, guard, remaining, bytes, begins, text, front, run, valueFrom, number, word, row, more, upTo, many}
 use Rattle.lines.specs.Lines.{move, entry}

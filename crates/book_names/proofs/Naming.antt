@@ -1,4 +1,4 @@
--- Which names are refused, and by which question. Assumes nothing.
+-- Which names are refused, and by which question.
 use Prim.Native.Nat.{ℕ, zero, suc, _≤_}
 use mathlib.Core.Path.{_≡_, refl, sym, ap, _∙_}
 use mathlib.Core.Bool.{Bool, true, false, _&&_}

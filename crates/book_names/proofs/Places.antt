@@ -1,4 +1,4 @@
--- Where the name of an entry lies. Assumes nothing.
+-- Where the name of an entry lies.
 use Prim.Native.Nat.{ℕ, zero, suc, _-_, _≤_, _<_}
 use mathlib.Core.Path.{_≡_, refl, sym, ap, _∙_}
 use mathlib.Core.Bool.{true, false, _&&_}
@@ -16,9 +16,9 @@ use Rattle.book.specs.Questions.{refusal}
 use Rattle.book.specs.Checked.{unlessRefused, checkedBook, entriesOf}
 use Rattle.book_check.specs.Judged.{Lies, Judged}
 use Rattle.book.proofs.Judging.{column-at}
-use Rattle.book.proofs.Accepted.{accepted}
+use Rattle.book.proofs.WithinLimits.{within-limits}
 use Rattle.book_names.specs.Name.{unlessRefused as nameUnless}
-use Rattle.book_names.specs.BookNames.{Names}
+use Rattle.book_names.specs.BookNames.{BookName}
 use Rattle.book_names.proofs.Naming.{from-one, not-refused, refused}
 
 count-few : (s : List ℕ) → checkedBook s .count ≤ 28
@@ -26,7 +26,7 @@ count-few s = go (refusal s) refl (parse s) refl
   where
     go : (q : ℕ) → refusal s ≡ q → (o : Option Book) → parse s ≡ o → unlessRefused q (length s) o .count ≤ 28
     go zero e none p = omega arith
-    go zero e (some b) p = accepted s b e p .few
+    go zero e (some b) p = within-limits s b e p .few
     go (suc q) e o p = omega arith
 
 -- q is the refusal of the book, o what it holds
@@ -42,7 +42,7 @@ no-name (suc q) name z = refl
 
 -- by what the check of the book gave
 module _ (s : List ℕ) (j : ℕ) (r : Checked) (c : Judged s r) where
-  pub nowhere : (leb 1 j && leb j (r .book .count)) ≡ false → Names s j (record { start = 0; length = 0 })
+  pub nowhere : (leb 1 j && leb j (r .book .count)) ≡ false → BookName s j (record { start = 0; length = 0 })
   nowhere e =
       let z = refused s j r c e in
       record { within = omega arith; given = record { is = no-name _ _ z; some = λ y. absurd (z y) }; here = λ y. absurd (z y); zero = λ _. refl }
@@ -57,7 +57,7 @@ module _ (s : List ℕ) (j : ℕ) (r : Checked) (c : Judged s r) where
     lies : Lies s (getD (r .book .names) (j - 1) 0) (getD (r .book .lengths) (j - 1) 0) (getD (entriesOf (parse s)) (j - 1) nobody .name)
     lies = c .lies (j - 1) (let h = from-one j (r .book .count) e in omega arith)
 
-    pub somewhere : Names s j (record { start = getD (r .book .names) (j - 1) 0; length = getD (r .book .lengths) (j - 1) 0 })
+    pub somewhere : BookName s j (record { start = getD (r .book .names) (j - 1) 0; length = getD (r .book .lengths) (j - 1) 0 })
     somewhere =
         let z = not-refused s j r c e in
         let l = lies in

@@ -18,8 +18,12 @@ abbrev pub placeOf : List ℕ → ℕ → ℕ
 placeOf s j = length s - getD (entriesOf (parse s)) (j - 1) nobody .left
 
 -- the span of the name of entry j, at the place where it was read; all zeros if it is refused
-pub record Names (s : List ℕ) (j : ℕ) (r : Span) : Type 0 where
+pub record BookName (s : List ℕ) (j : ℕ) (r : Span) : Type 0 where
   pub within : r .start + r .length ≤ length s
   pub given : Given s j (part s r)
   pub here : nameRefusal s j ≡ 0 → r .start ≡ placeOf s j
   pub zero : ¬ (nameRefusal s j ≡ 0) → r ≡ record { start = 0; length = 0 }
+
+-- "a second call on the same book and entry gives the number of the refusal, or 0"
+abbrev pub BookNameRefusal : List ℕ → ℕ → ℕ → Type 0
+BookNameRefusal s j r = r ≡ nameRefusal s j

@@ -1,7 +1,6 @@
 // The names of a book's entries: where one lies, the name, and the question that refuses it.
-ghost use mathlib.Core.Path.{_≡_};
-ghost use Rattle.book_names.specs.Name.{Given, nameRefusal};
-ghost use Rattle.book_names.specs.BookNames.{Names};
+ghost use Rattle.book_names.specs.Name.{Given};
+ghost use Rattle.book_names.specs.BookNames.{BookName, BookNameRefusal};
 
 // A part of a book.
 #[repr(C)]
@@ -12,7 +11,7 @@ pub struct Span {
 
 // Where the name of an entry lies in the book. Questions 11 to 16 and 19.
 pub fn place(book: &[u8], entry: u32) -> Span
-    ensures { λ r. ⌜ Names (now (book .entry)) entry r ⌝ }
+    ensures { λ r. ⌜ BookName (now (book .entry)) entry r ⌝ }
 {
     let checked = book_check::check(book);
     let b = checked.book;
@@ -41,7 +40,7 @@ pub fn name(book: &[u8], entry: u32) -> &[u8]
 
 // The number of the question that refuses that name, 0 if none.
 pub fn name_refusal(book: &[u8], entry: u32) -> u32
-    ensures { λ r. ⌜ r ≡ nameRefusal (now (book .entry)) entry ⌝ }
+    ensures { λ r. ⌜ BookNameRefusal (now (book .entry)) entry r ⌝ }
 {
     let checked = book_check::check(book);
     let answer = checked.answer;

@@ -15,7 +15,7 @@ use Rattle.book.specs.Book.{Book, parse}
 use Rattle.book.specs.Questions.{refusal}
 use Rattle.book.specs.Checked.{checkedBook}
 use Rattle.book.specs.declared.CheckedBook.{CheckedBook}
-use Rattle.book.proofs.Accepted.{accepted}
+use Rattle.book.proofs.WithinLimits.{within-limits}
 use Rattle.allocation.specs.BookNet.{bookNet}
 use Rattle.allocation.proofs.Arcs.{well-formed}
 use Rattle.allocation.proofs.Accepted.{accepted-net}
@@ -31,11 +31,11 @@ held s e = go (parse s) refl
 
     go : (o : Option Book) → parse s ≡ o → (b : Book) × (parse s ≡ some b) × Holds b (checkedBook s)
     go none q = absurd (no-form (leb (length s) 16384) (rw q at e))
-    go (some b) q = (b, q, record { accepted = accepted s b e q; total = length s; is = rw (e, q) })
+    go (some b) q = (b, q, record { limits = within-limits s b e q; total = length s; is = rw (e, q) })
 
 module _ (b : Book) (s : CheckedBook) (h : Holds b s) (r : Network) (m : MakesNet s r) where
   pub made-net : netIn r ≡ bookNet b
   made-net = ap netIn (m .each b h) ∙ struct-of (bookNet b) (well-formed b)
 
   pub made-sound : Sound r
-  made-sound = subst Sound (sym (m .each b h)) (struct-sound (bookNet b) (accepted-net b (h .accepted)))
+  made-sound = subst Sound (sym (m .each b h)) (struct-sound (bookNet b) (accepted-net b (h .limits)))

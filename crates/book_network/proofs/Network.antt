@@ -32,7 +32,7 @@ blank-long A q = rw q (record { tails-long = refl; heads-long = refl; costs-long
 
 module _ (fee e : ℕ) (ticks costs instruments starts finishes : List ℕ) where
   few-arcs : (b : Book) → Tables b fee e ticks costs instruments starts finishes → length (bookArcs b) ≤ 463
-  few-arcs b T = omega (arith, arcs-few b (T .accepted), count-arcs b)
+  few-arcs b T = omega (arith, arcs-few b (T .limits), count-arcs b)
 
   -- the joins of the entries before j are put
   pub record Outer (A : Arrays) (m j : ℕ) : Type 0 where
@@ -89,7 +89,7 @@ module _ (fee e : ℕ) (ticks costs instruments starts finishes : List ℕ) wher
   }
 
 pub few-of : (fee e : ℕ) (ticks costs instruments starts finishes : List ℕ) → HasTables fee e ticks costs instruments starts finishes → e ≤ 28
-few-of fee e ticks costs instruments starts finishes h = omega (arith, h .tables .entries-are, h .tables .accepted .few)
+few-of fee e ticks costs instruments starts finishes h = omega (arith, h .tables .entries-are, h .tables .limits .few)
 
 -- the struct
 same : {n n′ m m′ : ℕ} {b b′ c c′ : List ℤ} {t t′ d d′ l l′ u u′ : List ℕ} → n ≡ n′ → m ≡ m′ → b ≡ b′ → t ≡ t′ → d ≡ d′ → l ≡ l′ → u ≡ u′ → c ≡ c′
@@ -99,7 +99,7 @@ same p q r s v w x y = cc
 
 tables-of : (b : Book) (s : CheckedBook) → Holds b s → Tables b (s .fee) (s .count) (s .ticks) (s .costs) (s .instruments) (s .starts) (s .finishes)
 tables-of b s h = record {
-  accepted = h .accepted;
+  limits = h .limits;
   fee-is = ap (λ (x : CheckedBook). x .fee) (h .is);
   entries-are = ap (λ (x : CheckedBook). x .count) (h .is);
   ticks-are = ap (λ (x : CheckedBook). x .ticks) (h .is);
@@ -130,7 +130,7 @@ module _ (s : CheckedBook) (h : Held s) where
   few-entries = few-of (s .fee) (s .count) (s .ticks) (s .costs) (s .instruments) (s .starts) (s .finishes) has-tables
 
   pub few-players : s .players ≤ 8
-  few-players = omega (arith, players-of (h .book) s (h .holds), h .holds .accepted .players-high)
+  few-players = omega (arith, players-of (h .book) s (h .holds), h .holds .limits .players-high)
 
 -- the struct of the arrays is that of the network of each book that s holds
 module _ (s : CheckedBook) (A : Arrays) (m : ℕ) (a : AddsAll (s .fee) (s .count) (s .ticks) (s .costs) (s .instruments) (s .starts) (s .finishes) A m) where

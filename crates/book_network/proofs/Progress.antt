@@ -45,7 +45,7 @@ progress-put l A m a rest few p =
 
 pub cost-small : {fee e : ℕ} {ticks costs instruments starts finishes : List ℕ} (i j : ℕ) (o : Join) → HasTables fee e ticks costs instruments starts finishes
     → Joins fee e ticks costs instruments starts finishes i j o → costIn o ≤ 1000000
-cost-small i j o h w = rw (w .each (h .book) (h .tables)) (go (offer (h .book) i j) (price-small (h .book) (h .tables .accepted) i j))
+cost-small i j o h w = rw (w .each (h .book) (h .tables)) (go (offer (h .book) i j) (price-small (h .book) (h .tables .limits) i j))
   where
     go : (x : Option ℕ) → orNone x ≤ 1000000 → costIn (joinOf x) ≤ 1000000
     go none k = k

@@ -4,10 +4,10 @@ use Prim.Native.Nat.{ℕ}
 use Rattle.book.specs.Book.{Book}
 use Rattle.book.specs.declared.CheckedBook.{CheckedBook}
 use Rattle.book.specs.Checked.{filled}
-use Rattle.book.proofs.Accepted.{Accepted}
+use Rattle.book.specs.WithinLimits.{WithinLimits}
 
 pub record Holds (b : Book) (s : CheckedBook) : Type 0 where
-  pub accepted : Accepted b
+  pub limits : WithinLimits b
   pub total : ℕ
   pub is : s ≡ filled total b
 

@@ -20,7 +20,7 @@ struct NetworkArc {
     cost: i32,
 }
 
-// The arc with these numbers.
+// The arc with these numbers; 57 is the last node of a book of 28 entries.
 fn arc_of(tail: usize, head: usize, cost: u32) -> NetworkArc
     requires { ⌜ (tail ≤ 57) × (head ≤ 57) × (cost ≤ 1000000) ⌝ }
     ensures { λ r. ⌜ r ≡ arcWith tail head cost ⌝ }
@@ -66,7 +66,7 @@ fn put_join(
     }
 }
 
-// The joins of entry j, highest predecessor first, and its opening arc, put from m on.
+// The joins of entry j, highest predecessor first, and its opening arc, put from m on; a book has at most 463 arcs.
 fn put_joins<'a>(
     fee: u32,
     e: usize,

@@ -6,14 +6,15 @@ use mathlib.Core.Logic.{inl, inr, _↔_}
 use mathlib.Core.Option.{none, some}
 use Prim.Native.Nat.{ℕ, suc, _*_, _<_}
 use native.Mathlib.Omega.{arith}
-use lib.ListN.{length, getD, getElem?}
+use lib.ListN.{length, getD, getElem?, take, drop}
+use lib.Seq.{take-at}
 use Rattle.laws.specs.Members.{_∈_, Every, first?, every-member, at-member, none-some}
 use Rattle.laws.specs.Tests.{test, or-left, or-right}
 use Rattle.laws.specs.Equality.{same-list}
 use Rattle.laws.specs.Lexicographic.{_<lex_, lex-irrefl, lex-trans}
 use Rattle.laws.specs.Ascending.{Ascending, ascending-apart}
 use Rattle.laws.specs.After.{after, after-same, Apart}
-use Rattle.bytes32.specs.Words.{words, encodeWords}
+use Rattle.bytes32.specs.Words.{words, encodeWords, over}
 use Rattle.bytes32.proofs.Words.{words-encode, encode-words, length-encode}
 use Rattle.calls.specs.ByteLists.{listed}
 
@@ -102,3 +103,7 @@ module _ (k : ℕ) (L : List (List ℕ)) (full : FullOf k L) where
         go : (t : Bool) → listed g L ≡ t → listed g L ≡ false
         go true e = absurd (n (listed-line e .0))
         go false e = e
+
+-- the first bytes of a list that a line was written to are the line's
+pub copy-written : (k : ℕ) (v out : List ℕ) → length v ≡ k → take (4 * k) (over (encodeWords v) out) ≡ encodeWords v
+copy-written k v out e = take-at (encodeWords v) (drop (length (encodeWords v)) out) (4 * k) (omega (arith, length-encode v))

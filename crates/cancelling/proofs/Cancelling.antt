@@ -1,5 +1,5 @@
 -- Cancelling a negative cycle: how much can go along it, that the flow costs less after, and why this ends.
-use mathlib.Core.Path.{_≡_, refl, sym, ap, subst, _∙_}
+use mathlib.Core.Path.{_≡_, refl, sym, subst, _∙_}
 use mathlib.Core.Logic.{_≢_}
 use mathlib.Core.Bool.{Bool, true, false}
 use mathlib.Core.List.{List, [], _∷_}
@@ -12,18 +12,19 @@ use Rattle.laws.specs.Ascending.{Distinct, distinct-of}
 use Rattle.laws.specs.Divergence.{at}
 use Rattle.laws.specs.Integers.{*-nonneg, plus-lt}
 use Rattle.laws.specs.Linear.{lin, ring, given, given3}
-use Rattle.laws.specs.Members.{Every, every-map2}
+use Rattle.laws.specs.Members.{Every}
 use Rattle.laws.specs.Parts.{plus}
 use Rattle.laws.specs.Range.{Bounded, bounded-mul, bounded-more, fits}
 use Rattle.laws.specs.Sum.{sum-within}
 use Rattle.network.specs.Network.{Net, arcs, up, cost, on, netOut, costOf}
-use Rattle.network.specs.Residual.{codes, src, dst, stepCost, Walk, walkCost}
-use Rattle.certificates.specs.Push.{pushAll, Fits, roomOf, InBounds, room-fits, Trail, trailCost, all-bounds, all-netOut, all-cost}
-use Rattle.certificates.specs.Graph.{graph}
+use Rattle.network.specs.Residual.{codes, src, dst, Walk, walkCost}
+use Rattle.certificates.specs.Room.{roomy, roomOf}
+use Rattle.certificates.specs.Push.{pushAll, all-roomy, InBounds, Trail, all-bounds, all-netOut, all-cost}
+use Rattle.certificates.specs.Graph.{graph, costGraph}
 use Rattle.certificates.specs.Ready.{SmallBounds}
 use Rattle.pushing.specs.Pushing.{roomAll, Pushable}
 use Rattle.pushing.proofs.LeastRoom.{room-each, room-pos, way-codes, usable-room}
-use Rattle.relaxation.specs.Labels.{costGraph, Relaxable}
+use Rattle.relaxation.specs.Labels.{Relaxable}
 use Rattle.search.specs.Search.{QuietLabels, NegativeCycle, Searched, found, none}
 use Rattle.cancelling.specs.Cancelling.{Rerouted, Cancels}
 
@@ -31,10 +32,6 @@ use Rattle.cancelling.specs.Cancelling.{Rerouted, Cancels}
 walk-trail : (N : Net) (f : List ℕ) (u v : ℕ) (cs : List ℕ) → Walk N f u v cs → Trail N u v cs
 walk-trail N f u v [] w = w
 walk-trail N f u v (c ∷ cs) w = (w .0, w .2, walk-trail N f u (src N c) cs (w .3))
-
-walk-cost : (N : Net) (cs : List ℕ) → walkCost N cs ≡ trailCost N cs
-walk-cost N [] = refl
-walk-cost N (c ∷ cs) = ap (λ z. stepCost N c +ℤ z) (walk-cost N cs)
 
 walk-room : (N : Net) (f : List ℕ) (u v : ℕ) (cs : List ℕ) → Walk N f u v cs → Every (λ c. 0 < roomOf N f c) cs
 walk-room N f u v [] w = tt
@@ -52,15 +49,13 @@ module _ (N : Net) (f : List ℕ) (b : InBounds N f) (δ : ℕ) (cs : List ℕ) 
   differ : Distinct cs
   differ = distinct-of (dst N) cs (C .cycle .simple)
 
-  all-fit : Every (Fits N d f) cs
-  all-fit =
-      every-map2 (λ c. c < codes N) (λ c. d ≤ roomOf N f c) (Fits N d f) cs (λ c l h. room-fits N f d c b l h)
-      (way-codes (codes N) (src N) (dst N) (C .cycle .node) (C .cycle .node) cs trail) room
+  all-room : Every (λ c. roomy N f d c ≡ true) cs
+  all-room = all-roomy N f d cs b (way-codes (codes N) (src N) (dst N) (C .cycle .node) (C .cycle .node) cs trail) room
 
   pushed : Rerouted N f (pushAll d cs f)
   pushed = record {
-    bounds = all-bounds N d cs f (C .cycle .node) (C .cycle .node) b trail differ all-fit;
-    same = λ v. still (netOut N (pushAll d cs f) v) (netOut N f v) (at (C .cycle .node) v (pos d)) (all-netOut N d cs f (C .cycle .node) (C .cycle .node) v b trail differ all-fit);
+    bounds = all-bounds N d cs f (C .cycle .node) (C .cycle .node) b trail differ all-room;
+    same = λ v. still (netOut N (pushAll d cs f) v) (netOut N f v) (at (C .cycle .node) v (pos d)) (all-netOut N d cs f (C .cycle .node) (C .cycle .node) v b trail differ all-room);
   }
     where
       still : (x y z : ℤ) → x ≡ y +ℤ (z -ℤ z) → x ≡ y
@@ -68,25 +63,24 @@ module _ (N : Net) (f : List ℕ) (b : InBounds N f) (δ : ℕ) (cs : List ℕ) 
 
   cheaper : 0 < d → costOf N (pushAll d cs f) <ℤ costOf N f
   cheaper p =
-      less (costOf N (pushAll d cs f)) (costOf N f) (trailCost N cs) (pos d) (all-cost N d cs f (C .cycle .node) (C .cycle .node) b trail differ all-fit)
-      (subst (λ z. z <ℤ pos 0) (walk-cost N cs) (C .negative)) (simp lin (omega arith))
+      less (costOf N (pushAll d cs f)) (costOf N f) (walkCost N cs) (pos d) (all-cost N d cs f (C .cycle .node) (C .cycle .node) b trail differ all-room) (C .negative) (simp lin (omega arith))
 
 -- ---- what the search found
-pub labels-of : (N : Net) (f : List ℕ) (δ : ℕ) (d : List ℤ) (out : List ℕ) (r : ℕ) → Searched N f δ d out r → r ≡ 0 → QuietLabels N f δ d
-labels-of N f δ d out r (none _ q) e = q
-labels-of N f δ d out r (found _ C) e = absurd (let h : 0 < length (take 0 out) = subst (λ (k : ℕ). 0 < length (take k out)) e (C .cycle .some) in omega arith)
+pub labels-of : (N : Net) (f : List ℕ) (δ : ℕ) (d : List ℤ) (out out′ : List ℕ) (r : ℕ) → Searched N f δ d out out′ r → r ≡ 0 → QuietLabels N f δ d
+labels-of N f δ d out out′ r (none _ _ q _) e = q
+labels-of N f δ d out out′ r (found _ C _) e = absurd (let h : 0 < length (take 0 out′) = subst (λ (k : ℕ). 0 < length (take k out′)) e (C .cycle .some) in omega arith)
 
-pub cycle-of : (N : Net) (f : List ℕ) (δ : ℕ) (d : List ℤ) (out : List ℕ) (r : ℕ) → Searched N f δ d out r → r ≢ 0 → (r ≤ 64) × NegativeCycle N f δ (take r out)
-cycle-of N f δ d out r (none e _) ne = absurd (ne e)
-cycle-of N f δ d out r (found h C) ne = (h, C)
+pub cycle-of : (N : Net) (f : List ℕ) (δ : ℕ) (d : List ℤ) (out out′ : List ℕ) (r : ℕ) → Searched N f δ d out out′ r → r ≢ 0 → (r ≤ 64) × NegativeCycle N f δ (take r out′)
+cycle-of N f δ d out out′ r (none e _ _ _) ne = absurd (ne e)
+cycle-of N f δ d out out′ r (found h C _) ne = (h, C)
 
 -- ---- the same of the lists that the code holds
 module _ (t h l u : List ℕ) (k : List ℤ) (f : List ℕ) (ok : Relaxable (costGraph t h l u k) f) where
   pub small-of : SmallBounds (graph t t l u)
-  small-of = record { few = ok .graph .few; lows-len = ok .lows-len; ups-len = ok .ups-len; ups-small = ok .up-small }
+  small-of = let z = ok .small in record { few = z .few; lows-len = z .lows-len; ups-len = z .ups-len; ups-small = z .ups-small }
 
   pub bounds-of : InBounds (graph t t l u) f
-  bounds-of = record { all-arcs = ok .flow-len; above = ok .low-flow; below = ok .flow-up }
+  bounds-of = let b = ok .bounds in record { all-arcs = b .all-arcs; above = b .above; below = b .below }
 
   pub codes-of : (δ : ℕ) (cs : List ℕ) → NegativeCycle (costGraph t h l u k) f δ cs → Every (λ c. c < length t + length t) cs
   codes-of δ cs C =
@@ -98,44 +92,32 @@ module _ (t h l u : List ℕ) (k : List ℤ) (f : List ℕ) (ok : Relaxable (cos
     bounds = bounds-of;
     codes-in = codes-of δ cs C;
     distinct = distinct-of (dst (costGraph t h l u k)) cs (C .cycle .simple);
-    fits = every-map2 (λ c. c < length t + length t) (λ c. d ≤ roomOf (graph t t l u) f c) (Fits (graph t t l u) d f) cs (λ c i r. room-fits (graph t t l u) f d c bounds-of i r)
-        (codes-of δ cs C) (rw e (room-each (graph t t l u) f 1000000 cs));
+    room = all-roomy (graph t t l u) f d cs bounds-of (codes-of δ cs C) (rw e (room-each (graph t t l u) f 1000000 cs));
   }
 
   pub cancelled : (δ : ℕ) (cs : List ℕ) → NegativeCycle (costGraph t h l u k) f δ cs → (d : ℕ) → d ≡ roomAll (graph t t l u) f 1000000 cs → (g : List ℕ) → g ≡ pushAll d cs f
       → Rerouted (costGraph t h l u k) f g × (costOf (costGraph t h l u k) g <ℤ costOf (costGraph t h l u k) f)
   cancelled δ cs C d e g q =
-      let b : InBounds (costGraph t h l u k) f = record { all-arcs = ok .flow-len; above = ok .low-flow; below = ok .flow-up } in
       let r : Every (λ c. d ≤ roomOf (costGraph t h l u k) f c) cs = rw e (room-each (graph t t l u) f 1000000 cs) in
       let p : 0 < d = rw e (room-pos (graph t t l u) f 1000000 cs (omega arith) (walk-room (costGraph t h l u k) f (C .cycle .node) (C .cycle .node) cs (C .cycle .closed))) in
-      rw q (pushed (costGraph t h l u k) f b δ cs C d r, cheaper (costGraph t h l u k) f b δ cs C d r p)
+      rw q (pushed (costGraph t h l u k) f (ok .bounds) δ cs C d r, cheaper (costGraph t h l u k) f (ok .bounds) δ cs C d r p)
 
 -- ---- one after another
 pub same-flow : (N : Net) (f : List ℕ) → Relaxable N f → Rerouted N f f
-same-flow N f ok = record { bounds = record { all-arcs = ok .flow-len; above = ok .low-flow; below = ok .flow-up }; same = λ v. refl }
+same-flow N f ok = record { bounds = ok .bounds; same = λ v. refl }
 
 pub further : (N : Net) (f g h : List ℕ) → Rerouted N f g → Rerouted N g h → Rerouted N f h
 further N f g h a b = record { bounds = b .bounds; same = λ v. b .same v ∙ a .same v }
 
 pub relaxable-again : (N : Net) (f g : List ℕ) → Relaxable N f → InBounds N g → Relaxable N g
-relaxable-again N f g ok b = record {
-  graph = ok .graph;
-  lows-len = ok .lows-len;
-  ups-len = ok .ups-len;
-  costs-len = ok .costs-len;
-  flow-len = b .all-arcs;
-  up-small = ok .up-small;
-  low-flow = b .above;
-  flow-up = b .below;
-  cost-small = ok .cost-small;
-}
+relaxable-again N f g ok b = record { graph = ok .graph; small = ok .small; bounds = b; costs-len = ok .costs-len; cost-small = ok .cost-small }
 
 -- ---- the cost is at most 512 · 10¹² either way, so it cannot fall for ever
 cost-small : (N : Net) (f : List ℕ) → Relaxable N f → Bounded 512000000000000 (costOf N f)
 cost-small N f ok =
     bounded-more (omega (arith, ok .graph .few))
     (sum-within (arcs N) 1000000000000 (λ a. cost N a *ℤ on f a)
-    (λ a k. bounded-more (omega arith) (bounded-mul {B = 1000000} (ok .cost-small a k) (record { up = omega (arith, ok .flow-up a k, ok .up-small a k); down = omega arith }))))
+    (λ a k. bounded-more (omega arith) (bounded-mul {B = 1000000} (ok .cost-small a k) (record { up = omega (arith, ok .bounds .below a k, ok .small .ups-small a k); down = omega arith }))))
 
 abbrev pub left : Net → List ℕ → ℕ
 left N f = plus (costOf N f +ℤ pos 512000000000000)

@@ -1,2 +1,3 @@
 pub mod Cancelling
 pub mod Cheapest
+pub mod NegativeCycles

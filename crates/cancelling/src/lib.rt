@@ -2,7 +2,8 @@
 ghost use mathlib.Core.Path.{_≡_};
 ghost use Prim.Native.Nat.{_≤_, _<_};
 ghost use lib.ListN.{length};
-ghost use Rattle.relaxation.specs.Labels.{costGraph, Relaxable};
+ghost use Rattle.certificates.specs.Graph.{costGraph};
+ghost use Rattle.relaxation.specs.Labels.{Relaxable};
 ghost use Rattle.search.specs.Search.{QuietLabels};
 ghost use Rattle.cancelling.specs.Cancelling.{Rerouted, Cancels};
 

@@ -15,7 +15,7 @@ use Rattle.laws.specs.Integers.{*-nonneg, times-same}
 use Rattle.laws.specs.Linear.{lin, ring, given, given2, given3, given4}
 use Rattle.laws.specs.Sum.{sum, sum-cong, sum-mono, sum-none, sum-term}
 use Rattle.network.specs.Network.{Net, nodes, arcs, tail, head, low, up, balance, on, netOut, IsFlow, LeastCost, WellFormed}
-use Rattle.network.specs.Residual.{src, dst, usable}
+use Rattle.network.specs.Residual.{codes, src, dst, usable}
 use Rattle.certificates.specs.Codes.{even-code, odd-code, even-arc, odd-arc}
 use Rattle.certificates.specs.Optimality.{circulation, weighted}
 
@@ -36,7 +36,7 @@ pub record Closed (N : Net) (f : List ℕ) (free : ℕ → Type 0) (S : ℕ → 
   pub back : (a : ℕ) → a < arcs N → free a → S (head N a) ≡ true → low N a < getD f a 0 → S (tail N a) ≡ true
 
 abbrev pub ClosedSteps : Net → List ℕ → (ℕ → Type 0) → (ℕ → Bool) → Type 0
-ClosedSteps N f free S = (c : ℕ) → c < arcs N + arcs N → free (c / 2) → usable N f c ≡ true → S (src N c) ≡ true → S (dst N c) ≡ true
+ClosedSteps N f free S = (c : ℕ) → c < codes N → free (c / 2) → usable N f c ≡ true → S (src N c) ≡ true → S (dst N c) ≡ true
 
 pub closed-steps : (N : Net) (f : List ℕ) (free : ℕ → Type 0) (S : ℕ → Bool) → ClosedSteps N f free S → Closed N f free S
 closed-steps N f free S p = record { out = forth; back = back }
@@ -84,12 +84,12 @@ module _ (N : Net) (ok : WellFormed N) where
       close : (w x y z : ℤ) → w ≡ x → x ≡ y → w ≤ℤ z → z ≡ pos 0 → pos 0 <ℤ y → ⊥
       close w x y z p q r s t = given4 p q r s (given t (simp lin (omega arith)))
 
-  -- the same, with a node s of S that lacks some and none of S that has too much
+  -- the same, with a node s of S that has an excess and none of S that has a deficit
   pub stuck : (f : List ℕ) (S : ℕ → Bool) → Closed N f (λ a. Unit {0}) S → (s : ℕ) → s < nodes N → S s ≡ true → netOut N f s <ℤ balance N s
       → ((v : ℕ) → v < nodes N → S v ≡ true → netOut N f v ≤ℤ balance N v) → (g : List ℕ) → ¬ IsFlow N g
-  stuck f S cl s k in-s lacks none = no-flow f S cl
+  stuck f S cl s k in-s more none = no-flow f S cl
       (given2 (sum-term (nodes N) (λ v. χ (S v) *ℤ (balance N v -ℤ netOut N f v)) (λ v l. each v (S v) (none v l)) s k)
-      (ap (λ b. χ b *ℤ (balance N s -ℤ netOut N f s)) in-s) (λ p q. close (balance N s) (netOut N f s) _ _ q p lacks))
+      (ap (λ b. χ b *ℤ (balance N s -ℤ netOut N f s)) in-s) (λ p q. close (balance N s) (netOut N f s) _ _ q p more))
     where
       each : (v : ℕ) (b : Bool) → (b ≡ true → netOut N f v ≤ℤ balance N v) → pos 0 ≤ℤ (χ b *ℤ (balance N v -ℤ netOut N f v))
       each v true h = *-nonneg {x = pos 1} {y = balance N v -ℤ netOut N f v} (simp lin (omega arith)) (given (h refl) (simp lin (omega arith)))

@@ -1,4 +1,4 @@
--- From a list within the bounds to a flow: what each node lacks, and how pushing lessens it.
+-- From a list within the bounds to a flow: the excess of each node, and how pushing lessens it.
 use mathlib.Core.Path.{_≡_, refl, sym, ap, _∙_}
 use mathlib.Core.Logic.{_⊎_, inl, inr, _≢_}
 use mathlib.Core.List.{List}
@@ -15,13 +15,13 @@ use Rattle.laws.specs.Sum.{sum, sum-cong, sum-none, sum-nonneg, sum-sub, sum-ch
 use Rattle.network.specs.Network.{Net, nodes, arcs, tail, head, balance, on, netOut, IsFlow, WellFormed}
 use Rattle.certificates.specs.Push.{InBounds}
 
--- what node v still has to send
-abbrev pub lack : Net → List ℕ → ℕ → ℤ
-lack N f v = balance N v -ℤ netOut N f v
+-- the excess of node v: its balance, less what goes out of it beyond what comes in; below 0 it is a deficit
+abbrev pub excess : Net → List ℕ → ℕ → ℤ
+excess N f v = balance N v -ℤ netOut N f v
 
--- all that nodes have still to send
-abbrev pub lacks : Net → List ℕ → ℤ
-lacks N f = sum (nodes N) (λ v. pos (plus (lack N f v)))
+-- the sum of the excesses above 0
+abbrev pub totalExcess : Net → List ℕ → ℤ
+totalExcess N f = sum (nodes N) (λ v. pos (plus (excess N f v)))
 
 plus-le-zero : (x : ℤ) → x ≤ℤ pos 0 → plus x ≡ 0
 plus-le-zero x h = go (apart x)
@@ -39,20 +39,20 @@ plus-of x h = go (apart x)
 
 module _ (N : Net) (f g : List ℕ) (s t δ : ℕ)
     (moved : (w : ℕ) → netOut N g w ≡ netOut N f w +ℤ (at s w (pos δ) -ℤ at t w (pos δ)))
-    (s-in : s < nodes N) (some-δ : 0 < δ) (s-lacks : pos δ ≤ℤ lack N f s) (t-has : lack N f t ≤ℤ negℤ (pos δ)) where
+    (s-in : s < nodes N) (some-δ : 0 < δ) (s-excess : pos δ ≤ℤ excess N f s) (t-deficit : excess N f t ≤ℤ negℤ (pos δ)) where
   apart-st : s ≢ t
-  apart-st q = clash (lack N f s) (lack N f t) (pos δ) (ap (lack N f) q) s-lacks t-has (simp lin (omega arith))
+  apart-st q = clash (excess N f s) (excess N f t) (pos δ) (ap (excess N f) q) s-excess t-deficit (simp lin (omega arith))
     where
       clash : (x y d : ℤ) → x ≡ y → d ≤ℤ x → y ≤ℤ negℤ d → pos 0 <ℤ d → ⊥
       clash x y d e p q r = given4 e p q r (simp lin (omega arith))
 
-  other : (i : ℕ) → i < nodes N → i ≢ s → pos (plus (lack N g i)) ≡ pos (plus (lack N f i))
+  other : (i : ℕ) → i < nodes N → i ≢ s → pos (plus (excess N g i)) ≡ pos (plus (excess N f i))
   other i l ne = go (ℕ-discrete i t)
     where
-      go : Dec (i ≡ t) → pos (plus (lack N g i)) ≡ pos (plus (lack N f i))
+      go : Dec (i ≡ t) → pos (plus (excess N g i)) ≡ pos (plus (excess N f i))
       go (yes q) =
-          ap pos (plus-le-zero (lack N g i) (met (balance N i) (netOut N g i) (netOut N f i) (at s i (pos δ)) (at t i (pos δ)) (pos δ) (moved i) (at-other (λ p. ne (sym p)) (pos δ)) (at-same (sym q) (pos δ)) (rw q t-has))
-          ∙ sym (plus-le-zero (lack N f i) (low (lack N f i) (pos δ) (rw q t-has) (simp lin (omega arith)))))
+          ap pos (plus-le-zero (excess N g i) (met (balance N i) (netOut N g i) (netOut N f i) (at s i (pos δ)) (at t i (pos δ)) (pos δ) (moved i) (at-other (λ p. ne (sym p)) (pos δ)) (at-same (sym q) (pos δ)) (rw q t-deficit))
+          ∙ sym (plus-le-zero (excess N f i) (low (excess N f i) (pos δ) (rw q t-deficit) (simp lin (omega arith)))))
         where
           met : (b o′ o x y d : ℤ) → o′ ≡ o +ℤ (x -ℤ y) → x ≡ pos 0 → y ≡ d → (b -ℤ o) ≤ℤ negℤ d → (b -ℤ o′) ≤ℤ pos 0
           met b o′ o x y d p q r h = given4 p q r h (simp lin (omega arith))
@@ -64,8 +64,8 @@ module _ (N : Net) (f g : List ℕ) (s t δ : ℕ)
           still : (o′ o x y : ℤ) → o′ ≡ o +ℤ (x -ℤ y) → x ≡ pos 0 → y ≡ pos 0 → o′ ≡ o
           still o′ o x y p q r = given3 p q r (simp lin (omega arith))
 
-  at-s : pos (plus (lack N g s)) ≡ pos (plus (lack N f s)) -ℤ pos δ
-  at-s = fall (lack N g s) (lack N f s) (pos δ) (less (balance N s) (netOut N g s) (netOut N f s) (at s s (pos δ)) (at t s (pos δ)) (pos δ) (moved s) (at-same refl (pos δ)) (at-other (λ q. apart-st (sym q)) (pos δ))) s-lacks (simp lin (omega arith))
+  at-s : pos (plus (excess N g s)) ≡ pos (plus (excess N f s)) -ℤ pos δ
+  at-s = fall (excess N g s) (excess N f s) (pos δ) (less (balance N s) (netOut N g s) (netOut N f s) (at s s (pos δ)) (at t s (pos δ)) (pos δ) (moved s) (at-same refl (pos δ)) (at-other (λ q. apart-st (sym q)) (pos δ))) s-excess (simp lin (omega arith))
     where
       less : (b o′ o x y d : ℤ) → o′ ≡ o +ℤ (x -ℤ y) → x ≡ d → y ≡ pos 0 → b -ℤ o′ ≡ (b -ℤ o) -ℤ d
       less b o′ o x y d p q r = given3 p q r (simp lin (omega arith))
@@ -73,11 +73,11 @@ module _ (N : Net) (f g : List ℕ) (s t δ : ℕ)
       fall : (x y d : ℤ) → x ≡ y -ℤ d → d ≤ℤ y → pos 0 ≤ℤ d → pos (plus x) ≡ pos (plus y) -ℤ d
       fall x y d e h k = plus-of x (given2 e h (simp lin (omega arith))) ∙ e ∙ ap (λ z. z -ℤ d) (sym (plus-of y (given2 h k (simp lin (omega arith)))))
 
-  pub relieved : plus (lacks N g) < plus (lacks N f)
+  pub relieved : plus (totalExcess N g) < plus (totalExcess N f)
   relieved =
-      plus-lt (sum-nonneg (nodes N) (λ v. pos (plus (lack N g v))) (λ v l. simp lin (omega arith)))
-      (drop (lacks N g) (lacks N f) (pos (plus (lack N g s))) (pos (plus (lack N f s))) (pos δ)
-      (sum-change (nodes N) (λ v. pos (plus (lack N f v))) (λ v. pos (plus (lack N g v))) s s-in other) at-s (simp lin (omega arith)))
+      plus-lt (sum-nonneg (nodes N) (λ v. pos (plus (excess N g v))) (λ v l. simp lin (omega arith)))
+      (drop (totalExcess N g) (totalExcess N f) (pos (plus (excess N g s))) (pos (plus (excess N f s))) (pos δ)
+      (sum-change (nodes N) (λ v. pos (plus (excess N f v))) (λ v. pos (plus (excess N g v))) s s-in other) at-s (simp lin (omega arith)))
     where
       drop : (x y p q d : ℤ) → x ≡ y +ℤ (p -ℤ q) → p ≡ q -ℤ d → pos 0 <ℤ d → x <ℤ y
       drop x y p q d e h k = given3 e h k (simp lin (omega arith))
@@ -92,8 +92,8 @@ module _ (N : Net) (ok : WellFormed N) where
       once : (x : ℤ) → x ≡ pos 1 *ℤ x
       once x = simp lin (omega arith)
 
-  -- nothing lacks, and the balances sum to 0: a flow
-  pub all-met : (f : List ℕ) → InBounds N f → sum (nodes N) (balance N) ≡ pos 0 → ((v : ℕ) → v < nodes N → lack N f v ≤ℤ pos 0) → IsFlow N f
+  -- no node has an excess, and the balances sum to 0: a flow
+  pub all-met : (f : List ℕ) → InBounds N f → sum (nodes N) (balance N) ≡ pos 0 → ((v : ℕ) → v < nodes N → excess N f v ≤ℤ pos 0) → IsFlow N f
   all-met f b z h = record {
     all-arcs = b .all-arcs;
     above = b .above;

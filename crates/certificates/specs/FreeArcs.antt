@@ -7,8 +7,8 @@ use Prim.Native.Nat.{ℕ, _+_, _/_, _≤_, _<_}
 use lib.ListN.{getD}
 use Rattle.laws.specs.Members.{Every}
 use Rattle.laws.specs.Ascending.{Distinct}
-use Rattle.network.specs.Network.{Net, arcs, tail, head, low, up}
-use Rattle.network.specs.Residual.{usable, src, dst}
+use Rattle.network.specs.Network.{Net, tail, head, low, up}
+use Rattle.network.specs.Residual.{codes, usable, src, dst}
 use Rattle.certificates.specs.Push.{Trail}
 
 -- code c can be used and its arc is free
@@ -27,7 +27,7 @@ pub record Blocked (N : Net) (f : List ℕ) (free : List Bool) (s t from : ℕ) 
   pub inside : ℕ → Bool
   pub has : inside s ≡ true
   pub lacks : inside t ≡ false
-  pub shut : (c : ℕ) → from + from ≤ c → c < arcs N + arcs N → goes N f free c ≡ true → inside (src N c) ≡ true → inside (dst N c) ≡ true
+  pub shut : (c : ℕ) → from + from ≤ c → c < codes N → goes N f free c ≡ true → inside (src N c) ≡ true → inside (dst N c) ≡ true
 
 -- codes, the last one first, that lead from s to t over free arcs from `from` on
 pub record Reaches (N : Net) (f : List ℕ) (free : List Bool) (s t from : ℕ) : Type 0 where

@@ -7,6 +7,10 @@ use Rattle.network.specs.Network.{Net}
 abbrev pub netWith : List ℤ → List ℕ → List ℕ → List ℕ → List ℕ → List ℤ → Net
 netWith b t h l u c = record { balances = b; tails = t; heads = h; lows = l; ups = u; costs = c }
 
--- arcs and bounds alone, which is all that a search reads
+-- without balances
+abbrev pub costGraph : List ℕ → List ℕ → List ℕ → List ℕ → List ℤ → Net
+costGraph t h l u c = netWith [] t h l u c
+
+-- without balances and costs
 abbrev pub graph : List ℕ → List ℕ → List ℕ → List ℕ → Net
-graph t h l u = netWith [] t h l u []
+graph t h l u = costGraph t h l u []

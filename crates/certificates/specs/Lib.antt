@@ -1,5 +1,6 @@
 pub mod Codes
 pub mod Graph
+pub mod Room
 pub mod Optimality
 pub mod Cuts
 pub mod Push

@@ -11,6 +11,7 @@ use lib.ListN.{length, getD, set, length-set}
 use lib.Seq.{getD-set-same, getD-set-other}
 use lib.IntN.{ℤ, pos, negℤ, _+ℤ_, _-ℤ_, _*ℤ_}
 use lib.Signed.{_≤ℤ_}
+use borrow.Author.Tests.{le-leb}
 use Rattle.laws.specs.Ascending.{Distinct}
 use Rattle.laws.specs.Divergence.{at, at-same, at-other, ends}
 use Rattle.laws.specs.Equality.{test-same, test-differ}
@@ -18,9 +19,10 @@ use Rattle.laws.specs.Linear.{lin, ring, given, given2, given3}
 use Rattle.laws.specs.Members.{Every, every-map2}
 use Rattle.laws.specs.Sum.{sum-change}
 use Rattle.network.specs.Network.{Net, arcs, tail, head, low, up, cost, balance, on, netOut, IsFlow, costOf, LeastCost}
-use Rattle.network.specs.Residual.{either, src, dst, stepCost}
+use Rattle.network.specs.Residual.{codes, either, src, dst, stepCost, walkCost}
 use Rattle.certificates.specs.Codes.{even-code, odd-code, even-arc, odd-arc}
 use Rattle.certificates.specs.Cuts.{Agree}
+use Rattle.certificates.specs.Room.{roomy, roomy-forth, roomy-back, roomy-both, roomOf}
 use Rattle.certificates.specs.Optimality.{reduced, stepReduced}
 
 -- δ more along code c
@@ -77,16 +79,8 @@ module _ (N : Net) (f : List ℕ) (a y : ℕ) (z : ℤ) (len : length f ≡ arcs
       factor : (c x y : ℤ) → c *ℤ x -ℤ c *ℤ y ≡ c *ℤ (x -ℤ y)
       factor c x y = simp ring (omega arith)
 
--- ---- room
--- δ more can go along code c
-pub record Fits (N : Net) (δ : ℕ) (f : List ℕ) (c : ℕ) : Type 0 where
-  pub forth : eqb (c % 2) 0 ≡ true → getD f (c / 2) 0 + δ ≤ up N (c / 2)
-  pub back : eqb (c % 2) 0 ≡ false → low N (c / 2) + δ ≤ getD f (c / 2) 0
-
--- what can go along code c
-abbrev pub roomOf : Net → List ℕ → ℕ → ℕ
-roomOf N f c = either c (up N (c / 2) - getD f (c / 2) 0) (getD f (c / 2) 0 - low N (c / 2))
-
+-- ---- bounds and room
+-- a number within the bounds for each arc
 pub record InBounds (N : Net) (f : List ℕ) : Type 0 where
   pub all-arcs : length f ≡ arcs N
   pub above : (a : ℕ) → a < arcs N → low N a ≤ getD f a 0
@@ -95,11 +89,13 @@ pub record InBounds (N : Net) (f : List ℕ) : Type 0 where
 pub flow-bounds : (N : Net) (f : List ℕ) → IsFlow N f → InBounds N f
 flow-bounds N f h = record { all-arcs = h .all-arcs; above = h .above; below = h .below }
 
-pub room-fits : (N : Net) (f : List ℕ) (δ c : ℕ) → InBounds N f → c < arcs N + arcs N → δ ≤ roomOf N f c → Fits N δ f c
-room-fits N f δ c b l h = record {
-  forth = λ e. (let r : δ ≤ up N (c / 2) - getD f (c / 2) 0 = rw e at h in omega (arith, b .below (c / 2) (omega arith)));
-  back = λ e. (let r : δ ≤ getD f (c / 2) 0 - low N (c / 2) = rw e at h in omega (arith, b .above (c / 2) (omega arith)));
-}
+room-roomy : (N : Net) (f : List ℕ) (δ c : ℕ) → InBounds N f → c < codes N → δ ≤ roomOf N f c → roomy N f δ c ≡ true
+room-roomy N f δ c b l h = roomy-both N f δ c
+    (λ e. (let r : δ ≤ up N (c / 2) - getD f (c / 2) 0 = rw e at h in omega (arith, b .below (c / 2) (omega arith))))
+    (λ e. (let r : δ ≤ getD f (c / 2) 0 - low N (c / 2) = rw e at h in omega (arith, b .above (c / 2) (omega arith))))
+
+pub all-roomy : (N : Net) (f : List ℕ) (δ : ℕ) (cs : List ℕ) → InBounds N f → Every (λ c. c < codes N) cs → Every (λ c. δ ≤ roomOf N f c) cs → Every (λ c. roomy N f δ c ≡ true) cs
+all-roomy N f δ cs b = every-map2 (λ c. c < codes N) (λ c. δ ≤ roomOf N f c) (λ c. roomy N f δ c ≡ true) cs (λ c l r. room-roomy N f δ c b l r)
 
 pos-add : (x δ : ℕ) → pos (x + δ) ≡ pos x +ℤ pos δ
 pos-add x δ = refl
@@ -116,7 +112,7 @@ same-way c d e ne true p q = ne (omega (arith, test-same (c % 2) 0 p, test-same 
 same-way c d e ne false p q = ne (omega (arith, test-differ (c % 2) 0 p, test-differ (d % 2) 0 q))
 
 module _ (N : Net) (δ : ℕ) where
-  module _ (f : List ℕ) (c : ℕ) (b : InBounds N f) (l : c < arcs N + arcs N) (fit : Fits N δ f c) where
+  module _ (f : List ℕ) (c : ℕ) (b : InBounds N f) (l : c < codes N) (room : roomy N f δ c ≡ true) where
     arc-in : c / 2 < arcs N
     arc-in = omega arith
 
@@ -126,7 +122,7 @@ module _ (N : Net) (δ : ℕ) where
         go : (t : Bool) → eqb (c % 2) 0 ≡ t → netOut N (pushOne δ c f) v ≡ netOut N f v +ℤ (at (src N c) v (pos δ) -ℤ at (dst N c) v (pos δ))
         go true e = rw e (set-netOut N f (c / 2) (getD f (c / 2) 0 + δ) (pos δ) (b .all-arcs) arc-in (pos-add (getD f (c / 2) 0) δ) v)
         go false e =
-            rw e (set-netOut N f (c / 2) (getD f (c / 2) 0 - δ) (negℤ (pos δ)) (b .all-arcs) arc-in (pos-sub (getD f (c / 2) 0) δ (omega (arith, fit .back e))) v
+            rw e (set-netOut N f (c / 2) (getD f (c / 2) 0 - δ) (negℤ (pos δ)) (b .all-arcs) arc-in (pos-sub (getD f (c / 2) 0) δ (omega (arith, roomy-back N f δ c room e))) v
             ∙ ap (λ z. netOut N f v +ℤ z) (turn (at (tail N (c / 2)) v (negℤ (pos δ))) (at (head N (c / 2)) v (negℤ (pos δ))) (at (tail N (c / 2)) v (pos δ)) (at (head N (c / 2)) v (pos δ)) (at-neg (tail N (c / 2)) v (pos δ)) (at-neg (head N (c / 2)) v (pos δ))))
           where
             turn : (x y p q : ℤ) → x ≡ negℤ p → y ≡ negℤ q → x -ℤ y ≡ q -ℤ p
@@ -138,7 +134,7 @@ module _ (N : Net) (δ : ℕ) where
         go : (t : Bool) → eqb (c % 2) 0 ≡ t → costOf N (pushOne δ c f) ≡ costOf N f +ℤ stepCost N c *ℤ pos δ
         go true e = rw e (set-cost N f (c / 2) (getD f (c / 2) 0 + δ) (pos δ) (b .all-arcs) arc-in (pos-add (getD f (c / 2) 0) δ))
         go false e =
-            rw e (set-cost N f (c / 2) (getD f (c / 2) 0 - δ) (negℤ (pos δ)) (b .all-arcs) arc-in (pos-sub (getD f (c / 2) 0) δ (omega (arith, fit .back e)))
+            rw e (set-cost N f (c / 2) (getD f (c / 2) 0 - δ) (negℤ (pos δ)) (b .all-arcs) arc-in (pos-sub (getD f (c / 2) 0) δ (omega (arith, roomy-back N f δ c room e)))
             ∙ ap (λ z. costOf N f +ℤ z) (turn (cost N (c / 2)) (pos δ)))
           where
             turn : (x d : ℤ) → x *ℤ negℤ d ≡ negℤ x *ℤ d
@@ -168,26 +164,28 @@ module _ (N : Net) (δ : ℕ) where
       where
         low-at : (t : Bool) → eqb (c % 2) 0 ≡ t → low N (c / 2) ≤ cond t (getD f (c / 2) 0 + δ) (getD f (c / 2) 0 - δ)
         low-at true e = omega (arith, b .above (c / 2) arc-in)
-        low-at false e = omega (arith, fit .back e)
+        low-at false e = omega (arith, roomy-back N f δ c room e)
 
         up-at : (t : Bool) → eqb (c % 2) 0 ≡ t → cond t (getD f (c / 2) 0 + δ) (getD f (c / 2) 0 - δ) ≤ up N (c / 2)
-        up-at true e = omega (arith, fit .forth e)
+        up-at true e = omega (arith, roomy-forth N f δ c room e)
         up-at false e = omega (arith, b .below (c / 2) arc-in)
 
     -- another code keeps its room
-    pub one-fits : (d : ℕ) → d ≢ c → Fits N δ f d → Fits N δ (pushOne δ c f) d
-    one-fits d ne h = record {
-      forth = λ p. each-arc (d / 2) (λ x. x + δ ≤ up N (d / 2)) (h .forth p) (λ q t e. forth-at p q t e);
-      back = λ p. each-arc (d / 2) (λ x. low N (d / 2) + δ ≤ x) (h .back p) (λ q t e. back-at p q t e);
-    }
+    pub one-room : (d : ℕ) → d ≢ c → roomy N f δ d ≡ true → roomy N (pushOne δ c f) δ d ≡ true
+    one-room d ne h = roomy-both N (pushOne δ c f) δ d
+        (λ p. each-arc (d / 2) (λ x. x + δ ≤ up N (d / 2)) (roomy-forth N f δ d h p) (λ q t e. forth-at p q t e))
+        (λ p. each-arc (d / 2) (λ x. low N (d / 2) + δ ≤ x) (roomy-back N f δ d h p) (λ q t e. back-at p q t e))
       where
         forth-at : eqb (d % 2) 0 ≡ true → d / 2 ≡ c / 2 → (t : Bool) → eqb (c % 2) 0 ≡ t → cond t (getD f (c / 2) 0 + δ) (getD f (c / 2) 0 - δ) + δ ≤ up N (d / 2)
         forth-at p q true e = absurd (same-way c d (sym q) ne true e p)
-        forth-at p q false e = rw q (omega (arith, fit .back e, b .below (c / 2) arc-in))
+        forth-at p q false e = rw q (omega (arith, roomy-back N f δ c room e, b .below (c / 2) arc-in))
 
         back-at : eqb (d % 2) 0 ≡ false → d / 2 ≡ c / 2 → (t : Bool) → eqb (c % 2) 0 ≡ t → low N (d / 2) + δ ≤ cond t (getD f (c / 2) 0 + δ) (getD f (c / 2) 0 - δ)
         back-at p q true e = rw q (omega (arith, b .above (c / 2) arc-in))
         back-at p q false e = absurd (same-way c d (sym q) ne false e p)
+
+    pub others-room : (cs : List ℕ) → Every (λ x. x ≢ c) cs → Every (λ x. roomy N f δ x ≡ true) cs → Every (λ x. roomy N (pushOne δ c f) δ x ≡ true) cs
+    others-room cs = every-map2 (λ x. x ≢ c) (λ x. roomy N f δ x ≡ true) (λ x. roomy N (pushOne δ c f) δ x ≡ true) cs one-room
 
 -- ---- trails: the codes, last step first, lead from u to v
 abbrev pub Way : ℕ → (ℕ → ℕ) → (ℕ → ℕ) → ℕ → ℕ → List ℕ → Type 0
@@ -199,20 +197,16 @@ way-append hi sr ds [] k u v w p q = subst (λ (i : ℕ). Way hi sr ds u i k) p 
 way-append hi sr ds (c ∷ l) k u v w p q = (p .0, p .1, way-append hi sr ds l k u v (sr c) (p .2) q)
 
 abbrev pub Trail : Net → ℕ → ℕ → List ℕ → Type 0
-Trail N u v cs = Way (arcs N + arcs N) (src N) (dst N) u v cs
-
-abbrev pub trailCost : Net → List ℕ → ℤ
-trailCost N [] = pos 0
-trailCost N (c ∷ cs) = stepCost N c +ℤ trailCost N cs
+Trail N u v cs = Way (codes N) (src N) (dst N) u v cs
 
 module _ (N : Net) (δ : ℕ) where
-  pub all-bounds : (cs : List ℕ) (f : List ℕ) (u v : ℕ) → InBounds N f → Trail N u v cs → Distinct cs → Every (Fits N δ f) cs → InBounds N (pushAll δ cs f)
+  pub all-bounds : (cs : List ℕ) (f : List ℕ) (u v : ℕ) → InBounds N f → Trail N u v cs → Distinct cs → Every (λ c. roomy N f δ c ≡ true) cs → InBounds N (pushAll δ cs f)
   all-bounds [] f u v b t d h = b
   all-bounds (c ∷ cs) f u v b t d h =
       all-bounds cs (pushOne δ c f) u (src N c) (one-bounds N δ f c b (t .0) (h .0)) (t .2) (d .1)
-      (every-map2 (λ x. x ≢ c) (Fits N δ f) (Fits N δ (pushOne δ c f)) cs (one-fits N δ f c b (t .0) (h .0)) (d .0) (h .1))
+      (others-room N δ f c b (t .0) (h .0) cs (d .0) (h .1))
 
-  pub all-netOut : (cs : List ℕ) (f : List ℕ) (u v w : ℕ) → InBounds N f → Trail N u v cs → Distinct cs → Every (Fits N δ f) cs
+  pub all-netOut : (cs : List ℕ) (f : List ℕ) (u v w : ℕ) → InBounds N f → Trail N u v cs → Distinct cs → Every (λ c. roomy N f δ c ≡ true) cs
       → netOut N (pushAll δ cs f) w ≡ netOut N f w +ℤ (at u w (pos δ) -ℤ at v w (pos δ))
   all-netOut [] f u v w b t d h = nought (netOut N f w) (at u w (pos δ)) (at v w (pos δ)) (ap (λ i. at i w (pos δ)) t)
     where
@@ -221,23 +215,23 @@ module _ (N : Net) (δ : ℕ) where
   all-netOut (c ∷ cs) f u v w b t d h =
       chain (netOut N (pushAll δ cs (pushOne δ c f)) w) (netOut N (pushOne δ c f) w) (netOut N f w) (at u w (pos δ)) (at (src N c) w (pos δ)) (at (dst N c) w (pos δ)) (at v w (pos δ))
       (all-netOut cs (pushOne δ c f) u (src N c) w (one-bounds N δ f c b (t .0) (h .0)) (t .2) (d .1)
-      (every-map2 (λ x. x ≢ c) (Fits N δ f) (Fits N δ (pushOne δ c f)) cs (one-fits N δ f c b (t .0) (h .0)) (d .0) (h .1)))
+      (others-room N δ f c b (t .0) (h .0) cs (d .0) (h .1)))
       (one-netOut N δ f c b (t .0) (h .0) w)
       (ap (λ i. at i w (pos δ)) (t .1))
     where
       chain : (x y z u s d v : ℤ) → x ≡ y +ℤ (u -ℤ s) → y ≡ z +ℤ (s -ℤ d) → d ≡ v → x ≡ z +ℤ (u -ℤ v)
       chain x y z u s d v p q r = given3 p q r (simp lin (omega arith))
 
-  pub all-cost : (cs : List ℕ) (f : List ℕ) (u v : ℕ) → InBounds N f → Trail N u v cs → Distinct cs → Every (Fits N δ f) cs
-      → costOf N (pushAll δ cs f) ≡ costOf N f +ℤ trailCost N cs *ℤ pos δ
+  pub all-cost : (cs : List ℕ) (f : List ℕ) (u v : ℕ) → InBounds N f → Trail N u v cs → Distinct cs → Every (λ c. roomy N f δ c ≡ true) cs
+      → costOf N (pushAll δ cs f) ≡ costOf N f +ℤ walkCost N cs *ℤ pos δ
   all-cost [] f u v b t d h = nought (costOf N f) (pos δ)
     where
       nought : (x y : ℤ) → x ≡ x +ℤ pos 0 *ℤ y
       nought x y = simp ring (omega arith)
   all-cost (c ∷ cs) f u v b t d h =
-      chain (costOf N (pushAll δ cs (pushOne δ c f))) (costOf N (pushOne δ c f)) (costOf N f) (trailCost N cs) (stepCost N c) (pos δ)
+      chain (costOf N (pushAll δ cs (pushOne δ c f))) (costOf N (pushOne δ c f)) (costOf N f) (walkCost N cs) (stepCost N c) (pos δ)
       (all-cost cs (pushOne δ c f) u (src N c) (one-bounds N δ f c b (t .0) (h .0)) (t .2) (d .1)
-      (every-map2 (λ x. x ≢ c) (Fits N δ f) (Fits N δ (pushOne δ c f)) cs (one-fits N δ f c b (t .0) (h .0)) (d .0) (h .1)))
+      (others-room N δ f c b (t .0) (h .0) cs (d .0) (h .1)))
       (one-cost N δ f c b (t .0) (h .0))
     where
       chain : (x y z t s d : ℤ) → x ≡ y +ℤ t *ℤ d → y ≡ z +ℤ s *ℤ d → x ≡ z +ℤ (s +ℤ t) *ℤ d
@@ -264,16 +258,16 @@ module _ (N : Net) (π : ℕ → ℤ) where
           turn : (c p q : ℤ) → (c +ℤ p) -ℤ q ≡ pos 0 → (negℤ c +ℤ q) -ℤ p ≡ pos 0
           turn c p q h = given h (simp lin (omega arith))
 
-  pub tight-cost : (cs : List ℕ) (u v : ℕ) → Trail N u v cs → Every TightStep cs → trailCost N cs ≡ π v -ℤ π u
+  pub tight-cost : (cs : List ℕ) (u v : ℕ) → Trail N u v cs → Every TightStep cs → walkCost N cs ≡ π v -ℤ π u
   tight-cost [] u v t h = given (ap π t) (simp lin (omega arith))
   tight-cost (c ∷ cs) u v t h =
-      chain (stepCost N c) (trailCost N cs) (π (src N c)) (π (dst N c)) (π u) (π v) (tight-step c (h .0)) (tight-cost cs u (src N c) (t .2) (h .1)) (ap π (t .1))
+      chain (stepCost N c) (walkCost N cs) (π (src N c)) (π (dst N c)) (π u) (π v) (tight-step c (h .0)) (tight-cost cs u (src N c) (t .2) (h .1)) (ap π (t .1))
     where
       chain : (c r s d u v : ℤ) → (c +ℤ s) -ℤ d ≡ pos 0 → r ≡ s -ℤ u → d ≡ v → c +ℤ r ≡ v -ℤ u
       chain c r s d u v p q e = given3 p q e (simp lin (omega arith))
 
   -- a closed trail keeps the balances
-  pub closed-flow : (δ : ℕ) (cs : List ℕ) (f : List ℕ) (v : ℕ) → IsFlow N f → Trail N v v cs → Distinct cs → Every (Fits N δ f) cs → IsFlow N (pushAll δ cs f)
+  pub closed-flow : (δ : ℕ) (cs : List ℕ) (f : List ℕ) (v : ℕ) → IsFlow N f → Trail N v v cs → Distinct cs → Every (λ c. roomy N f δ c ≡ true) cs → IsFlow N (pushAll δ cs f)
   closed-flow δ cs f v ff t d h =
       let b = all-bounds N δ cs f v v (flow-bounds N f ff) t d h in
       record {
@@ -287,10 +281,10 @@ module _ (N : Net) (π : ℕ → ℤ) where
       still x y z b p q = given2 p q (simp lin (omega arith))
 
   -- a closed trail of tight steps keeps the least cost
-  pub closed-least : (δ : ℕ) (cs : List ℕ) (f : List ℕ) (v : ℕ) → LeastCost N f → Trail N v v cs → Distinct cs → Every (Fits N δ f) cs → Every TightStep cs → LeastCost N (pushAll δ cs f)
+  pub closed-least : (δ : ℕ) (cs : List ℕ) (f : List ℕ) (v : ℕ) → LeastCost N f → Trail N v v cs → Distinct cs → Every (λ c. roomy N f δ c ≡ true) cs → Every TightStep cs → LeastCost N (pushAll δ cs f)
   closed-least δ cs f v lf t d h ti = record {
     flow = closed-flow δ cs f v (lf .flow) t d h;
-    least = λ g fg. still (costOf N (pushAll δ cs f)) (costOf N f) (costOf N g) (trailCost N cs) (pos δ) (π v) (all-cost N δ cs f v v (flow-bounds N f (lf .flow)) t d h) (tight-cost cs v v t ti) (lf .least g fg);
+    least = λ g fg. still (costOf N (pushAll δ cs f)) (costOf N f) (costOf N g) (walkCost N cs) (pos δ) (π v) (all-cost N δ cs f v v (flow-bounds N f (lf .flow)) t d h) (tight-cost cs v v t ti) (lf .least g fg);
   }
     where
       nought : (s p : ℤ) → s ≡ p -ℤ p → s ≡ pos 0
@@ -306,7 +300,7 @@ module _ (N : Net) (π : ℕ → ℤ) where
   pub record Detour (δ : ℕ) (f : List ℕ) (k u v : ℕ) (cs : List ℕ) : Type 0 where
     pub trail : Trail N u v cs
     pub distinct : Distinct cs
-    pub fits : Every (Fits N δ f) cs
+    pub room : Every (λ c. roomy N f δ c ≡ true) cs
     pub tight : Every TightStep cs
     pub above : Every (λ c. k < c / 2) cs
 
@@ -324,11 +318,11 @@ module _ (N : Net) (π : ℕ → ℤ) where
     pub same-before : Agree k f f′
     pub at-k : getD f′ k 0 ≡ y
 
-  moved : (δ : ℕ) (f : List ℕ) (k c : ℕ) (cs : List ℕ) → c / 2 ≡ k → c < arcs N + arcs N → LeastCost N f → reduced N π k ≡ pos 0 → Fits N δ f c
+  moved : (δ : ℕ) (f : List ℕ) (k c : ℕ) (cs : List ℕ) → c / 2 ≡ k → c < codes N → LeastCost N f → reduced N π k ≡ pos 0 → roomy N f δ c ≡ true
       → Detour δ f k (dst N c) (src N c) cs
       → (y : ℕ) → getD (pushOne δ c f) k 0 ≡ y → Moved f (pushAll δ (c ∷ cs) f) k y
-  moved δ f k c cs e l lf ti fit de y at-y = record {
-    least-cost = closed-least δ (c ∷ cs) f (dst N c) lf (l, refl, de .trail) (apart-from k c cs e (de .above), de .distinct) (fit, de .fits) (rw e ti, de .tight);
+  moved δ f k c cs e l lf ti room de y at-y = record {
+    least-cost = closed-least δ (c ∷ cs) f (dst N c) lf (l, refl, de .trail) (apart-from k c cs e (de .above), de .distinct) (room, de .room) (rw e ti, de .tight);
     same-before = λ a h. sym (all-other N δ (c ∷ cs) f a ((λ q. omega arith), not-used k a cs (omega arith) (de .above)));
     at-k = all-other N δ cs (pushOne δ c f) k (not-used k k cs (omega arith) (de .above)) ∙ at-y;
   }
@@ -338,7 +332,7 @@ module _ (N : Net) (π : ℕ → ℤ) where
   raised δ f k cs l lf ti room de =
       subst (λ (g : List ℕ). Moved f (pushAll δ cs g) k (getD f k 0 + δ)) is
       (moved δ f k (k + k) cs (even-arc k) (omega arith) lf ti
-      (record { forth = λ _. rw even-arc room; back = λ e. absurd (let z : _≡_ {A = ℕ} 0 1 = cc (e, even-code k) in omega arith) })
+      (rw (even-code k, even-arc k) (le-leb (getD f k 0 + δ) (up N k) room))
       (rw (even-code k, even-arc k) de) (getD f k 0 + δ)
       (ap (λ g. getD g k 0) is ∙ getD-set-same f k (getD f k 0 + δ) 0 (omega (arith, lf .flow .all-arcs))))
     where
@@ -350,7 +344,7 @@ module _ (N : Net) (π : ℕ → ℤ) where
   lowered δ f k cs l lf ti room de =
       subst (λ (g : List ℕ). Moved f (pushAll δ cs g) k (getD f k 0 - δ)) is
       (moved δ f k (suc (k + k)) cs (odd-arc k) (omega arith) lf ti
-      (record { forth = λ e. absurd (let z : _≡_ {A = ℕ} 0 1 = cc (e, odd-code k) in omega arith); back = λ _. rw odd-arc room })
+      (rw (odd-code k, odd-arc k) (le-leb (low N k + δ) (getD f k 0) room))
       (rw (odd-code k, odd-arc k) de) (getD f k 0 - δ)
       (ap (λ g. getD g k 0) is ∙ getD-set-same f k (getD f k 0 - δ) 0 (omega (arith, lf .flow .all-arcs))))
     where

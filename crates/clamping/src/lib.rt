@@ -15,7 +15,8 @@ fn clamped(low: u32, up: u32, x: u32) -> u32
     low + x
 }
 
-// For each arc a, number 2a + 1 of `room` above the lower bound, and no more than the upper bound.
+// For each arc a, number 2a + 1 of `room` above the lower bound, and no more than the upper bound. `room` is that of the codes of a simplex:
+// two for each arc, and more.
 pub fn write_within(lows: &[u32], ups: &[u32], room: &[u32; 2048], flow: &mut [u32])
     requires { ⌜ (length (now flow) ≤ 512) × (length (now lows) ≡ length (now flow)) × (length (now ups) ≡ length (now flow)) × ((a : ℕ) → a < length (now flow) → getD (now lows) a 0 ≤ getD (now ups) a 0) ⌝ }
     ensures { λ _. ⌜ Clamped (now (lows .entry)) (now (ups .entry)) (now (room .entry)) (now (flow .exit)) ⌝ }

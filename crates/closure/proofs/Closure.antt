@@ -10,7 +10,7 @@ use lib.Dec.{ltb}
 use lib.ListN.{getD}
 use Rattle.laws.specs.Tests.{and-true, true-and}
 use Rattle.network.specs.Network.{Net, arcs, tail, head, low, up}
-use Rattle.network.specs.Residual.{src, dst}
+use Rattle.network.specs.Residual.{codes, src, dst}
 use Rattle.certificates.specs.Codes.{even-code, odd-code, even-arc, odd-arc}
 use Rattle.certificates.specs.FreeArcs.{goes, Reaches, Blocked}
 use Rattle.preorder.specs.Preorder.{leads, Alone, Extended}
@@ -29,7 +29,7 @@ module _ (N : Net) (f : List ℕ) (free : List Bool) where
     steps-more : (rows′ : List ℕ) → ((u v : ℕ) → leads rows u v ≡ true → leads rows′ u v ≡ true)
         → (getD free a false ≡ true → ltb (getD f a 0) (up N a) ≡ true → leads rows′ (tail N a) (head N a) ≡ true)
         → (getD free a false ≡ true → ltb (low N a) (getD f a 0) ≡ true → leads rows′ (head N a) (tail N a) ≡ true)
-        → (c : ℕ) → a + a ≤ c → c < arcs N + arcs N → goes N f free c ≡ true → leads rows′ (src N c) (dst N c) ≡ true
+        → (c : ℕ) → a + a ≤ c → c < codes N → goes N f free c ≡ true → leads rows′ (src N c) (dst N c) ≡ true
     steps-more rows′ keeps forth back c h l = go (ℕ-discrete c (a + a)) (ℕ-discrete c (suc (a + a)))
       where
         even : goes N f free (a + a) ≡ true → leads rows′ (src N (a + a)) (dst N (a + a)) ≡ true

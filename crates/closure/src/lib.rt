@@ -164,7 +164,8 @@ fn on_cycle(
     closes_cycle(heads, tails, lows, flow, free, rows, a)
 }
 
-// Only the free arcs on a cycle of residual steps of free arcs stay free. The two steps of one arc count as a cycle.
+// A free arc stays free if one of its steps closes a cycle with residual steps of free arcs. The two steps of one arc close one, so that an arc
+// strictly between its bounds stays free even where no other flow changes it.
 pub fn unmark_fixed(
     tails: &[u8],
     heads: &[u8],

@@ -1,8 +1,8 @@
--- What a flow costs, and the tight arcs: those of reduced cost 0.
+-- What a flow costs, and the arcs of reduced cost 0 under labels of the nodes.
 use mathlib.Core.Path.{_≡_}
 use mathlib.Core.Logic.{_≢_}
 use mathlib.Core.Bool.{Bool, true, false}
-use mathlib.Core.List.{List, []}
+use mathlib.Core.List.{List}
 use Prim.Native.Nat.{ℕ, _≤_, _<_}
 use lib.ListN.{length, getD}
 use lib.IntN.{ℤ, pos, _*ℤ_}
@@ -21,21 +21,17 @@ pub record SmallCosts (c : List ℤ) (f : List ℕ) : Type 0 where
 abbrev pub term : List ℤ → List ℕ → ℕ → ℤ
 term c f a = getD c a (pos 0) *ℤ pos (getD f a 0)
 
--- the network of which the marks read ends and costs
-abbrev pub endsAndCosts : List ℕ → List ℕ → List ℤ → Net
-endsAndCosts t h c = record { balances = []; tails = t; heads = h; lows = []; ups = []; costs = c }
-
--- a price for each node that an arc joins, and small numbers
-pub record SmallPrices (t h : List ℕ) (c p : List ℤ) (marks : List Bool) : Type 0 where
+-- a label for each node that an arc joins, and small numbers
+pub record SmallLabels (t h : List ℕ) (c d : List ℤ) (marks : List Bool) : Type 0 where
   pub heads-len : length h ≡ length t
   pub costs-len : length c ≡ length t
   pub marks-len : length marks ≡ length t
-  pub tail-in : (a : ℕ) → a < length t → getD t a 0 < length p
-  pub head-in : (a : ℕ) → a < length t → getD h a 0 < length p
+  pub tail-in : (a : ℕ) → a < length t → getD t a 0 < length d
+  pub head-in : (a : ℕ) → a < length t → getD h a 0 < length d
   pub cost-small : (a : ℕ) → a < length t → Bounded 1000000 (getD c a (pos 0))
-  pub price-small : (v : ℕ) → v < length p → Bounded 1000000000000 (getD p v (pos 0))
+  pub label-small : (v : ℕ) → v < length d → Bounded 1000000000000 (getD d v (pos 0))
 
--- the arcs below k are marked as they are: tight, or not
+-- of the arcs below k, exactly those of reduced cost 0 are marked
 pub record MarkedBelow (N : Net) (π : ℕ → ℤ) (marks : List Bool) (k : ℕ) : Type 0 where
   pub marked : (a : ℕ) → a < k → getD marks a false ≡ true → reduced N π a ≡ pos 0
   pub unmarked : (a : ℕ) → a < k → getD marks a false ≡ false → reduced N π a ≢ pos 0

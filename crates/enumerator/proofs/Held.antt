@@ -8,7 +8,7 @@ use Rattle.network.specs.Network.{arcs, IsFlow}
 use Rattle.network.specs.Struct.{netIn, Sound}
 use Rattle.network.specs.declared.Network.{Network}
 use Rattle.costs.specs.Costs.{SmallCosts}
-use Rattle.least_cost.proofs.Premises.{cost-small}
+use Rattle.relaxation.proofs.Accepted.{cost-small}
 
 full : {A : Type 0} (m : ℕ) (l : List A) → length (take m l) ≡ m → m ≤ length l
 full m l e = omega (arith, length-take m l)

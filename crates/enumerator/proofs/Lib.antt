@@ -2,3 +2,4 @@ mod Held
 mod Standing
 pub mod Steps
 pub mod Places
+pub mod Given

@@ -1,21 +1,21 @@
 -- A state on a line meets what the functions beneath ask.
 use mathlib.Core.Path.{_≡_}
 use mathlib.Core.List.{List}
-use Prim.Native.Nat.{ℕ, _<_}
-use lib.ListN.{getD, take}
-use lib.IntN.{ℤ, pos}
-use Rattle.network.specs.Network.{Net, nodes}
-use Rattle.network.specs.Residual.{Price}
+use lib.ListN.{take}
+use lib.IntN.{ℤ}
+use Rattle.network.specs.Network.{Net}
 use Rattle.certificates.specs.Push.{InBounds, flow-bounds}
-use Rattle.certificates.specs.Graph.{graph}
+use Rattle.certificates.specs.Graph.{graph, costGraph}
 use Rattle.certificates.specs.Ready.{Ready}
-use Rattle.relaxation.specs.Labels.{costGraph, Relaxable}
+use Rattle.relaxation.specs.Labels.{Relaxable}
 use Rattle.relaxation.specs.Potentials.{Settled}
+use Rattle.relaxation.proofs.Accepted.{relaxable}
 use Rattle.prices.specs.Prices.{PriceLabels}
 use Rattle.prices.proofs.Pricing.{labels-price}
-use Rattle.least_cost.proofs.Premises.{relaxable, ready}
+use Rattle.prices.proofs.Beyond.{labels-beyond}
+use Rattle.least_cost.proofs.Premises.{ready}
 use Rattle.least_cost.proofs.Marked.{settled-bare, marked-settled}
-use Rattle.enumerator.specs.Enumerator.{netOf, flowIn, Stands}
+use Rattle.enumerator.specs.Enumerator.{netOf, flowIn, Stands, PriceArray}
 use Rattle.enumerator.specs.declared.Enumerator.{Enumerator}
 use Rattle.enumerator.specs.declared.Place.the-variants.{Line}
 
@@ -40,5 +40,11 @@ module _ (s : Enumerator) (h : Stands s) where
         settled-bare (N .balances) (N .tails) (N .heads) (N .lows) (N .ups) (N .costs) (flowIn s)
         (marked-settled (N .balances) (N .tails) (N .heads) (N .lows) (N .ups) (N .costs) (flowIn s) (take (s .net .arcs) (s .tight)) (h .marked on))
 
-  pub prices-on : (d : List ℤ) → PriceLabels (bareOf s) (flowIn s) d → (v : ℕ) → v < nodes (netOf s) → Price (netOf s) (flowIn s) v (getD d v (pos 0))
-  prices-on d P = let N = netOf s in labels-price (N .balances) (N .tails) (N .heads) (N .lows) (N .ups) (N .costs) (flowIn s) (h .sound .accepted .well-formed) (h .sound .accepted .few-nodes) d P
+  pub prices-on : (d : List ℤ) → PriceLabels (bareOf s) (flowIn s) d → PriceArray (netOf s) (flowIn s) d
+  prices-on d P =
+      let N = netOf s in
+      let ok = h .sound .accepted in
+      record {
+        prices = labels-price (N .balances) (N .tails) (N .heads) (N .lows) (N .ups) (N .costs) (flowIn s) (ok .well-formed) (ok .few-nodes) d P;
+        others = labels-beyond (N .balances) (N .tails) (N .heads) (N .lows) (N .ups) (N .costs) (flowIn s) (ok .well-formed) d P;
+      }

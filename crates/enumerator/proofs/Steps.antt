@@ -19,10 +19,10 @@ use Rattle.network.specs.declared.Network.{Network}
 use Rattle.costs.specs.Costs.{term}
 use Rattle.least_cost.specs.Marked.{Marked}
 use Rattle.least_cost.specs.Answers.{FirstFlow, MarkedIfLeast}
-use Rattle.enumerator.specs.Enumerator.{netOf, flowIn, lineAt, lineOf, placeOf, wordAfter, following, costShown, Stands, Steps, Resumes}
+use Rattle.enumerator.specs.Enumerator.{netOf, flowIn, lineAt, lineOf, placeOf, wordAfter, following, costShown, Stands, Steps}
 use Rattle.enumerator.specs.declared.Enumerator.{Enumerator}
 use Rattle.enumerator.specs.declared.Place.{Place}
-use Rattle.enumerator.specs.declared.Place.the-variants.{Start, Line, End}
+use Rattle.enumerator.specs.declared.Place.the-variants.{Line, End}
 
 -- a place that stands on no line
 abbrev pub NoLine : Place → Type 0
@@ -67,11 +67,11 @@ module _ (s : Enumerator) (ok : Sound (s .net)) (f : List ℕ) (t : List Bool) w
   }
 
 -- what the search for the first flow answered
-pub not-found : (N : Net) (f : List ℕ) (t : List Bool) (r : Bool) → FirstFlow N f t r → r ≡ false → firstFlow N ≡ none
-not-found N f t r h e = subst (FirstFlow N f t) e h
+pub not-found : (N : Net) (f : List ℕ) (t t′ : List Bool) (r : Bool) → FirstFlow N f t t′ r → r ≡ false → firstFlow N ≡ none
+not-found N f t t′ r h e = let k : FirstFlow N f t t′ false = subst (FirstFlow N f t t′) e h in k .0
 
-pub found : (N : Net) (f : List ℕ) (t : List Bool) (r : Bool) → FirstFlow N f t r → r ≡ true → (firstFlow N ≡ some f) × Marked N t f
-found N f t r h e = subst (FirstFlow N f t) e h
+pub found : (N : Net) (f : List ℕ) (t t′ : List Bool) (r : Bool) → FirstFlow N f t t′ r → r ≡ true → (firstFlow N ≡ some f) × Marked N t′ f
+found N f t t′ r h e = subst (FirstFlow N f t t′) e h
 
 -- the sum that the code computes is the cost
 pub cost-summed : (N : Net) → WellFormed N → (x f : List ℕ) → x ≡ f → (c d : ℤ) → c ≡ d → d ≡ sum (length (N .costs)) (term (N .costs) x) → c ≡ costOf N f
@@ -121,11 +121,8 @@ module _ (s r : Enumerator) (w : Place) (h : Steps s w (firstFlow (netOf s)) r) 
   counts-line on cap k c = c (ap firstFlow same-net ∙ sym (h .line-is) ∙ ap (λ p. lineAt p (flowIn r)) on) ∙ ap (λ N. countFlows N cap) same-net
 
 -- what the test of question 8 answered
-pub marked-yes : (N : Net) (f : List ℕ) (t : List Bool) (r : Bool) → MarkedIfLeast N f t r → r ≡ true → Marked N t f
-marked-yes N f t r h e = subst (MarkedIfLeast N f t) e h
+pub marked-yes : (N : Net) (f : List ℕ) (t t′ : List Bool) (r : Bool) → MarkedIfLeast N f t t′ r → r ≡ true → Marked N t′ f
+marked-yes N f t t′ r h e = subst (MarkedIfLeast N f t t′) e h
 
-pub not-marked : (N : Net) (f : List ℕ) (t : List Bool) (r : Bool) → MarkedIfLeast N f t r → r ≡ false → ¬ LeastCost N f
-not-marked N f t r h e = subst (MarkedIfLeast N f t) e h
-
-pub resume-off : (N : Net) (f : List ℕ) (r : Enumerator) → r .place ≡ Start → ¬ LeastCost N f → Resumes N f r
-resume-off N f r e n = record { on = λ h. absurd (no-line Start (λ _. refl) (sym e ∙ h)); off = λ _. n }
+pub not-marked : (N : Net) (f : List ℕ) (t t′ : List Bool) (r : Bool) → MarkedIfLeast N f t t′ r → r ≡ false → ¬ LeastCost N f
+not-marked N f t t′ r h e = let k : MarkedIfLeast N f t t′ false = subst (MarkedIfLeast N f t t′) e h in k .0

@@ -1,13 +1,16 @@
 -- The state of a walk through the full list of a network.
 use mathlib.Core.Path.{_≡_}
-use mathlib.Core.Logic.{_≢_}
 use mathlib.Core.List.{List}
 use mathlib.Core.Option.{Option, none, some}
-use Prim.Native.Nat.{ℕ}
-use lib.ListN.{take}
+use Prim.Native.Nat.{ℕ, _≤_, _<_}
+use lib.ListN.{getD, take}
 use lib.IntN.{ℤ, pos}
-use Rattle.network.specs.Network.{Net, LeastCost, costOf}
-use Rattle.network.specs.FullList.{nextFlow}
+use Rattle.laws.specs.Equality.{same-list}
+use Rattle.laws.specs.Members.{keep, first?}
+use Rattle.laws.specs.Tests.{test}
+use Rattle.network.specs.Network.{Net, nodes, costOf}
+use Rattle.network.specs.Residual.{Price}
+use Rattle.network.specs.FullList.{fullList, nextFlow}
 use Rattle.network.specs.Struct.{netIn, Sound}
 use Rattle.least_cost.specs.Marked.{Marked}
 use Rattle.enumerator.specs.declared.Enumerator.{Enumerator}
@@ -66,7 +69,16 @@ pub record Steps (s : Enumerator) (w : Place) (o : Option (List ℕ)) (r : Enume
   pub line-is : lineOf r ≡ o
   pub place-is : r .place ≡ placeOf w o
 
--- r stands on f if that is a least-cost flow, and else on no line
+-- question 8, "is the given list m numbers long and a least-cost flow of the network?": the line of the full list that f is, if it is one
+abbrev pub givenLine : Net → List ℕ → Option (List ℕ)
+givenLine N f = first? (keep (λ g. test (same-list g f)) (fullList N))
+
+-- r stands on the line that f is; if it is none, r has not begun
 pub record Resumes (N : Net) (f : List ℕ) (r : Enumerator) : Type 0 where
-  pub on : r .place ≡ Line → (flowIn r ≡ f) × LeastCost N f
-  pub off : r .place ≢ Line → ¬ LeastCost N f
+  pub line-is : lineOf r ≡ givenLine N f
+  pub place-is : r .place ≡ placeOf Start (givenLine N f)
+
+-- an array with the prices of the nodes, and 0 in the places beyond them
+pub record PriceArray (N : Net) (f : List ℕ) (r : List ℤ) : Type 0 where
+  pub prices : (v : ℕ) → v < nodes N → Price N f v (getD r v (pos 0))
+  pub others : (v : ℕ) → nodes N ≤ v → getD r v (pos 0) ≡ pos 0

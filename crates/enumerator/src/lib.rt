@@ -1,16 +1,15 @@
-// A walk through the full list of a network, as a state by value: the line that it stands on, its cost, and the marks of the arcs that may
-// differ between two lines, which are worked out once for the whole list.
+// A walk through the full list of a network, as a state by value: the line that it stands on, its cost, and marks on arcs, worked out once for
+// the whole list: an arc without a mark has one number in all lines.
 ghost use mathlib.Core.Path.{_≡_};
+ghost use mathlib.Core.Bool.{false};
 ghost use Prim.Native.Nat.{ℕ, _+_, _≤_, _<_};
-ghost use lib.ListN.{getD, take};
+ghost use lib.ListN.{getD, take, replicate};
 ghost use lib.IntN.{pos};
 ghost use Rattle.laws.specs.Range.{Bounded};
 ghost use Rattle.laws.specs.Count.{counted};
-ghost use Rattle.network.specs.Network.{nodes};
-ghost use Rattle.network.specs.Residual.{Price};
 ghost use Rattle.network.specs.FullList.{firstFlow, nextFlow, countFlows};
 ghost use Rattle.network.specs.Struct.{netIn, Sound};
-ghost use Rattle.enumerator.specs.Enumerator.{netOf, flowIn, lineOf, wordAfter, following, Stands, Steps, Resumes};
+ghost use Rattle.enumerator.specs.Enumerator.{netOf, flowIn, lineOf, wordAfter, following, Stands, Steps, Resumes, PriceArray};
 
 // Where a walk stands: on no line yet, on a line, or on none, for there is no line ("none") or no further one ("end").
 pub enum Place {
@@ -31,7 +30,7 @@ pub struct Enumerator {
 // A walk that has not begun.
 pub fn start(net: network::Network) -> Enumerator
     requires { ⌜ Sound net ⌝ }
-    ensures { λ r. ⌜ Stands r × (r .net ≡ net) × (r .place ≡ Place.Start) ⌝ }
+    ensures { λ r. ⌜ Stands r × (r .net ≡ net) × (r .place ≡ Place.Start) × (r .flow ≡ replicate 512 0) × (r .tight ≡ replicate 512 false) ⌝ }
 {
     Enumerator {
         net: net,
@@ -187,10 +186,10 @@ impl Enumerator {
         }
     }
 
-    // The prices of the line that it stands on.
+    // The prices of the line that it stands on, and 0 beyond its nodes.
     pub fn prices(self) -> [i32; 64]
         requires { ⌜ Stands self × (self .place ≡ Place.Line) ⌝ }
-        ensures { λ r. ⌜ ((v : ℕ) → v < nodes (netOf self) → Price (netOf self) (flowIn self) v (getD r v (pos 0))) ⌝ }
+        ensures { λ r. ⌜ PriceArray (netOf self) (flowIn self) r ⌝ }
     {
         let net = self.net;
         let m = net.arcs;

@@ -16,7 +16,7 @@ use Rattle.laws.specs.Sum.{sum}
 use Rattle.network.specs.Network.{Net, WellFormed, netOut, balance}
 use Rattle.certificates.specs.Cuts.{stuck, closed-steps, balances-sum}
 use Rattle.certificates.specs.Push.{InBounds, all-netOut}
-use Rattle.certificates.specs.Feasible.{lacks as excesses, relieved, all-met}
+use Rattle.certificates.specs.Feasible.{totalExcess, relieved, all-met}
 use Rattle.certificates.specs.Graph.{graph, netWith}
 use Rattle.certificates.specs.Ready.{Ready}
 use Rattle.flow_test.specs.Excess.{supplies, SmallNumbers, Excesses}
@@ -56,8 +56,9 @@ module _ (b : List ℤ) (t h l u : List ℕ) (f₀ : List ℕ) (G : Given b t h 
   formed : (c : List ℤ) → length c ≡ length t → WellFormed (netWith b t h l u c)
   formed c e = record { heads-len = G .heads-len; lows-len = G .small .lows-len; ups-len = G .small .ups-len; costs-len = e; tail-in = G .tail-in; head-in = G .head-in }
 
-  pub no-balance : (g : List ℕ) → ¬ (sum (length b) (λ v. getD b v (pos 0)) ≡ pos 0) → Answer b t h l u g false
-  no-balance g ne = record {
+  pub no-balance : (g : List ℕ) → InBounds (graph t h l u) g → ¬ (sum (length b) (λ v. getD b v (pos 0)) ≡ pos 0) → Answer b t h l u g false
+  no-balance g k ne = record {
+    bounds = k;
     found = λ q. absurd (let w : _≡_ {A = ℕ} 0 1 = cc in omega arith);
     none = λ _ c d x F. ne (balances-sum (netWith b t h l u c) (formed c d) x F);
   }
@@ -65,13 +66,15 @@ module _ (b : List ℤ) (t h l u : List ℕ) (f₀ : List ℕ) (G : Given b t h 
   module _ (f : List ℕ) (k : InBounds (graph t h l u) f) (ex : List ℤ) (L : Excesses b t h f ex) where
     pub all-sent : sum (length b) (λ v. getD b v (pos 0)) ≡ pos 0 → (r : ℕ) → FirstExcess ex r → length ex ≤ r → Answer b t h l u f true
     all-sent e r F z = record {
+      bounds = k;
       found = λ _ c d. all-met (netWith b t h l u c) (formed c d) f (record { all-arcs = k .all-arcs; above = k .above; below = k .below }) e
           (λ v i. rw (← (L .is v i)) (F .none z v (omega (arith, L .len))));
       none = λ q. absurd (let w : _≡_ {A = ℕ} 0 1 = cc in omega arith);
     }
 
-    pub no-flow-left : (free : List Bool) → AllFree t free → (s : ℕ) → s < length ex → pos 0 <ℤ getD ex s (pos 0) → CutOff (graph t h l u) f free ex s (length ex) → (g : List ℕ) → Answer b t h l u g false
-    no-flow-left free F s i p C g = record {
+    pub no-flow-left : (free : List Bool) → AllFree t free → (s : ℕ) → s < length ex → pos 0 <ℤ getD ex s (pos 0) → CutOff (graph t h l u) f free ex s (length ex) → (g : List ℕ) → InBounds (graph t h l u) g → Answer b t h l u g false
+    no-flow-left free F s i p C g m = record {
+      bounds = m;
       found = λ q. absurd (let w : _≡_ {A = ℕ} 0 1 = cc in omega arith);
       none = λ _ c d. stuck (netWith b t h l u c) (formed c d) f (C .inside)
           (closed-steps (netWith b t h l u c) f (λ a. Unit {0}) (C .inside) (λ x y _ v w. C .shut x y (rw (F .marked (x / 2) (omega arith)) v) w))
@@ -90,11 +93,11 @@ module _ (b : List ℤ) (t h l u : List ℕ) (f₀ : List ℕ) (G : Given b t h 
         no-deficit N v m e (inr p) n = absurd (let w : _≡_ {A = ℕ} 0 1 = cc (m, n p) in omega arith)
 
     -- the sum of the excesses above 0 falls
-    pub falls : (g : List ℕ) (s : ℕ) → s < length ex → SentFrom (graph t h l u) f g ex s → plus (excesses (supplies b t h) g) < plus (excesses (supplies b t h) f)
+    pub falls : (g : List ℕ) (s : ℕ) → s < length ex → SentFrom (graph t h l u) f g ex s → plus (totalExcess (supplies b t h) g) < plus (totalExcess (supplies b t h) f)
     falls g s i S =
         let R = S .sent in
         relieved (supplies b t h) f g s (S .to) (R .amount)
-        (λ w. ap (λ x. netOut (supplies b t h) x w) (R .exact) ∙ all-netOut (graph t h l u) (R .amount) (R .codes) f s (S .to) w k (R .trail) (R .able .distinct) (R .able .fits))
+        (λ w. ap (λ x. netOut (supplies b t h) x w) (R .exact) ∙ all-netOut (graph t h l u) (R .amount) (R .codes) f s (S .to) w k (R .trail) (R .able .distinct) (R .able .room))
         (omega (arith, L .len)) (R .some)
         (rw (← (L .is s (omega (arith, L .len)))) (≤ℤ-trans {a = pos (R .amount)} {b = pos (S .most)} {c = getD ex s (pos 0)} (simp lin (omega (arith, R .at-most))) (S .most-ok)))
         (rw (← (L .is (S .to) (omega (arith, L .len, S .to-in)))) (R .at-t))

@@ -11,11 +11,12 @@ use lib.IntN.{ℤ, pos, negℤ}
 use lib.Signed.{_≤ℤ_, _<ℤ_, leZ}
 use Rattle.laws.specs.Integers.{leZ-true, leZ-or-lt}
 use Rattle.laws.specs.Linear.{lin, given3}
-use Rattle.laws.specs.Members.{Every, every-map, every-map2}
+use Rattle.laws.specs.Members.{Every, every-map}
 use Rattle.laws.specs.Tests.{and-true, and-stops-second}
-use Rattle.network.specs.Network.{Net, arcs}
-use Rattle.network.specs.Residual.{src, dst}
-use Rattle.certificates.specs.Push.{InBounds, Fits as FitsCode, roomOf, room-fits, pushAll}
+use Rattle.network.specs.Network.{Net}
+use Rattle.network.specs.Residual.{codes, src, dst}
+use Rattle.certificates.specs.Room.{roomOf}
+use Rattle.certificates.specs.Push.{InBounds, all-roomy, pushAll}
 use Rattle.certificates.specs.Graph.{graph}
 use Rattle.certificates.specs.FreeArcs.{goes, Path, Blocked}
 use Rattle.pushing.specs.Pushing.{roomAll, Pushable}
@@ -39,9 +40,9 @@ module _ (N : Net) (f : List ℕ) (free : List Bool) (s t most : ℕ) (x : ℤ) 
 path-able : (N : Net) (f : List ℕ) (free : List Bool) (s t from δ : ℕ) (cs : List ℕ) → InBounds N f → Path N f free s t from cs → Every (λ c. δ ≤ roomOf N f c) cs → Pushable N δ f cs
 path-able N f free s t from δ cs b p h = record {
   bounds = b;
-  codes-in = way-codes (arcs N + arcs N) (src N) (dst N) s t cs (p .trail);
+  codes-in = way-codes (codes N) (src N) (dst N) s t cs (p .trail);
   distinct = p .distinct;
-  fits = every-map2 (λ c. c < arcs N + arcs N) (λ c. δ ≤ roomOf N f c) (FitsCode N δ f) cs (λ c l r. room-fits N f δ c b l r) (way-codes (arcs N + arcs N) (src N) (dst N) s t cs (p .trail)) h;
+  room = all-roomy N f δ cs b (way-codes (codes N) (src N) (dst N) s t cs (p .trail)) h;
 }
 
 able-without-heads : (t h l u : List ℕ) (δ : ℕ) (f cs : List ℕ) → Pushable (graph t h l u) δ f cs → Pushable (graph t t l u) δ f cs
@@ -49,7 +50,7 @@ able-without-heads t h l u δ f cs p = record {
   bounds = record { all-arcs = p .bounds .all-arcs; above = p .bounds .above; below = p .bounds .below };
   codes-in = p .codes-in;
   distinct = p .distinct;
-  fits = every-map (FitsCode (graph t h l u) δ f) (FitsCode (graph t t l u) δ f) cs (λ c k. record { forth = k .forth; back = k .back }) (p .fits);
+  room = p .room;
 }
 
 module _ (t h l u : List ℕ) (f : List ℕ) (free : List Bool) (x y most : ℕ) (b : InBounds (graph t h l u) f) (cs : List ℕ) (p : Path (graph t h l u) f free x y 0 cs) (cap : ℕ) (d : ℕ) (d-is : d ≡ roomAll (graph t t l u) f cap cs) where

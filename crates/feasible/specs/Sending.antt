@@ -2,12 +2,12 @@
 use mathlib.Core.Path.{_≡_}
 use mathlib.Core.List.{List}
 use mathlib.Core.Bool.{Bool, true, false}
-use Prim.Native.Nat.{ℕ, _+_, _≤_, _<_}
+use Prim.Native.Nat.{ℕ, _≤_, _<_}
 use lib.ListN.{length, getD}
 use lib.IntN.{ℤ, pos, negℤ}
 use lib.Signed.{_≤ℤ_, _<ℤ_}
-use Rattle.network.specs.Network.{Net, arcs}
-use Rattle.network.specs.Residual.{src, dst}
+use Rattle.network.specs.Network.{Net}
+use Rattle.network.specs.Residual.{codes, src, dst}
 use Rattle.certificates.specs.Push.{InBounds, Trail, pushAll}
 use Rattle.certificates.specs.FreeArcs.{goes, Blocked}
 use Rattle.pushing.specs.Pushing.{Pushable}
@@ -54,7 +54,7 @@ pub record CutOff (N : Net) (f : List ℕ) (free : List Bool) (excess : List ℤ
   pub inside : ℕ → Bool
   pub has : inside s ≡ true
   pub none : (v : ℕ) → v < n → getD excess v (pos 0) <ℤ pos 0 → inside v ≡ false
-  pub shut : (c : ℕ) → c < arcs N + arcs N → goes N f free c ≡ true → inside (src N c) ≡ true → inside (dst N c) ≡ true
+  pub shut : (c : ℕ) → c < codes N → goes N f free c ≡ true → inside (src N c) ≡ true → inside (dst N c) ≡ true
 
 -- r says whether any of the excess of s could be sent
 pub record Sends (N : Net) (f f′ : List ℕ) (free : List Bool) (excess : List ℤ) (s : ℕ) (r : Bool) : Type 0 where

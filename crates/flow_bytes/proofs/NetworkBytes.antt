@@ -26,9 +26,9 @@ module _ (bs xs : List ℕ) where
   -- questions 1 to 7 with a list of so many bytes for the flows: what `begin` hands back
   module _ (v : Checked) (checks : Checks bs xs v) (bytes : ℕ) where
     pub begins-refused : (k : ℕ) → k ≡ numberOf (v .verdict) → ¬ (k ≡ 0) → Begins bs xs bytes (record { number = k; net = v .net })
-    begins-refused k e n = record { number-is = fails-first (refusal bs xs) _ k (e ∙ checks .number) n; ready = λ z. absurd (n z) }
+    begins-refused k e n = record { number-is = fails-first (refusal bs xs) _ k (e ∙ checks .number) n; net-is = checks .net-is; ready = λ z. absurd (n z) }
 
     pub begins : (b : Bool) → numberOf (v .verdict) ≡ 0 → room (v .net .arcs) bytes ≡ b → Begins bs xs bytes (record { number = ask b 7 0; net = v .net })
     begins b z e =
         let ok = ready v checks z in
-        record { number-is = rw (ok .ok, room-is (v .net) ok b bytes e); ready = λ _. ok }
+        record { number-is = rw (ok .ok, room-is (v .net) ok b bytes e); net-is = checks .net-is; ready = λ _. ok }

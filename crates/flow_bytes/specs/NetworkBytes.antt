@@ -1,16 +1,23 @@
--- A network as bytes, and questions 1 to 7 of a call.
+-- A network as bytes, and questions 1 to 8 of a call.
 use mathlib.Core.Path.{_≡_}
+use mathlib.Core.Bool.{cond}
 use mathlib.Core.List.{List}
+use mathlib.Core.Option.{Option, none, some}
 use Prim.Native.Nat.{ℕ}
 use Rattle.laws.specs.Tests.{ask}
-use Rattle.bytes32.specs.Words.{ints}
+use Rattle.bytes32.specs.Words.{words, ints}
 use Rattle.network.specs.Network.{Net, arcs}
 use Rattle.network.specs.Input.{netOf}
+use Rattle.network.specs.FullList.{fullList}
 use Rattle.network.specs.Struct.{Sound, netIn}
 use Rattle.network.specs.declared.Network.{Network}
 use Rattle.network_questions.specs.Questions.{refusal}
+use Rattle.network_check.specs.Checked.{checkedNet}
+use Rattle.enumerator.specs.Enumerator.{lineOf, placeOf, Stands}
+use Rattle.enumerator.specs.declared.Enumerator.{Enumerator}
+use Rattle.enumerator.specs.declared.Place.the-variants.{Start}
 use Rattle.calls.specs.Replies.{orElse}
-use Rattle.calls.specs.ByteLists.{room}
+use Rattle.calls.specs.ByteLists.{room, listed}
 use Rattle.flow_bytes.specs.declared.Begun.{Begun}
 
 -- "The network comes as n balances and five numbers an arc (tail, head, l, u, c), all signed 32-bit."
@@ -23,7 +30,18 @@ pub record Ready (bs xs : List ℕ) (s : Network) : Type 0 where
   pub sound : Sound s
   pub is : netIn s ≡ net bs xs
 
--- questions 1 to 7, with a list of so many bytes lent for the flows
+-- questions 1 to 7, with a list of so many bytes lent for the flows; the struct is that of the check, whatever the number
 pub record Begins (bs xs : List ℕ) (bytes : ℕ) (r : Begun) : Type 0 where
   pub number-is : r .number ≡ orElse (refusal bs xs) (ask (room (arcs (net bs xs)) bytes) 7 0)
+  pub net-is : r .net ≡ checkedNet bs xs
   pub ready : r .number ≡ 0 → Ready bs xs (r .net)
+
+-- question 8: a walk on the line that the given bytes are; if they are none, one that has not begun
+abbrev pub givenFlow : Net → List ℕ → Option (List ℕ)
+givenFlow N g = cond (listed g (fullList N)) (some (words g)) none
+
+pub record FindsFlow (s : Network) (g : List ℕ) (r : Enumerator) : Type 0 where
+  pub stands : Stands r
+  pub net-is : r .net ≡ s
+  pub line-is : lineOf r ≡ givenFlow (netIn s) g
+  pub place-is : r .place ≡ placeOf Start (givenFlow (netIn s) g)

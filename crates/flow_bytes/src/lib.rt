@@ -1,17 +1,15 @@
 // The flows of a network as the bytes of a call: questions 7 and 8, and a flow and its prices written.
 ghost use mathlib.Core.Path.{_≡_};
-ghost use mathlib.Core.Bool.{true, cond};
-ghost use mathlib.Core.Option.{none, some};
+ghost use mathlib.Core.Bool.{true};
+ghost use mathlib.Core.Option.{some};
 ghost use lib.ListN.{length};
-ghost use Rattle.bytes32.specs.Words.{words};
 ghost use Rattle.network.specs.Network.{costOf};
-ghost use Rattle.network.specs.FullList.{fullList};
 ghost use Rattle.network.specs.Struct.{Sound, netIn};
 ghost use Rattle.network_questions.specs.Questions.{numberOf};
 ghost use Rattle.enumerator.specs.Enumerator.{Stands, lineOf};
 ghost use Rattle.calls.specs.Replies.{HandedOut};
-ghost use Rattle.calls.specs.ByteLists.{room, listed};
-ghost use Rattle.flow_bytes.specs.NetworkBytes.{Begins};
+ghost use Rattle.calls.specs.ByteLists.{room};
+ghost use Rattle.flow_bytes.specs.NetworkBytes.{Begins, FindsFlow};
 ghost use Rattle.flow_bytes.specs.Prices.{PricesOut};
 use calls::Reply;
 use enumerator::Enumerator;
@@ -93,11 +91,10 @@ pub fn hand_prices(walk: Enumerator, prices: &mut [u8])
     encode32::write_ints(prices, &ps, net.nodes);
 }
 
-// Question 8: the walk that stands on the line given, or on none.
+// Question 8: the walk that stands on the line given; if that is none, one that has not begun.
 pub fn find(net: Network, given: &[u8]) -> Enumerator
     requires { ⌜ Sound net ⌝ }
-    ensures { λ r. ⌜ Stands r × (r .net ≡ net)
-        × (lineOf r ≡ cond (listed (now (given .entry)) (fullList (netIn net))) (some (words (now (given .entry)))) none) ⌝ }
+    ensures { λ r. ⌜ FindsFlow net (now (given .entry)) r ⌝ }
 {
     let m = net.arcs;
     if given.len() != 4 * m {

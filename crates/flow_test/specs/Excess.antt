@@ -1,4 +1,4 @@
--- The excess of a node: its balance, less what goes out of it beyond what comes in. Below 0 it is a deficit.
+-- The excess of each node.
 use mathlib.Core.Path.{_≡_}
 use mathlib.Core.List.{List, []}
 use Prim.Native.Nat.{ℕ, _≤_, _<_}
@@ -6,7 +6,7 @@ use lib.ListN.{length, getD}
 use lib.IntN.{ℤ, pos}
 use Rattle.laws.specs.Range.{Bounded}
 use Rattle.network.specs.Network.{Net}
-use Rattle.certificates.specs.Feasible.{lack as excess}
+use Rattle.certificates.specs.Feasible.{excess}
 use Rattle.certificates.specs.Graph.{netWith}
 
 -- balances and the ends of arcs, which is all that the excess depends on

@@ -1,9 +1,9 @@
 -- The turns of `count`: cur is line n of the full list, counted from 1.
-use mathlib.Core.Path.{_≡_, refl, sym, ap, _∙_}
+use mathlib.Core.Path.{_≡_, refl, sym, ap, subst, _∙_}
 use mathlib.Core.List.{List, [], _∷_}
 use mathlib.Core.Option.{none, some}
 use mathlib.Core.Bool.{Bool, true, false}
-use Prim.Native.Nat.{ℕ, zero, suc, _+_, _≤_, _<_}
+use Prim.Native.Nat.{ℕ, zero, suc, _+_, _-_, _≤_, _<_}
 use native.Mathlib.Omega.{arith}
 use lib.ListN.{length, getElem?}
 use borrow.Author.Tests.{lt-leb}
@@ -16,7 +16,7 @@ use Rattle.laws.specs.Lexicographic.{_<lex_, lex-irrefl, lex-trans}
 use Rattle.network.specs.Network.{Net, WellFormed, LeastCost}
 use Rattle.network.specs.FullList.{fullList, firstFlow, nextFlow, countFlows}
 use Rattle.network.proofs.FullList.{full-ascending}
-use Rattle.flows.specs.Following.{Next}
+use Rattle.flows.specs.Following.{Next, Counts}
 
 pub record Line (N : Net) (n : ℕ) (cur : List ℕ) : Type 0 where
   pub least : LeastCost N cur
@@ -44,9 +44,15 @@ module _ (N : Net) (n : ℕ) (cur : List ℕ) (l : Line N n cur) where
   line-in : n ≤ length (fullList N)
   line-in = omega (arith, some-in (fullList N) (l .place) cur (l .stands), l .is)
 
+  line-at : getElem? (fullList N) (n - 1) ≡ some cur
+  line-at = subst (λ i. getElem? (fullList N) i ≡ some cur) {x = l .place} {y = n - 1} (omega (arith, l .is)) (l .stands)
+
   -- n is one more than the cap
-  pub line-beyond : (cap : ℕ) → n ≡ suc cap → counted cap n ≡ countFlows N cap
-  line-beyond cap e = beyond cap n (omega arith) ∙ sym (beyond cap (length (fullList N)) (omega (arith, line-in)))
+  pub line-beyond : (cap : ℕ) → n ≡ suc cap → Counts N cap n cur
+  line-beyond cap e = record { counts = all-beyond cap e; last = line-at }
+    where
+      all-beyond : (cap : ℕ) → n ≡ suc cap → counted cap n ≡ countFlows N cap
+      all-beyond cap e = beyond cap n (omega arith) ∙ sym (beyond cap (length (fullList N)) (omega (arith, line-in)))
 
   module _ (ok : WellFormed N) where
     follow : nextFlow N cur ≡ getElem? (fullList N) (suc (l .place))
@@ -55,5 +61,8 @@ module _ (N : Net) (n : ℕ) (cur : List ℕ) (l : Line N n cur) where
     pub line-next : (g : List ℕ) (r : Bool) → r ≡ true → Next N cur g r → Line N (n + 1) g
     line-next g r e x = record { least = x .least e; place = suc (l .place); is = omega (arith, l .is); stands = sym follow ∙ x .follows e }
 
-    pub line-last : (cap : ℕ) (g : List ℕ) (r : Bool) → r ≡ false → Next N cur g r → counted cap n ≡ countFlows N cap
-    line-last cap g r e x = ap (counted cap) (omega (arith, none-out (fullList N) (suc (l .place)) (sym follow ∙ x .end e), line-in, l .is))
+    pub line-last : (cap : ℕ) (g : List ℕ) (r : Bool) → r ≡ false → g ≡ cur → Next N cur g r → Counts N cap n g
+    line-last cap g r e q x = record {
+      counts = ap (counted cap) (omega (arith, none-out (fullList N) (suc (l .place)) (sym follow ∙ x .end e), line-in, l .is));
+      last = line-at ∙ ap some (sym q);
+    }

@@ -5,14 +5,13 @@ ghost use mathlib.Core.Bool.{true, false};
 ghost use mathlib.Core.Option.{some};
 ghost use Prim.Native.Nat.{_+_, _≤_, _<_};
 ghost use lib.ListN.{length};
-ghost use Rattle.laws.specs.Count.{counted};
-ghost use Rattle.network.specs.FullList.{firstFlow, countFlows};
+ghost use Rattle.network.specs.FullList.{firstFlow};
 ghost use Rattle.certificates.specs.Graph.{graph};
 ghost use Rattle.certificates.specs.Push.{InBounds};
 ghost use Rattle.certificates.specs.Ready.{Ready};
 ghost use Rattle.arc_change.specs.Tight.{Tight, ForAll};
 ghost use Rattle.flows.specs.Minimising.{Minimised};
-ghost use Rattle.flows.specs.Following.{Next};
+ghost use Rattle.flows.specs.Following.{Next, Counts};
 
 // Every arc from k on as low as it can be, in order. Only the arcs that can be lowered are gone to.
 pub fn minimise(
@@ -56,7 +55,7 @@ pub fn next(
     true
 }
 
-// How many least-cost flows there are, given the first; one more than the cap if there are more than the cap.
+// How many least-cost flows there are, given the first; one more than the cap if there are more than the cap. The flow is then the last one met.
 pub fn count(
     tails: &[u8],
     heads: &[u8],
@@ -67,7 +66,7 @@ pub fn count(
     cap: u16,
 ) -> usize
     requires { ⌜ Ready (graph (now tails) (now heads) (now lows) (now ups)) (now flow) (now tight) ⌝ }
-    ensures { λ r. ⌜ (r ≤ cap + 1) × ForAll (now (tails .entry)) (now (heads .entry)) (now (lows .entry)) (now (ups .entry)) (λ N π. Tight N π (now (tight .entry)) (now (flow .entry)) → firstFlow N ≡ some (now (flow .entry)) → counted cap r ≡ countFlows N cap) ⌝ }
+    ensures { λ r. ⌜ (r ≤ cap + 1) × ForAll (now (tails .entry)) (now (heads .entry)) (now (lows .entry)) (now (ups .entry)) (λ N π. Tight N π (now (tight .entry)) (now (flow .entry)) → firstFlow N ≡ some (now (flow .entry)) → Counts N cap r (now (flow .exit))) ⌝ }
 {
     let most = cap as usize;
     let mut n = 1;

@@ -59,7 +59,7 @@ valueOf-high f B (some m) h = h m refl
 
 module _ (b : Book) (fee e : ℕ) (ticks costs instruments starts finishes : List ℕ) (T : Tables b fee e ticks costs instruments starts finishes) where
   column-long : (f : Entry → ℕ) → length (column f (b .entries)) ≡ 28
-  column-long f = padded-length 28 0 (map f (b .entries)) (omega (arith, length-map (b .entries) f, T .accepted .few))
+  column-long f = padded-length 28 0 (map f (b .entries)) (omega (arith, length-map (b .entries) f, T .limits .few))
 
   pub ticks-long : length ticks ≡ 256
   ticks-long = ap length (T .ticks-are) ∙ tabulate-length 256 _
@@ -79,7 +79,7 @@ module _ (b : Book) (fee e : ℕ) (ticks costs instruments starts finishes : Lis
   -- the numbers of entry i
   module _ (i : ℕ) (low : 1 ≤ i) (high : i ≤ size b) where
     pub fair-at : FairEntry (entryAt b i)
-    fair-at = fair-entry (entryAt b i) (T .accepted .fair-entries (i - 1) (omega arith))
+    fair-at = fair-entry (entryAt b i) (T .limits .fair-entries (i - 1) (omega arith))
 
     pub instrument-at : getD instruments (i - 1) 0 ≡ entryAt b i .instrument
     instrument-at = ap (λ l. getD l (i - 1) 0) (T .instruments-are) ∙ column-at (λ e. e .instrument) (b .entries) (i - 1) (omega arith)
@@ -112,7 +112,7 @@ module _ (b : Book) (fee e : ℕ) (ticks costs instruments starts finishes : Lis
     costs-at = ap (λ l. getD l ((p - 1) * 16 + (q - 1)) 0) (T .costs-are) ∙ cell-at (λ m. m .cost)
 
     pub ticks-small : getD ticks ((p - 1) * 16 + (q - 1)) 0 ≤ 1000001
-    ticks-small = rw ticks-at (valueOf-high (λ m. m .ticks + 1) 1000001 (moveOf (b .moves) p q) (λ m e. (let h = fair-parts m (T .accepted .fair-moves p q m e) .ticks-high in omega arith)))
+    ticks-small = rw ticks-at (valueOf-high (λ m. m .ticks + 1) 1000001 (moveOf (b .moves) p q) (λ m e. (let h = fair-parts m (T .limits .fair-moves p q m e) .ticks-high in omega arith)))
 
   pub join-opening : (i j : ℕ) → i ≡ 0 → At fee ≡ joinOf (offer b i j)
   join-opening i j z = rw z (ap At (T .fee-is))
@@ -170,7 +170,7 @@ pub can-read : {fee e : ℕ} {ticks costs instruments starts finishes : List ℕ
 can-read {fee} {e} {ticks} {costs} {instruments} {starts} {finishes} i j h il ih jl jh =
     let b = h .book in
     let T = h .tables in
-    let f = T .accepted .few in
+    let f = T .limits .few in
     let n = T .entries-are in
     let u = instrument-in b fee e ticks costs instruments starts finishes T i il (omega arith) in
     let v = instrument-in b fee e ticks costs instruments starts finishes T j jl (omega arith) in

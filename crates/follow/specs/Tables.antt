@@ -4,12 +4,12 @@ use mathlib.Core.List.{List}
 use Prim.Native.Nat.{ℕ, _+_}
 use Rattle.lines.specs.Columns.{table, column}
 use Rattle.book.specs.Book.{Book}
-use Rattle.book.proofs.Accepted.{Accepted}
+use Rattle.book.specs.WithinLimits.{WithinLimits}
 use Rattle.allocation.specs.Follow.{size}
 
 -- they are those of the book b
 pub record Tables (b : Book) (fee e : ℕ) (ticks costs instruments starts finishes : List ℕ) : Type 0 where
-  pub accepted : Accepted b
+  pub limits : WithinLimits b
   pub fee-is : fee ≡ b .fee
   pub entries-are : e ≡ size b
   pub ticks-are : ticks ≡ table (λ m. m .ticks + 1) (b .moves)

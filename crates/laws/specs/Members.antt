@@ -113,6 +113,10 @@ module _ {A : Type 0} where
   first-at [] = refl
   first-at (a ∷ l) = refl
 
+  pub first-member : (l : List A) (a : A) → first? l ≡ some a → a ∈ l
+  first-member [] a e = absurd (none-some a e)
+  first-member (b ∷ l) a e = inl (cc)
+
 module _ {A B : Type 0} (f : A → B) where
   pub map-member : (l : List A) (a : A) → a ∈ l → f a ∈ map f l
   map-member [] a m = absurd m

@@ -46,7 +46,8 @@ written w (line v) = some v
 
 -- L: the full list. copy: a line as a caller gives it back. refuses: the number of the first question that a call fails.
 module _ {Line F G N : Type 0} (same : Discrete G) (copy : Line → G) (L : List Line) (refuses : Call F G N → Option ℕ) where
-  -- the reader
+  -- the reader. A consistent run (below) never has him answer `next` with his finger on no line: there is no line written then, and a list that
+  -- is not on L is refused.
   abbrev pub readUnless : Option ℕ → Finger → Call F G N → Finger × Answer Line
   readUnless (some n) f c = (f, refused n)
   readUnless none f (first a) = (moved f 0 (getElem? L 0), shown (getElem? L 0) nothing)
@@ -69,14 +70,14 @@ module _ {Line F G N : Type 0} (same : Discrete G) (copy : Line → G) (L : List
   abbrev pub Strange : G → Type 0
   Strange g = (i : ℕ) (v : Line) → getElem? L i ≡ some v → ¬ (copy v ≡ g)
 
-  -- each `next` is given a copy of the line last written, or a list that is not on L
-  abbrev pub FairCall : Option Line → Call F G N → Type 0
-  FairCall w (first a) = Unit {0}
-  FairCall w (next g b) = ((v : Line) × (w ≡ some v) × (copy v ≡ g)) ⊎ Strange g
+  -- a consistent run: each `next` is given a copy of the line last written, or a list that is not on L
+  abbrev pub ConsistentCall : Option Line → Call F G N → Type 0
+  ConsistentCall w (first a) = Unit {0}
+  ConsistentCall w (next g b) = ((v : Line) × (w ≡ some v) × (copy v ≡ g)) ⊎ Strange g
 
-  abbrev pub FairRun : {Seen : Type 0} → Option Line → List (Call F G N × Seen) → Type 0
-  FairRun w [] = Unit {0}
-  FairRun w (e ∷ r) = FairCall w (e .0) × FairRun (written w (respond (e .0))) r
+  abbrev pub ConsistentRun : {Seen : Type 0} → Option Line → List (Call F G N × Seen) → Type 0
+  ConsistentRun w [] = Unit {0}
+  ConsistentRun w (e ∷ r) = ConsistentCall w (e .0) × ConsistentRun (written w (respond (e .0))) r
 
   -- Right c a s: what is seen, s, is right for the call c and the answer a
   module _ {Seen : Type 0} (Right : Call F G N → Answer Line → Seen → Type 0) where
@@ -109,7 +110,7 @@ module _ {Line F G N : Type 0} (same : Discrete G) (copy : Line → G) (L : List
     (apart : (c : Call F G N) → refuses c ≡ none → Apart copy L)
     (strange : (g : G) (b : N) → Strange same copy L refuses g → (n : ℕ) × (refuses (next g b) ≡ some n)) where
   agree : (t : Option ℕ) (w : Option Line) (f : Finger) (c : Call F G N)
-      → refuses c ≡ t → FairCall same copy L refuses w c → Points same copy L refuses w f → Agree same copy L refuses t w f c
+      → refuses c ≡ t → ConsistentCall same copy L refuses w c → Points same copy L refuses w f → Agree same copy L refuses t w f c
   agree (some n) w f c e g s = (refl, s)
   agree none w f (first a) e g s = rw (first-at L) (refl, shown-points same copy L refuses (getElem? L 0) 0 nothing w f refl refl s)
   agree none w f (next g b) e (inr n) s = absurd (let (k, q) = strange g b n in let z : _≡_ {A = ℕ} 0 1 = cc in omega arith)
@@ -120,7 +121,7 @@ module _ {Line F G N : Type 0} (same : Discrete G) (copy : Line → G) (L : List
       rw p (refl, shown-points same copy L refuses (getElem? L (suc i)) (suc i) end (some u) (on i) refl refl s)
 
   module _ {Seen : Type 0} (Right : Call F G N → Answer Line → Seen → Type 0) where
-    run-from : (r : List (Call F G N × Seen)) (w : Option Line) (f : Finger) → FairRun same copy L refuses w r → Points same copy L refuses w f
+    run-from : (r : List (Call F G N × Seen)) (w : Option Line) (f : Finger) → ConsistentRun same copy L refuses w r → Points same copy L refuses w f
         → Kept same copy L refuses Right r → AsRead same copy L refuses Right f r
     run-from [] w f g s k = tt
     run-from (e ∷ r) w f g s k =
@@ -128,5 +129,5 @@ module _ {Line F G N : Type 0} (same : Discrete G) (copy : Line → G) (L : List
         (subst (λ a. Right (e .0) a (e .1)) p (k .0), run-from r (written w (respond same copy L refuses (e .0))) (read same copy L refuses f (e .0) .0) (g .1) q (k .1))
 
     -- the whole run: nothing written, the finger on no line
-    pub run-is-read : (r : List (Call F G N × Seen)) → FairRun same copy L refuses none r → Kept same copy L refuses Right r → AsRead same copy L refuses Right off r
+    pub run-is-read : (r : List (Call F G N × Seen)) → ConsistentRun same copy L refuses none r → Kept same copy L refuses Right r → AsRead same copy L refuses Right off r
     run-is-read r g k = run-from r none off g tt k

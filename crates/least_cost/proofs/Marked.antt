@@ -1,49 +1,30 @@
--- From the labels of a flow to its marks, and back to a potential.
-use mathlib.Core.Path.{_≡_, refl, ap, _∙_}
+-- From the labels of a flow to its marks, and back to a feasible potential.
+use mathlib.Core.Path.{_≡_, ap, _∙_}
 use mathlib.Core.Logic.{⊎-elim}
-use mathlib.Core.Bool.{Bool, true, false}
-use mathlib.Core.List.{List}
+use mathlib.Core.Bool.{Bool}
+use mathlib.Core.List.{List, []}
 use mathlib.Core.Option.{none, some}
-use Prim.Native.Nat.{ℕ, _/_, _%_, _<_}
+use Prim.Native.Nat.{ℕ, _<_}
 use native.Mathlib.Omega.{arith}
-use lib.Dec.{eqb}
 use lib.ListN.{length, getD}
 use lib.IntN.{ℤ, pos}
-use lib.Signed.{_≤ℤ_}
-use borrow.Author.Tests.{ltb-true}
-use Rattle.laws.specs.Linear.{lin, given}
-use Rattle.network.specs.Network.{Net, low, up, WellFormed, IsFlow, LeastCost}
-use Rattle.network.specs.Residual.{codes, usable}
+use Rattle.network.specs.Network.{Net, low, WellFormed, IsFlow, LeastCost}
 use Rattle.network.specs.FullList.{firstFlow}
 use Rattle.laws.specs.Members.{first?}
 use Rattle.network.proofs.FullList.{none-iff}
-use Rattle.certificates.specs.Optimality.{Optimal, priced-optimal, off-tight, stepReduced}
+use Rattle.certificates.specs.Optimality.{off-tight}
 use Rattle.certificates.specs.Order.{first-line}
 use Rattle.certificates.specs.FreeArcs.{NotRaisable, NotLowerable}
-use Rattle.certificates.specs.Graph.{graph, netWith}
-use Rattle.relaxation.specs.Labels.{costGraph}
-use Rattle.relaxation.specs.Potentials.{Quiet, Settled}
-use Rattle.relaxation.proofs.Trips.{roomy-usable, usable-roomy}
+use Rattle.certificates.specs.Graph.{graph, netWith, costGraph}
+use Rattle.relaxation.specs.Potentials.{Settled}
 use Rattle.search.specs.Search.{QuietLabels}
 use Rattle.closure.specs.Candidates.{Narrowed}
 use Rattle.flows.specs.Minimising.{Minimised}
 use Rattle.arc_change.proofs.Certified.{tight-any}
 use Rattle.arc_change.specs.Tight.{Tight}
 use Rattle.arc_change.proofs.Candidates.{at-most, at-least}
-use Rattle.costs.specs.Costs.{endsAndCosts, MarkedBelow}
+use Rattle.costs.specs.Costs.{MarkedBelow}
 use Rattle.least_cost.specs.Marked.{Marked}
-
--- no residual arc below 0: every one at least 0, arc by arc
-quiet-optimal : (N : Net) (f : List ℕ) (π : ℕ → ℤ) → Quiet N f 1 π → Optimal N f π
-quiet-optimal N f π q = priced-optimal N f π (λ c k r. given (q .reduced c k (usable-roomy N f c r)) (simp lin (omega arith)))
-
--- and code by code
-optimal-priced : (N : Net) (f : List ℕ) (π : ℕ → ℤ) → Optimal N f π → (e : ℕ) → e < codes N → usable N f e ≡ true → pos 0 ≤ℤ stepReduced N π e
-optimal-priced N f π o e k r = go (eqb (e % 2) 0) refl
-  where
-    go : (t : Bool) → eqb (e % 2) 0 ≡ t → pos 0 ≤ℤ stepReduced N π e
-    go true q = rw q (o .room-up (e / 2) (omega arith) (ltb-true (getD f (e / 2) 0) (up N (e / 2)) (rw q at r)))
-    go false q = rw q (given (o .room-down (e / 2) (omega arith) (ltb-true (low N (e / 2)) (getD f (e / 2) 0) (rw q at r))) (simp lin (omega arith)))
 
 -- fewer marks: an arc that no least-cost flow moves needs none
 narrowed : (t h l u : List ℕ) (b c : List ℤ) (π : ℕ → ℤ) (tight : List Bool) (f : List ℕ) → Tight (netWith b t h l u c) π tight f → (left : List Bool) → Narrowed (graph t h l u) f tight left → Tight (netWith b t h l u c) π left f
@@ -52,7 +33,7 @@ narrowed t h l u b c π tight f ti left n = record {
   marked = λ a p e. ti .marked a p (⊎-elim (λ r. r .0) (λ r. r .0) (n .left a p e));
   unmarked = λ a p e g lg. same a p g lg (n .others a p e);
   least = ti .least;
-  optimal = ti .optimal;
+  feasible = ti .feasible;
 }
   where
     same : (a : ℕ) → a < length t → (g : List ℕ) → LeastCost (netWith b t h l u c) g → NotRaisable (graph t h l u) f tight 0 a × NotLowerable (graph t h l u) f tight 0 a → getD g a 0 ≡ getD f a 0
@@ -60,52 +41,46 @@ narrowed t h l u b c π tight f ti left n = record {
 
 module _ (b : List ℤ) (t h l u : List ℕ) (c : List ℤ) (f : List ℕ) where
   pub settled-bare : Settled (netWith b t h l u c) f 1 → Settled (costGraph t h l u c) f 1
-  settled-bare s = record { potential = s .potential; quiet = record { low = s .quiet .low; reduced = s .quiet .reduced } }
+  settled-bare s = record { potential = s .potential; feasible = s .feasible }
 
   pub labels-whole : (d : List ℤ) → QuietLabels (costGraph t h l u c) f 1 d → QuietLabels (netWith b t h l u c) f 1 d
-  labels-whole d q = record { len = q .len; quiet = record { low = q .quiet .low; reduced = q .quiet .reduced }; small = q .small }
+  labels-whole d q = record { len = q .len; low = q .low; feasible = q .feasible; small = q .small }
 
   pub marked-by : WellFormed (netWith b t h l u c) → LeastCost (netWith b t h l u c) f → (d : List ℤ) → QuietLabels (netWith b t h l u c) f 1 d
-      → (tight : List Bool) → length tight ≡ length t → MarkedBelow (endsAndCosts t h c) (λ v. getD d v (pos 0)) tight (length t) → Marked (netWith b t h l u c) tight f
+      → (tight : List Bool) → length tight ≡ length t → MarkedBelow (costGraph t h [] [] c) (λ v. getD d v (pos 0)) tight (length t) → Marked (netWith b t h l u c) tight f
   marked-by ok least d q tight e m = record {
     potential = π;
-    low = q .quiet .low;
     marks-len = e;
     marks = record {
       well-formed = ok;
       marked = m .marked;
-      unmarked = λ a k z g lg. off-tight (netWith b t h l u c) ok f g π (least .flow) optimal lg a k (m .unmarked a k z);
+      unmarked = λ a k z g lg. off-tight (netWith b t h l u c) ok f g π (least .flow) (q .feasible) lg a k (m .unmarked a k z);
       least = least;
-      optimal = optimal;
+      feasible = q .feasible;
     };
   }
     where
       π : ℕ → ℤ
       π v = getD d v (pos 0)
 
-      optimal : Optimal (netWith b t h l u c) f π
-      optimal = quiet-optimal (netWith b t h l u c) f π (q .quiet)
-
   pub marked-narrowed : (tight left : List Bool) → Marked (netWith b t h l u c) tight f → length left ≡ length tight → Narrowed (graph t h l u) f tight left → Marked (netWith b t h l u c) left f
   marked-narrowed tight left m e n = record {
     potential = m .potential;
-    low = m .low;
     marks-len = e ∙ m .marks-len;
     marks = narrowed t h l u b c (m .potential) tight f (m .marks) left n;
   }
 
-  -- a potential from the marks
+  -- a feasible potential from the marks
   pub marked-settled : (tight : List Bool) → Marked (netWith b t h l u c) tight f → Settled (netWith b t h l u c) f 1
   marked-settled tight m = record {
     potential = m .potential;
-    quiet = record { low = m .low; reduced = λ e k r. given (optimal-priced (netWith b t h l u c) f (m .potential) (m .marks .optimal) e k (roomy-usable (netWith b t h l u c) f 1 e (omega arith) r)) (simp lin (omega arith)) };
+    feasible = m .marks .feasible;
   }
 
 -- the marks of one flow serve every other
 pub marked-any : (N : Net) (tight : List Bool) (f g : List ℕ) → Marked N tight f → LeastCost N g → Marked N tight g
 marked-any N tight f g m least = record {
   potential = m .potential;
-  low = m .low;
   marks-len = m .marks-len;
   marks = tight-any N (m .potential) tight f g (m .marks) least;
 }

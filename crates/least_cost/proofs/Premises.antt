@@ -10,7 +10,6 @@ use lib.IntN.{ℤ, pos}
 use Rattle.laws.specs.Range.{Bounded, bounded-iff, bounded-more, bounded-zero}
 use Rattle.network.specs.Accepted.{AcceptedNet}
 use Rattle.certificates.specs.Push.{InBounds}
-use Rattle.relaxation.specs.Labels.{costGraph, Relaxable}
 use Rattle.certificates.specs.Graph.{graph, netWith}
 use Rattle.certificates.specs.Ready.{Ready, SmallBounds}
 use Rattle.flow_test.specs.FlowTest.{Given}
@@ -18,9 +17,6 @@ use Rattle.flow_test.specs.FlowTest.{Given}
 module _ (b : List ℤ) (t h l u : List ℕ) (c : List ℤ) (ok : AcceptedNet (netWith b t h l u c)) where
   small : SmallBounds (graph t h l u)
   small = record { few = ok .few-arcs; lows-len = ok .well-formed .lows-len; ups-len = ok .well-formed .ups-len; ups-small = ok .up-small }
-
-  pub cost-small : (a : ℕ) → a < length t → Bounded 1000000 (getD c a (pos 0))
-  cost-small a k = let (p, q) = ok .cost-small a k in bounded-iff 1000000 (getD c a (pos 0)) .1 (q, p)
 
   balance-small : (v : ℕ) → Bounded 1000000000 (getD b v (pos 0))
   balance-small v = go (decLt v (length b))
@@ -43,24 +39,6 @@ module _ (b : List ℤ) (t h l u : List ℕ) (c : List ℤ) (ok : AcceptedNet (n
 
   -- f within the bounds
   module _ (f : List ℕ) (bounds : InBounds (netWith b t h l u c) f) where
-    pub relaxable : Relaxable (costGraph t h l u c) f
-    relaxable = record {
-      graph = record {
-        few = ok .few-arcs;
-        heads-len = ok .well-formed .heads-len;
-        tail-in = λ a k. omega (arith, ok .well-formed .tail-in a k, ok .few-nodes);
-        head-in = λ a k. omega (arith, ok .well-formed .head-in a k, ok .few-nodes);
-      };
-      lows-len = ok .well-formed .lows-len;
-      ups-len = ok .well-formed .ups-len;
-      costs-len = ok .well-formed .costs-len;
-      flow-len = bounds .all-arcs;
-      up-small = ok .up-small;
-      low-flow = bounds .above;
-      flow-up = bounds .below;
-      cost-small = cost-small;
-    }
-
     pub ready : (tight : List Bool) → length tight ≡ length t → Ready (graph t h l u) f tight
     ready tight e = record {
       searchable = record {

@@ -3,20 +3,17 @@ use mathlib.Core.Path.{_≡_, refl, subst}
 use mathlib.Core.Bool.{Bool, true, false}
 use mathlib.Core.List.{List}
 use Prim.Native.Nat.{ℕ}
-use native.Mathlib.Omega.{arith}
 use lib.Dec.{eqb}
 use lib.ListN.{getD, take}
 use lib.IntN.{ℤ, pos}
 use borrow.Author.Tests.{eqb-true, eqb-false}
-use Rattle.laws.specs.Linear.{lin, given2}
 use Rattle.network.specs.Network.{Net, WellFormed, IsFlow, LeastCost}
-use Rattle.certificates.specs.Push.{pushAll}
-use Rattle.certificates.specs.Graph.{graph, netWith}
-use Rattle.pushing.specs.Pushing.{roomAll}
-use Rattle.relaxation.specs.Labels.{costGraph, Relaxable}
-use Rattle.search.specs.Search.{QuietLabels, Searched, NegativeCycle}
-use Rattle.cancelling.proofs.Cancelling.{labels-of, cycle-of, cancelled}
-use Rattle.cancelling.proofs.Cheapest.{quiet-least, rerouted-flow}
+use Rattle.certificates.specs.Optimality.{feasible-least}
+use Rattle.certificates.specs.Graph.{netWith, costGraph}
+use Rattle.relaxation.specs.Labels.{Relaxable}
+use Rattle.search.specs.Search.{QuietLabels, Searched}
+use Rattle.cancelling.proofs.Cancelling.{labels-of, cycle-of}
+use Rattle.cancelling.proofs.NegativeCycles.{no-cycle}
 use Rattle.least_cost.specs.Answers.{Tested}
 use Rattle.least_cost.proofs.Marked.{labels-whole}
 
@@ -28,18 +25,11 @@ tested-no N f d r t e = subst (Tested N f d) e t
 
 module _ (b : List ℤ) (t h l u : List ℕ) (c : List ℤ) (f : List ℕ)
     (ok : WellFormed (netWith b t h l u c)) (rel : Relaxable (costGraph t h l u c) f) (F : IsFlow (netWith b t h l u c) f) where
-  -- what goes round a negative cycle leaves a flow that costs less
-  no-cycle : (cs : List ℕ) → NegativeCycle (costGraph t h l u c) f 1 cs → ¬ LeastCost (netWith b t h l u c) f
-  no-cycle cs C L =
-      let d = roomAll (graph t t l u) f 1000000 cs in
-      let (R, less) = cancelled t h l u c f rel 1 cs C d refl (pushAll d cs f) refl in
-      given2 less (L .least (pushAll d cs f) (rerouted-flow b t h l u c f (pushAll d cs f) F R)) (simp lin (omega arith))
-
-  pub tested : (d : List ℤ) (out : List ℕ) (r : ℕ) → Searched (costGraph t h l u c) f 1 d out r → Tested (netWith b t h l u c) f d (eqb r 0)
-  tested d out r S = go (eqb r 0) refl
+  pub tested : (d : List ℤ) (out out′ : List ℕ) (r : ℕ) → Searched (costGraph t h l u c) f 1 d out out′ r → Tested (netWith b t h l u c) f d (eqb r 0)
+  tested d out out′ r S = go (eqb r 0) refl
     where
       go : (q : Bool) → eqb r 0 ≡ q → Tested (netWith b t h l u c) f d q
       go true q =
-          let s = labels-of (costGraph t h l u c) f 1 d out r S (eqb-true r 0 q) in
-          (quiet-least b t h l u c f ok F (λ v. getD d v (pos 0)) (s .quiet), labels-whole b t h l u c f d s)
-      go false q = no-cycle (take r out) (cycle-of (costGraph t h l u c) f 1 d out r S (eqb-false r 0 q) .1)
+          let s = labels-of (costGraph t h l u c) f 1 d out out′ r S (eqb-true r 0 q) in
+          (feasible-least (netWith b t h l u c) ok f (λ v. getD d v (pos 0)) F (s .feasible), labels-whole b t h l u c f d s)
+      go false q = no-cycle b t h l u c f rel F (take r out′) (cycle-of (costGraph t h l u c) f 1 d out out′ r S (eqb-false r 0 q) .1)

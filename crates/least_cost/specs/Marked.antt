@@ -4,14 +4,12 @@ use mathlib.Core.Bool.{Bool}
 use mathlib.Core.List.{List}
 use Prim.Native.Nat.{ℕ}
 use lib.ListN.{length}
-use lib.IntN.{ℤ, pos}
-use lib.Signed.{_≤ℤ_}
+use lib.IntN.{ℤ}
 use Rattle.network.specs.Network.{Net, arcs}
 use Rattle.arc_change.specs.Tight.{Tight}
 
--- under some potential, `tight` marks arcs of reduced cost 0, all on which least-cost flows differ, and f is a least-cost flow
+-- under some potential, `tight` marks arcs of reduced cost 0, among them all on which least-cost flows differ, and f is a least-cost flow
 pub record Marked (N : Net) (tight : List Bool) (f : List ℕ) : Type 0 where
   pub potential : ℕ → ℤ
-  pub low : (v : ℕ) → potential v ≤ℤ pos 0
   pub marks-len : length tight ≡ arcs N
   pub marks : Tight N potential tight f

@@ -45,7 +45,8 @@ fn mark(
     costs::mark_tight(tails, heads, costs, labels, tight);
 }
 
-// The first flow, and its marks; false if there is none. A list begins here, so the marks are narrowed: a single step would not repay it.
+// The first flow, and its marks; false if there is none. A walk through a whole list may follow, so the marks are narrowed, which one step
+// (after `mark_if_least`) would not repay.
 pub fn first_flow(
     tails: &[u8],
     heads: &[u8],
@@ -57,7 +58,7 @@ pub fn first_flow(
     tight: &mut [bool],
 ) -> bool
     requires { ⌜ AcceptedNet (netWith (now balances) (now tails) (now heads) (now lows) (now ups) (now costs)) × (length (now flow) ≡ length (now tails)) × (length (now tight) ≡ length (now tails)) ⌝ }
-    ensures { λ r. ⌜ FirstFlow (netWith (now (balances .entry)) (now (tails .entry)) (now (heads .entry)) (now (lows .entry)) (now (ups .entry)) (now (costs .entry))) (now (flow .exit)) (now (tight .exit)) r ⌝ }
+    ensures { λ r. ⌜ FirstFlow (netWith (now (balances .entry)) (now (tails .entry)) (now (heads .entry)) (now (lows .entry)) (now (ups .entry)) (now (costs .entry))) (now (flow .exit)) (now (tight .entry)) (now (tight .exit)) r ⌝ }
 {
     if !starting_flow(tails, heads, lows, ups, costs, balances, flow) {
         return false;
@@ -113,7 +114,7 @@ pub fn mark_if_least(
     tight: &mut [bool],
 ) -> bool
     requires { ⌜ AcceptedNet (netWith (now balances) (now tails) (now heads) (now lows) (now ups) (now costs)) × (length (now flow) ≡ length (now tails)) × (length (now tight) ≡ length (now tails)) ⌝ }
-    ensures { λ r. ⌜ MarkedIfLeast (netWith (now (balances .entry)) (now (tails .entry)) (now (heads .entry)) (now (lows .entry)) (now (ups .entry)) (now (costs .entry))) (now (flow .entry)) (now (tight .exit)) r ⌝ }
+    ensures { λ r. ⌜ MarkedIfLeast (netWith (now (balances .entry)) (now (tails .entry)) (now (heads .entry)) (now (lows .entry)) (now (ups .entry)) (now (costs .entry))) (now (flow .entry)) (now (tight .entry)) (now (tight .exit)) r ⌝ }
 {
     let mut labels = [0i64; 64];
     if !is_least_cost(tails, heads, lows, ups, costs, balances, flow, &mut labels) {

@@ -1,17 +1,20 @@
--- The pass over the lines of entries. Assumes nothing.
+-- The pass over the lines of entries.
 use Prim.Native.Nat.{ℕ, suc, _+_, _-_, _<_, _≤_}
 use mathlib.Core.Path.{_≡_, refl, sym, ap, subst, _∙_}
+use mathlib.Core.Bool.{Bool, true, false}
 use mathlib.Core.List.{List, [], _∷_, _++_, map}
 use native.Mathlib.Omega.{arith}
 use lib.ListN.{length, length-append, length-map, length-drop, take, drop, getD, set, replicate}
-use lib.Seq.{set-at, append-snoc, drop-drop, getD-drop, length-take-le}
+use lib.Seq.{set-at, append-snoc, drop-drop, getD-drop, length-take-le, take-all, take-append-le}
+use lib.Dec.{leb}
+use borrow.Author.Tests.{leb-true, leb-false}
 use Rattle.lines.specs.declared.entries.EntryLine.{EntryLine}
 use Rattle.lines.specs.declared.entries.Columns.{Columns}
 use Rattle.text.specs.Reader.{fails, give}
 use Rattle.lines.specs.Lines.{Entry, entry}
 use Rattle.lines.specs.Questions.{fairEntry, entries}
 use Rattle.lines.specs.Columns.{column, nobody}
-use Rattle.lines.specs.Passes.{firstBad, Verdict, entryOf, EntryRead, fairLine, putIn, columnsOf, Placed}
+use Rattle.lines.specs.Passes.{firstBad, Verdict, entryOf, noEntry, EntryRead, fairLine, putIn, columnsOf, Placed}
 use Rattle.laws.specs.Suffix.{take-rest}
 use Rattle.laws.specs.Snoc.{each-more, map-more}
 use Rattle.text.proofs.Runs.{absent}
@@ -19,14 +22,14 @@ use Rattle.text.proofs.Sequence.{From, ends, part}
 use Rattle.lines.proofs.Verdicts.{verdict-none, verdict-more}
 
 -- The line of an entry.
-pub entry-absent : (s : List ℕ) (r : EntryLine) → entry s ≡ fails → (r .used ≡ 0) × (r .left ≡ 0) × (r .length ≡ 0) → EntryRead s r
-entry-absent s r e z = record { right = rw (z .0) (absent e); begins = omega (arith, z .1); ends = omega (arith, z .1, z .2); some = λ n. absurd (n (z .0)) }
+pub entry-absent : (s : List ℕ) (r : EntryLine) → entry s ≡ fails → r ≡ noEntry → EntryRead s r
+entry-absent s r e z = rw z (record { right = absent e; none = λ _. refl; begins = omega arith; ends = omega arith; some = λ n. absurd (n refl) })
 
 pub entry-present : (s numbers : List ℕ) (n len used : ℕ) → n + len ≤ length s → (len ≡ 0 → ⊥)
     → From (entry s) (give (record { name = take len (part s n); left = length s - n; instrument = getD (drop 1 numbers) 0 0; start = getD (drop 1 numbers) 1 0; finish = getD (drop 1 numbers) 2 0 })) s used
     → 0 < used
     → EntryRead s (record { left = length s - n; length = len; instrument = getD numbers 1 0; start = getD numbers 2 0; finish = getD numbers 3 0; used = used })
-entry-present s numbers n len used h l f u = record { right = rw (value, ← take-rest s n, ← getD-drop 1 numbers 0 0, ← getD-drop 1 numbers 1 0, ← getD-drop 1 numbers 2 0) (ends f u); begins = omega arith; ends = omega arith; some = λ _. omega arith }
+entry-present s numbers n len used h l f u = record { right = rw (value, ← take-rest s n, ← getD-drop 1 numbers 0 0, ← getD-drop 1 numbers 1 0, ← getD-drop 1 numbers 2 0) (ends f u); none = λ z. absurd (omega arith); begins = omega arith; ends = omega arith; some = λ _. omega arith }
   where
     value : length s - (length s - n) ≡ n
     value = omega arith
@@ -66,24 +69,24 @@ pub record Known (s : List ℕ) (first total : ℕ) (done : List Entry) (count l
   pub count-is : count ≡ length done
   pub line-is : line ≡ first + length done
   pub verdict : Verdict first (entries done) bad
-  pub columns-are : length done ≤ 28 → columns ≡ columnsOf total done
+  pub columns-are : columns ≡ columnsOf total (take 28 done)
   pub placed : (n : ℕ) → n < length done → Placed s (getD done n nobody)
 
 pub known-none : (s : List ℕ) (first total : ℕ) → Known s first total [] 0 first 0 (columnsOf total [])
 known-none s first total =
-    record { count-is = refl; line-is = omega arith; verdict = verdict-none first; columns-are = λ _. refl; placed = λ n h. absurd (omega arith) }
+    record { count-is = refl; line-is = omega arith; verdict = verdict-none first; columns-are = refl; placed = λ n h. absurd (omega arith) }
 
 pub known-more : (s : List ℕ) (first total : ℕ) (done : List Entry) (count line bad : ℕ) (columns columns′ : Columns) (t : List ℕ) (r : EntryLine)
     → Known s first total done count line bad columns → 1 ≤ first
-    → (count < 28 → columns′ ≡ putIn columns count total r)
+    → (count < 28 → columns′ ≡ putIn columns count total r) → (28 ≤ count → columns′ ≡ columns)
     → EntryRead t r → (r .used ≡ 0 → ⊥) → t ≡ drop (length s - length t) s
     → Known s first total (done ++ (entryOf t r ∷ [])) (count + 1) (line + 1) (firstBad bad (fairLine r) line) columns′
-known-more s first total done count line bad columns columns′ t r k f put e z p =
+known-more s first total done count line bad columns columns′ t r k f put keep e z p =
     record {
       count-is = omega (arith, k .count-is, longer);
       line-is = omega (arith, k .line-is, longer);
       verdict = rw (map-more fairEntry done (entryOf t r)) (verdict-more (k .verdict) (fairLine r) (fairEntry (entryOf t r)) line (λ _. refl) (omega (arith, k .line-is, length-map done fairEntry)) (omega (arith, k .line-is)));
-      columns-are = λ few. put (omega (arith, k .count-is, longer)) ∙ rw (k .columns-are (omega (arith, longer)), k .count-is) (columns-more few);
+      columns-are = go (leb 28 count) refl;
       placed = each-more (λ x. Placed s x) nobody done (entryOf t r) (k .placed) (placed-drop s (length s - length t) (entryOf t r) (omega arith) (subst (λ (x : List ℕ). Placed x (entryOf t r)) p (name-placed t r e z)));
     }
   where
@@ -99,3 +102,12 @@ known-more s first total done count line bad columns columns′ t r k f put e z 
         let e4 = column-more (λ e. total - e .left) done (entryOf t r) (total - r .left) room refl in
         let e5 = column-more (λ e. length (e .name)) done (entryOf t r) (r .length) room (name-length t r e) in
         cc
+
+    go : (x : Bool) → leb 28 count ≡ x → columns′ ≡ columnsOf total (take 28 (done ++ (entryOf t r ∷ [])))
+    go true q =
+        let h = leb-true 28 count q in
+        keep h ∙ k .columns-are ∙ ap (columnsOf total) (sym (take-append-le 28 done (entryOf t r ∷ []) (omega (arith, k .count-is))))
+    go false q =
+        let h = leb-false 28 count q in
+        let few : length (done ++ (entryOf t r ∷ [])) ≤ 28 = omega (arith, k .count-is, longer) in
+        put h ∙ rw (k .columns-are, take-all 28 done (omega (arith, longer)), k .count-is) (columns-more few) ∙ ap (columnsOf total) (sym (take-all 28 (done ++ (entryOf t r ∷ [])) few))

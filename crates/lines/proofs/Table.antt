@@ -1,4 +1,4 @@
--- The tables of the moves, line by line. Assumes nothing.
+-- The tables of the moves, line by line.
 use Prim.Native.Nat.{ℕ, _+_, _/_, _%_, _<_, _≤_}
 use mathlib.Core.Path.{_≡_, refl, sym, ap, _∙_}
 use mathlib.Core.Bool.{Bool, true, false, not, cond, _&&_, false≢true}

@@ -1,4 +1,4 @@
--- A question put to one line after another. Assumes nothing.
+-- A question put to one line after another.
 use Prim.Native.Nat.{ℕ, zero, suc, _+_, _<_}
 use mathlib.Core.Path.{_≡_, refl, sym, ap, _∙_}
 use mathlib.Core.Bool.{Bool, true, false, cond, _&&_, true≢false}
@@ -43,15 +43,6 @@ module _ {first : ℕ} {answers : List Bool} {bad : ℕ} (v : Verdict first answ
       go false q y r =
           let z = eqb-false bad 0 q in
           record { passed = λ n. absurd (z n); failed = λ _. let f = v .failed z in (f .0, f .1, fails-more answers answer (f .0) (f .2)) }
-
-  -- where no line fails, none failed before, and this one passes
-  pub none-bad : 0 < line → firstBad bad passes line ≡ 0 → (bad ≡ 0) × (passes ≡ true)
-  none-bad h = go (eqb bad 0) refl passes refl
-    where
-      go : (x : Bool) → eqb bad 0 ≡ x → (y : Bool) → passes ≡ y → cond x (cond y 0 line) bad ≡ 0 → (bad ≡ 0) × (passes ≡ true)
-      go true q true r n = (eqb-true bad 0 q, r)
-      go true q false r n = absurd (omega arith)
-      go false q y r n = absurd (eqb-false bad 0 q n)
 
 pub moves-more : (ds ms : List Move) (m : Move) → moves ds (ms ++ (m ∷ [])) ≡ moves ds ms ++ (stands (ds ++ ms) m ∷ [])
 unfolding moves

@@ -2,7 +2,7 @@
 use Prim.Native.Nat.{ℕ, _+_, _*_, _-_, _≤_, _<_}
 use mathlib.Core.Path.{_≡_}
 use mathlib.Core.Bool.{Bool, true, cond, _&&_}
-use mathlib.Core.List.{List, []}
+use mathlib.Core.List.{List, [], _∷_, _++_}
 use lib.ListN.{length, take, drop, getD, set}
 use lib.Dec.{eqb, leb, ltb}
 use Rattle.text.specs.Reader.{reads, many, Right}
@@ -12,7 +12,7 @@ use Rattle.lines.specs.declared.entries.EntryLine.{EntryLine}
 use Rattle.lines.specs.declared.entries.Columns.{Columns}
 use Rattle.lines.specs.declared.entries.Entries.{Entries}
 use Rattle.lines.specs.Lines.{move, Entry, entry}
-use Rattle.lines.specs.Questions.{fairMove, moves, entries, all, FailsAt}
+use Rattle.lines.specs.Questions.{fairMove, stands, moves, entries, all, FailsAt}
 use Rattle.lines.specs.Columns.{table, column, nobody}
 
 -- the first line that failed, or 0
@@ -38,6 +38,11 @@ pub record Put (m : Move) (ticks costs ticks′ costs′ : List ℕ) (r : Bool) 
   pub ticks-are : ticks′ ≡ cond (free ticks m) (set ticks (place m) (m .ticks + 1)) ticks
   pub costs-are : costs′ ≡ cond (free ticks m) (set costs (place m) (m .cost)) costs
 
+-- the moves that the tables take, after `taken`: each that may stand by those taken before it. Where every line passes 14, that is all.
+unfoldable pub kept : List Move → List Move → List Move
+kept taken [] = taken
+kept taken (m ∷ later) = kept (cond (stands taken m) (taken ++ (m ∷ [])) taken) later
+
 -- the moves at the front of s
 pub record MovesRead (s : List ℕ) (r : Moves) : Type 0 where
   pub list : List Move
@@ -46,15 +51,20 @@ pub record MovesRead (s : List ℕ) (r : Moves) : Type 0 where
   pub few : length list ≤ r .used
   pub line : r .line ≡ 4 + length list
   pub verdict : Verdict 4 (moves [] list) (r .bad)
-  pub ticks : r .bad ≡ 0 → r .ticks ≡ table (λ m. m .ticks + 1) list
-  pub costs : r .bad ≡ 0 → r .costs ≡ table (λ m. m .cost) list
+  pub ticks : r .ticks ≡ table (λ m. m .ticks + 1) (kept [] list)
+  pub costs : r .costs ≡ table (λ m. m .cost) (kept [] list)
 
 -- the entry that a line of s tells of
 abbrev pub entryOf : List ℕ → EntryLine → Entry
 entryOf s r = record { name = take (r .length) (drop (length s - r .left) s); left = r .left; instrument = r .instrument; start = r .start; finish = r .finish }
 
+-- where no entry stands
+abbrev pub noEntry : EntryLine
+noEntry = record { left = 0; length = 0; instrument = 0; start = 0; finish = 0; used = 0 }
+
 pub record EntryRead (s : List ℕ) (r : EntryLine) : Type 0 where
   pub right : Right s (entry s) (r .used) (entryOf s r)
+  pub none : r .used ≡ 0 → r ≡ noEntry
   pub begins : r .left ≤ length s
   pub ends : r .length ≤ r .left
   pub some : (r .used ≡ 0 → ⊥) → 0 < r .length
@@ -90,12 +100,12 @@ pub record Placed (s : List ℕ) (e : Entry) : Type 0 where
   pub some : 0 < length (e .name)
   pub is : take (length (e .name)) (drop (length s - e .left) s) ≡ e .name
 
--- the entries at the front of s, whose first line is `first`
+-- the entries at the front of s, whose first line is `first`; the columns are those of the first 28
 pub record EntriesRead (s : List ℕ) (first total : ℕ) (r : Entries) : Type 0 where
   pub list : List Entry
   pub is : many entry s ≡ reads list (drop (r .used) s)
   pub within : r .used ≤ length s
   pub count : r .count ≡ length list
   pub verdict : Verdict first (entries list) (r .bad)
-  pub columns : length list ≤ 28 → r .columns ≡ columnsOf total list
+  pub columns : r .columns ≡ columnsOf total (take 28 list)
   pub placed : (n : ℕ) → n < length list → Placed s (getD list n nobody)

@@ -44,6 +44,7 @@ unfoldable pub all : List Bool → Bool
 all [] = true
 all (a ∷ l) = a && all l
 
--- line k is one of those that gave these answers, the first of which is line `first`, and it fails
+-- "13, 14 and 15 also carry the number of some line that fails": line k is one of those that gave these answers, the first of which is
+-- line `first`, and it fails
 abbrev pub FailsAt : ℕ → List Bool → ℕ → Type 0
 FailsAt first answers k = (n : ℕ) × (k ≡ first + n) × (getD answers n true ≡ false)

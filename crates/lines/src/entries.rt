@@ -6,7 +6,7 @@ use text::read_word;
 ghost use mathlib.Core.Path.{_≡_};
 ghost use Prim.Native.Nat.{_+_, _≤_, _<_};
 ghost use lib.ListN.{length};
-ghost use Rattle.lines.specs.Passes.{EntryRead, fairLine, putIn, EntriesRead};
+ghost use Rattle.lines.specs.Passes.{noEntry, EntryRead, fairLine, putIn, EntriesRead};
 
 // The line of an entry. `left` is how many bytes of `rest` are left where the name begins.
 pub struct EntryLine {
@@ -26,7 +26,7 @@ pub struct Columns {
     pub lengths: [usize; 28],
 }
 
-// The columns of the entries, of which there are `count`, if they are at most 28; and a line that fails, or 0.
+// The columns of the first 28 entries; `count` is how many entries there are, and `bad` a line that fails, or 0.
 pub struct Entries {
     pub columns: Columns,
     pub count: usize,
@@ -35,7 +35,7 @@ pub struct Entries {
 }
 
 fn no_entry() -> EntryLine
-    ensures { λ r. ⌜ (r .used ≡ 0) × (r .left ≡ 0) × (r .length ≡ 0) ⌝ }
+    ensures { λ r. ⌜ r ≡ noEntry ⌝ }
 {
     EntryLine {
         left: 0,

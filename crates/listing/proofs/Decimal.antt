@@ -1,4 +1,4 @@
--- The digits of a number: those of its tenth part, then the last one. Assumes nothing.
+-- The digits of a number: those of its tenth part, then the last one.
 use mathlib.Core.Path.{_≡_, refl, ap, _∙_}
 use mathlib.Core.Bool.{Bool, true, false}
 use mathlib.Core.List.{List, [], _∷_, _++_}

@@ -1,4 +1,4 @@
--- How long the lines are at most, for a caller that lends the room. Assumes nothing.
+-- How long the lines are at most, for a caller that lends the room.
 use mathlib.Core.Path.{_≡_, refl, ap}
 use mathlib.Core.Bool.{Bool, true, false}
 use mathlib.Core.List.{List, [], _∷_, _++_}

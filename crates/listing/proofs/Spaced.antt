@@ -1,4 +1,4 @@
--- A space and a number for each number of a list, by the number that comes next. Assumes nothing.
+-- A space and a number for each number of a list, by the number that comes next.
 use mathlib.Core.Path.{_≡_, refl, sym, ap, _∙_}
 use mathlib.Core.List.{List, [], _∷_, _++_, append-assoc, append-nil}
 use Prim.Native.Nat.{ℕ, _+_, _≤_, _<_}

@@ -1,4 +1,4 @@
 pub mod FullList
 pub mod Prices
-pub mod Examples
+pub mod Loops
 pub mod Struct

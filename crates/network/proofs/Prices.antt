@@ -13,17 +13,14 @@ use Rattle.laws.specs.Linear.{lin, given3}
 use Rattle.laws.specs.Integers.{leZ-true, eqZ, eqZ-true}
 use Rattle.laws.specs.Tests.{and-true, allBelow, all-below}
 use Rattle.network.specs.Network.{Net, nodes}
+use Rattle.network.specs.Potential.{FeasiblePotential}
 use Rattle.network.specs.Residual.{codes, usable, src, dst, stepCost, Walk, walkCost, Price}
 
--- a potential is at most 0, and no residual arc has a reduced cost below 0
-pub record Potential (N : Net) (f : List ℕ) (π : ℕ → ℤ) : Type 0 where
-  pub low : (v : ℕ) → v < nodes N → π v ≤ℤ pos 0
-  pub tight : (c : ℕ) → c < codes N → usable N f c ≡ true → π (dst N c) ≤ℤ (π (src N c) +ℤ stepCost N c)
-
-pub potential-least : (N : Net) (f : List ℕ) (π : ℕ → ℤ) → Potential N f π → (u v : ℕ) (cs : List ℕ) → u < nodes N → Walk N f u v cs → π v ≤ℤ walkCost N cs
-potential-least N f π p u v [] h w = subst (λ x. π x ≤ℤ pos 0) w (p .low u h)
+-- a feasible potential that is at most 0 where a walk starts
+potential-least : (N : Net) (f : List ℕ) (π : ℕ → ℤ) → FeasiblePotential N (usable N f) π → (u v : ℕ) (cs : List ℕ) → π u ≤ℤ pos 0 → Walk N f u v cs → π v ≤ℤ walkCost N cs
+potential-least N f π p u v [] h w = subst (λ x. π x ≤ℤ pos 0) w h
 potential-least N f π p u v (c ∷ cs) h w =
-    bound (π v) (π (dst N c)) (π (src N c)) (stepCost N c) (walkCost N cs) (subst (λ x. π x ≡ π (dst N c)) (w .2) refl) (p .tight c (w .0) (w .1)) (potential-least N f π p u (src N c) cs h (w .3))
+    bound (π v) (π (dst N c)) (π (src N c)) (stepCost N c) (walkCost N cs) (subst (λ x. π x ≡ π (dst N c)) (w .2) refl) (p c (w .0) (w .1)) (potential-least N f π p u (src N c) cs h (w .3))
   where
     bound : (a b d s t : ℤ) → a ≡ b → b ≤ℤ (d +ℤ s) → d ≤ℤ t → a ≤ℤ (s +ℤ t)
     bound a b d s t e g k = given3 e g k (simp lin (omega arith))
@@ -82,14 +79,11 @@ module _ (N : Net) (f : List ℕ) (ps : List ℤ) (walks : List (List ℕ)) wher
     starts = at v h .starts;
     leads = at v h .leads;
     costs = at v h .costs;
-    least = λ u cs k w. potential-least N f (λ u. getD ps u (pos 0)) π u v cs k w;
+    least = λ u cs k w. potential-least N f (λ u. getD ps u (pos 0)) feasible u v cs (at u k .low) w;
   }
     where
       at : (u : ℕ) → u < nodes N → Reached u
       at u k = reached u (all-below (nodes N) reaches (and-true (allBelow (nodes N) reaches) (allBelow (codes N) reduces) e .0) u k)
 
-      π : Potential N f (λ u. getD ps u (pos 0))
-      π = record {
-        low = λ u k. at u k .low;
-        tight = λ c k t. leZ-true _ _ (or-true (usable N f c) _ t (all-below (codes N) reduces (and-true (allBelow (nodes N) reaches) (allBelow (codes N) reduces) e .1) c k));
-      }
+      feasible : FeasiblePotential N (usable N f) (λ u. getD ps u (pos 0))
+      feasible c k t = leZ-true _ _ (or-true (usable N f c) _ t (all-below (codes N) reduces (and-true (allBelow (nodes N) reaches) (allBelow (codes N) reduces) e .1) c k))

@@ -1,3 +1,4 @@
 pub mod NetworkCalls
 pub mod NetworkRun
+pub mod NetworkEntries
 pub mod FirstFlow

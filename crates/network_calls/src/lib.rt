@@ -1,19 +1,10 @@
 // The calls of a network, as `desk` hands them to C: each ensures what a caller sees of it, refused calls included.
-ghost use mathlib.Core.Path.{_≡_};
-ghost use mathlib.Core.Option.{none, some};
-ghost use Rattle.laws.specs.Run.{first, next};
-ghost use Rattle.network.specs.FullList.{countFlows};
-ghost use Rattle.network_questions.specs.Questions.{refusal};
-ghost use Rattle.calls.specs.Replies.{sees, countUnless};
-ghost use Rattle.flow_bytes.specs.NetworkBytes.{net};
-ghost use Rattle.network_calls.specs.NetworkCalls.{lends};
-ghost use Rattle.network_calls.specs.NetworkRun.{Answers};
+ghost use Rattle.network_calls.specs.NetworkEntries.{NetworkFirst, NetworkFirstPriced, NetworkNext, NetworkCount};
 use calls::Reply;
 
 // The first least-cost flow, or "none". Questions 1 to 7.
 pub fn first(balances: &[u8], arcs: &[u8], flows: &mut [u8]) -> Reply
-    ensures { λ r. ⌜ Answers (now (balances .entry)) (now (arcs .entry)) (first (lends (now (flows .entry)) none))
-        (sees r (lends (now (flows .exit)) none)) ⌝ }
+    ensures { λ r. ⌜ NetworkFirst (now (balances .entry)) (now (arcs .entry)) (now (flows .entry)) r (now (flows .exit)) ⌝ }
 {
     let begun = flow_bytes::begin(balances, arcs, flows.len());
     let number = begun.number;
@@ -27,8 +18,7 @@ pub fn first(balances: &[u8], arcs: &[u8], flows: &mut [u8]) -> Reply
 
 // The same, with its prices.
 pub fn first_priced(balances: &[u8], arcs: &[u8], flows: &mut [u8], prices: &mut [u8]) -> Reply
-    ensures { λ r. ⌜ Answers (now (balances .entry)) (now (arcs .entry)) (first (lends (now (flows .entry)) (some (now (prices .entry)))))
-        (sees r (lends (now (flows .exit)) (some (now (prices .exit))))) ⌝ }
+    ensures { λ r. ⌜ NetworkFirstPriced (now (balances .entry)) (now (arcs .entry)) (now (flows .entry)) (now (prices .entry)) r (now (flows .exit)) (now (prices .exit)) ⌝ }
 {
     let begun = flow_bytes::begin(balances, arcs, flows.len());
     let number = begun.number;
@@ -46,8 +36,7 @@ pub fn first_priced(balances: &[u8], arcs: &[u8], flows: &mut [u8], prices: &mut
 
 // The least-cost flow after the one given, or "end". Questions 1 to 8.
 pub fn next(balances: &[u8], arcs: &[u8], given: &[u8], flows: &mut [u8]) -> Reply
-    ensures { λ r. ⌜ Answers (now (balances .entry)) (now (arcs .entry)) (next (now (given .entry)) (now (flows .entry)))
-        (sees r (lends (now (flows .exit)) none)) ⌝ }
+    ensures { λ r. ⌜ NetworkNext (now (balances .entry)) (now (arcs .entry)) (now (given .entry)) (now (flows .entry)) r (now (flows .exit)) ⌝ }
 {
     let begun = flow_bytes::begin(balances, arcs, flows.len());
     let number = begun.number;
@@ -65,7 +54,7 @@ pub fn next(balances: &[u8], arcs: &[u8], given: &[u8], flows: &mut [u8]) -> Rep
 
 // How many least-cost flows there are, up to the cap. Questions 1 to 6.
 pub fn count(balances: &[u8], arcs: &[u8], cap: u16) -> Reply
-    ensures { λ r. ⌜ r ≡ countUnless (refusal (now (balances .entry)) (now (arcs .entry))) (countFlows (net (now (balances .entry)) (now (arcs .entry))) cap) ⌝ }
+    ensures { λ r. ⌜ NetworkCount (now (balances .entry)) (now (arcs .entry)) cap r ⌝ }
 {
     let checked = network_check::check(balances, arcs);
     let verdict = checked.verdict;

@@ -8,13 +8,18 @@ use Rattle.bytes32.specs.Words.{ints}
 use Rattle.network.specs.Network.{Net}
 use Rattle.network.specs.Input.{netOf}
 use Rattle.network.specs.Struct.{structOf}
+use Rattle.network.specs.declared.Network.{Network}
 use Rattle.network_questions.specs.Questions.{refusal, numberOf}
 use Rattle.network_check.specs.declared.Checked.{Checked}
 
 abbrev pub noNet : Net
 noNet = record { balances = []; tails = []; heads = []; lows = []; ups = []; costs = [] }
 
--- what the check answers: the number of the verdict, and the struct of the network, that of no network with a refusal
+-- the struct of the network that two lists of bytes are; that of no network with a refusal
+abbrev pub checkedNet : List ℕ → List ℕ → Network
+checkedNet bs xs = structOf (cond (eqb (refusal bs xs) 0) (netOf (ints bs) (ints xs)) noNet)
+
+-- what the check answers: the number of the verdict, and the struct
 pub record Checks (bs xs : List ℕ) (r : Checked) : Type 0 where
   pub number : numberOf (r .verdict) ≡ refusal bs xs
-  pub net-is : r .net ≡ structOf (cond (eqb (refusal bs xs) 0) (netOf (ints bs) (ints xs)) noNet)
+  pub net-is : r .net ≡ checkedNet bs xs

@@ -1,13 +1,13 @@
 -- The ends of a residual arc.
 use mathlib.Core.List.{List}
 use mathlib.Core.Bool.{Bool}
-use Prim.Native.Nat.{ℕ, _+_, _<_}
-use Rattle.network.specs.Network.{Net, arcs}
-use Rattle.network.specs.Residual.{src, dst}
+use Prim.Native.Nat.{ℕ, _<_}
+use Rattle.network.specs.Network.{Net}
+use Rattle.network.specs.Residual.{codes, src, dst}
 use Rattle.certificates.specs.Codes.{src-below, dst-below}
 use Rattle.certificates.specs.Ready.{Searchable}
 
-module _ (n : ℕ) (N : Net) (f : List ℕ) (free : List Bool) (ok : Searchable n N f free) (c : ℕ) (l : c < arcs N + arcs N) where
+module _ (n : ℕ) (N : Net) (f : List ℕ) (free : List Bool) (ok : Searchable n N f free) (c : ℕ) (l : c < codes N) where
   pub src-in : src N c < n
   src-in = src-below n N (ok .tail-in) (ok .head-in) c l
 

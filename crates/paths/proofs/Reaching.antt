@@ -10,7 +10,7 @@ use lib.ListN.{getD, set}
 use borrow.Author.Tests.{lt-ltb, le-ltb, eq-eqb, ne-eqb}
 use Rattle.laws.specs.Tests.{and-stops-second}
 use Rattle.network.specs.Network.{Net, arcs, tail, head, low, up}
-use Rattle.network.specs.Residual.{src, dst}
+use Rattle.network.specs.Residual.{codes, src, dst}
 use Rattle.certificates.specs.Codes.{even-code, odd-code, even-arc, odd-arc}
 use Rattle.certificates.specs.Reach.{Spread, hit, Turn, turn-step}
 use Rattle.certificates.specs.FreeArcs.{goes}
@@ -47,7 +47,7 @@ spread-few on rank via count u v c rank′ via′ r w = go (hit on rank u v) (w 
 
 -- the state within a round over the free arcs from `from` on
 abbrev pub TurnOf : ℕ → Net → List ℕ → List Bool → ℕ → ℕ → List ℕ → List ℕ → ℕ → ℕ → ℕ → Type 0
-TurnOf n N f free s from rank via count₀ count i = Turn n (from + from) (arcs N + arcs N) (src N) (dst N) (goes N f free) s rank via count₀ count i
+TurnOf n N f free s from rank via count₀ count i = Turn n (from + from) (codes N) (src N) (dst N) (goes N f free) s rank via count₀ count i
 
 -- ---- both codes of an arc
 module _ (N : Net) (f : List ℕ) (free : List Bool) (a : ℕ) (rank via : List ℕ) (count : ℕ) where
@@ -77,6 +77,6 @@ module _ (N : Net) (f : List ℕ) (free : List Bool) (a : ℕ) (rank via : List 
       → SpreadArc N f free a rank via count rank′ via′ r → TurnOf n N f free s from rank′ via′ count₀ r (a + 1 + (a + 1))
   turn-arc n s from count₀ rank′ via′ r ok h l t w =
       let e : suc (suc (a + a)) ≡ a + 1 + (a + 1) = omega arith in
-      let forth = turn-step n (from + from) (arcs N + arcs N) (src N) (dst N) (goes N f free) s rank via count₀ count (a + a) t (omega arith) (omega arith) (src-in n N f free ok (a + a) (omega arith)) (dst-in n N f free ok (a + a) (omega arith)) (w .mid-rank) (w .mid-via) (w .mid) (w .forth) in
+      let forth = turn-step n (from + from) (codes N) (src N) (dst N) (goes N f free) s rank via count₀ count (a + a) t (omega arith) (omega arith) (src-in n N f free ok (a + a) (omega arith)) (dst-in n N f free ok (a + a) (omega arith)) (w .mid-rank) (w .mid-via) (w .mid) (w .forth) in
       subst (λ (i : ℕ). TurnOf n N f free s from rank′ via′ count₀ r i) e
-      (turn-step n (from + from) (arcs N + arcs N) (src N) (dst N) (goes N f free) s (w .mid-rank) (w .mid-via) count₀ (w .mid) (suc (a + a)) forth (omega arith) (omega arith) (src-in n N f free ok (suc (a + a)) (omega arith)) (dst-in n N f free ok (suc (a + a)) (omega arith)) rank′ via′ r (w .back))
+      (turn-step n (from + from) (codes N) (src N) (dst N) (goes N f free) s (w .mid-rank) (w .mid-via) count₀ (w .mid) (suc (a + a)) forth (omega arith) (omega arith) (src-in n N f free ok (suc (a + a)) (omega arith)) (dst-in n N f free ok (suc (a + a)) (omega arith)) rank′ via′ r (w .back))

@@ -9,8 +9,8 @@ use lib.Dec.{ltb}
 use lib.ListN.{length, getD, set, take}
 use lib.Seq.{take-suc-set}
 use borrow.Author.Tests.{ltb-true, lt-ltb, le-ltb}
-use Rattle.network.specs.Network.{Net, arcs}
-use Rattle.network.specs.Residual.{src, dst}
+use Rattle.network.specs.Network.{Net}
+use Rattle.network.specs.Residual.{codes, src, dst}
 use Rattle.certificates.specs.Reach.{Falls, TracedAny, any-step, tree-falls}
 use Rattle.certificates.specs.FreeArcs.{goes, Path, Blocked}
 use Rattle.certificates.specs.Ready.{Searchable}
@@ -32,10 +32,10 @@ module _ (N : Net) (f : List ℕ) (free : List Bool) (s t from : ℕ) (rank via 
     shut = λ c l h g i. lt-ltb 0 (getD rank (dst N c) 0) (r .shut e c l h g (ltb-true 0 (getD rank (src N c) 0) i));
   }
 
-  pub reach-falls : Searchable 64 N f free → Falls 64 (arcs N + arcs N) (src N) rank via
-  reach-falls ok = tree-falls 64 (from + from) (arcs N + arcs N) (src N) (dst N) (goes N f free) s rank via count (r .tree) (λ c h. src-in 64 N f free ok c h)
+  pub reach-falls : Searchable 64 N f free → Falls 64 (codes N) (src N) rank via
+  reach-falls ok = tree-falls 64 (from + from) (codes N) (src N) (dst N) (goes N f free) s rank via count (r .tree) (λ c h. src-in 64 N f free ok c h)
 
-  pub reach-path : (cs : List ℕ) → TracedAny 64 (arcs N + arcs N) (src N) (dst N) rank via t (λ s. s) cs → Path N f free s t from cs
+  pub reach-path : (cs : List ℕ) → TracedAny 64 (codes N) (src N) (dst N) rank via t (λ s. s) cs → Path N f free s t from cs
   reach-path cs tr =
       let d = tr (from + from) (goes N f free) s count (r .tree) in
       record { trail = d .way; distinct = d .distinct; low = d .low; passes = d .goes }

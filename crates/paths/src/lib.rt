@@ -2,7 +2,7 @@
 // A residual arc is a code: 2a is arc a forward, 2a + 1 is arc a backward.
 ghost use mathlib.Core.Path.{_≡_};
 ghost use Prim.Native.Nat.{ℕ, _+_, _≤_, _<_};
-ghost use lib.ListN.{length, getD, take};
+ghost use lib.ListN.{length, getD, take, drop};
 ghost use Rattle.network.specs.Residual.{src, dst};
 ghost use Rattle.certificates.specs.Reach.{Spread, Falls, TracedAny};
 ghost use Rattle.certificates.specs.Graph.{graph};
@@ -16,6 +16,7 @@ pub enum Route {
 }
 
 // Code c leads from u to v, and goes if `on`: v is reached if u is. How many nodes are reached now.
+// `count` is at most 64 before an arc, and so at most 65 before its second code.
 fn spread(
     rank: &mut [usize],
     via: &mut [usize],
@@ -25,7 +26,7 @@ fn spread(
     v: usize,
     c: usize,
 ) -> usize
-    requires { ⌜ (u < length (now rank)) × (v < length (now rank)) × (v < length (now via)) × (count < 1000) ⌝ }
+    requires { ⌜ (u < length (now rank)) × (v < length (now rank)) × (v < length (now via)) × (count ≤ 65) ⌝ }
     ensures { λ r. ⌜ Spread on (now (rank .entry)) (now (via .entry)) count u v c (now (rank .exit)) (now (via .exit)) r ⌝ }
 {
     if !on {
@@ -57,7 +58,7 @@ fn spread_arc(
     count: usize,
     a: usize,
 ) -> usize
-    requires { ⌜ Searchable (length (now rank)) (graph (now tails) (now heads) (now lows) (now ups)) (now flow) (now free) × (length (now via) ≡ length (now rank)) × (count < 900) × (a < length (now tails)) ⌝ }
+    requires { ⌜ Searchable (length (now rank)) (graph (now tails) (now heads) (now lows) (now ups)) (now flow) (now free) × (length (now via) ≡ length (now rank)) × (count ≤ 64) × (a < length (now tails)) ⌝ }
     ensures { λ r. ⌜ SpreadArc (graph (now (tails .entry)) (now (heads .entry)) (now (lows .entry)) (now (ups .entry))) (now (flow .entry)) (now (free .entry)) a (now (rank .entry)) (now (via .entry)) count (now (rank .exit)) (now (via .exit)) r ⌝ }
 {
     if !free[a] {
@@ -171,7 +172,7 @@ fn trace(
     codes: &mut [usize],
 ) -> usize
     requires { ⌜ (length (now heads) ≡ length (now tails)) × (t < length (now rank)) × (0 < getD (now rank) t 0) × (length (now rank) ≤ length (now codes)) × Falls (length (now rank)) (length (now tails) + length (now tails)) (src (graph (now tails) (now heads) (now tails) (now tails))) (now rank) (now via) ⌝ }
-    ensures { λ r. ⌜ (r ≤ length (now (codes .exit))) × TracedAny (length (now (rank .entry))) (length (now (tails .entry)) + length (now (tails .entry))) (src (graph (now (tails .entry)) (now (heads .entry)) (now (tails .entry)) (now (tails .entry)))) (dst (graph (now (tails .entry)) (now (heads .entry)) (now (tails .entry)) (now (tails .entry)))) (now (rank .entry)) (now (via .entry)) t (λ s. s) (take r (now (codes .exit))) ⌝ }
+    ensures { λ r. ⌜ (r ≤ length (now (codes .exit))) × TracedAny (length (now (rank .entry))) (length (now (tails .entry)) + length (now (tails .entry))) (src (graph (now (tails .entry)) (now (heads .entry)) (now (tails .entry)) (now (tails .entry)))) (dst (graph (now (tails .entry)) (now (heads .entry)) (now (tails .entry)) (now (tails .entry)))) (now (rank .entry)) (now (via .entry)) t (λ s. s) (take r (now (codes .exit))) × (drop r (now (codes .exit)) ≡ drop r (now (codes .entry))) ⌝ }
 {
     let mut v = t;
     let mut len = 0;
@@ -200,7 +201,7 @@ pub fn detour(
     codes: &mut [usize],
 ) -> Route
     requires { ⌜ Searchable 64 (graph (now tails) (now heads) (now lows) (now ups)) (now flow) (now free) × (from ≤ 512) × (s < 64) × (t < 64) × (length (now codes) ≡ 64) ⌝ }
-    ensures { λ r. ⌜ Detoured (graph (now (tails .entry)) (now (heads .entry)) (now (lows .entry)) (now (ups .entry))) (now (flow .entry)) (now (free .entry)) s t from (now (codes .exit)) r ⌝ }
+    ensures { λ r. ⌜ Detoured (graph (now (tails .entry)) (now (heads .entry)) (now (lows .entry)) (now (ups .entry))) (now (flow .entry)) (now (free .entry)) s t from (now (codes .entry)) (now (codes .exit)) r ⌝ }
 {
     let mut rank = [0usize; 64];
     let mut via = [0usize; 64];

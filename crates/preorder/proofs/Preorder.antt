@@ -160,8 +160,9 @@ module _ (rows : List ℕ) (p q : ℕ) (pre : Preorder rows) (hp : p < 64) (hq :
       only = λ u v h e. ⊎-elim (λ a. inl a) (λ b. inr (t, b .0, b .1)) (of-stepped u v h e);
       keeps = old;
       new = λ _. by-step p q hp (pre .reflexive p hp) (pre .reflexive q hq);
+      met-only = λ v e. ⊎-elim (λ a. inl a) (λ b. inr (t, b)) (of-last v e);
     }
 
 -- nothing to add
 pub same-rows : (rows : List ℕ) (on : Bool) (p q : ℕ) → Preorder rows → (on ≡ true → leads rows p q ≡ true) → Extended rows rows on p q
-same-rows rows on p q pre h = record { preorder = pre; only = λ u v k e. inl e; keeps = λ u v e. e; new = h }
+same-rows rows on p q pre h = record { preorder = pre; only = λ u v k e. inl e; keeps = λ u v e. e; new = h; met-only = λ v e. inl e }

@@ -39,3 +39,5 @@ pub record Extended (rows rows′ : List ℕ) (on : Bool) (p q : ℕ) : Type 0 w
   pub only : (u v : ℕ) → u < 64 → leads rows′ u v ≡ true → (leads rows u v ≡ true) ⊎ ((on ≡ true) × (leads rows u p ≡ true) × (leads rows q v ≡ true))
   pub keeps : (u v : ℕ) → leads rows u v ≡ true → leads rows′ u v ≡ true
   pub new : on ≡ true → leads rows′ p q ≡ true
+  -- and row 64 gets no more than what q leads to
+  pub met-only : (v : ℕ) → leads rows′ 64 v ≡ true → (leads rows 64 v ≡ true) ⊎ ((on ≡ true) × (leads rows q v ≡ true))

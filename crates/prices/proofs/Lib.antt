@@ -1,3 +1,4 @@
 mod Shorten
 pub mod Pricing
 pub mod Potentials
+pub mod Beyond

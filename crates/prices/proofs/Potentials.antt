@@ -1,41 +1,30 @@
--- Price labels as potentials: at most 0, quiet, and within 64,000,000.
+-- Price labels are a feasible potential, within 64,000,000.
 use mathlib.Core.Path.{_≡_, refl}
 use mathlib.Core.List.{List, [], _∷_}
 use Prim.Native.Nat.{ℕ, _*_, _<_}
 use native.Mathlib.Omega.{arith}
-use native.Mathlib.Decide.{decLt}
-use lib.ListN.{length, getD, List·getD-eq-default}
+use lib.ListN.{length, getD}
 use lib.IntN.{ℤ, pos}
 use lib.Signed.{_≤ℤ_}
-use Rattle.laws.specs.Linear.{lin, given, given2}
+use Rattle.laws.specs.Linear.{lin, given2}
 use Rattle.laws.specs.Range.{Bounded, bounded-add, bounded-more, bounded-zero, fits}
 use Rattle.network.specs.Network.{Net}
 use Rattle.network.specs.Residual.{src, dst, stepCost, Walk, walkCost}
+use Rattle.network.specs.Potential.{FeasiblePotential}
+use Rattle.certificates.specs.Room.{roomy}
 use Rattle.relaxation.specs.Labels.{Relaxable}
-use Rattle.relaxation.specs.Potentials.{Quiet}
 use Rattle.relaxation.proofs.Codes.{src-in, dst-in, step-small}
-use Rattle.relaxation.proofs.Trips.{trip-walk}
+use Rattle.relaxation.proofs.Trips.{roomy-usable, trip-walk}
 use Rattle.prices.specs.Prices.{PriceLabels}
 use Rattle.prices.proofs.Shorten.{shorten}
 use Rattle.prices.proofs.Pricing.{walk-trip}
-use Rattle.relaxation.proofs.Trips.{roomy-usable, trip-walk}
 
 module _ (N : Net) (f : List ℕ) (ok : Relaxable N f) (d : List ℤ) (P : PriceLabels N f d) where
-  labels-low : (v : ℕ) → getD d v (pos 0) ≤ℤ pos 0
-  labels-low v = go (decLt v 64)
-    where
-      go : Dec (v < 64) → getD d v (pos 0) ≤ℤ pos 0
-      go (yes h) = P .least v v [] h refl
-      go (no h) = given (List·getD-eq-default d (pos 0) {n = v} (omega (arith, P .len))) (simp lin (omega arith))
-
   -- a walk to where a residual arc starts, and that arc, lead to where it ends
-  labels-quiet : Quiet N f 1 (λ v. getD d v (pos 0))
-  labels-quiet = record {
-    low = labels-low;
-    reduced = λ c k r.
-        (let (u, cs, w, e) = P .walked (src N c) (src-in N (ok .graph) c k) in
-        given2 (P .least u (dst N c) (c ∷ cs) (dst-in N (ok .graph) c k) (k, roomy-usable N f 1 c (omega arith) r, refl, w)) e (simp lin (omega arith)));
-  }
+  labels-feasible : FeasiblePotential N (roomy N f 1) (λ v. getD d v (pos 0))
+  labels-feasible c k r =
+      let (u, cs, w, e) = P .walked (src N c) (src-in N (ok .graph) c k) in
+      given2 (P .least u (dst N c) (c ∷ cs) (dst-in N (ok .graph) c k) (k, roomy-usable N f 1 c (omega arith) r, refl, w)) e (simp lin (omega arith))
 
   walk-small : (u v : ℕ) (cs : List ℕ) → Walk N f u v cs → Bounded (1000000 * length cs) (walkCost N cs)
   walk-small u v [] w = bounded-more (omega arith) bounded-zero
@@ -45,7 +34,7 @@ module _ (N : Net) (f : List ℕ) (ok : Relaxable N f) (d : List ℤ) (P : Price
   pub labels-small : (v : ℕ) → v < 64 → Bounded 64000000 (getD d v (pos 0))
   labels-small v h =
       let (u, cs, w, e) = P .walked v h in
-      let s = shorten N f 1 (ok .graph) (λ v. getD d v (pos 0)) labels-quiet u v cs h (walk-trip N f u v cs w) in
+      let s = shorten N f 1 (ok .graph) (λ v. getD d v (pos 0)) labels-feasible u v cs h (walk-trip N f u v cs w) in
       let x = trip-walk N f 1 (omega arith) u v (s .walk) (s .leads) in
       same (getD d v (pos 0)) (walkCost N (s .walk)) (walkCost N cs) e (s .costs) (P .least u v (s .walk) h x)
       (bounded-more (omega (arith, s .few)) (walk-small u v (s .walk) x))

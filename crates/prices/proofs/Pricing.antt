@@ -1,26 +1,30 @@
 -- The rounds of the price search: labels are costs of walks, and in the end the least ones.
-use mathlib.Core.Path.{_≡_, refl, sym, ap, subst, _∙_}
+use mathlib.Core.Path.{_≡_, refl, sym, subst, _∙_}
 use mathlib.Core.Bool.{Bool, true, false, cond}
 use mathlib.Core.List.{List, [], _∷_}
 use Prim.Native.Nat.{ℕ, zero, suc, _+_, _*_, _/_, _≤_, _<_}
 use native.Mathlib.Omega.{arith}
 use native.Mathlib.Numerals.{add-one}
-use lib.ListN.{length, getD, set, replicate}
-use lib.IntN.{ℤ, pos, _+ℤ_}
+use lib.ListN.{length, getD, set}
+use lib.IntN.{ℤ, pos}
 use lib.Signed.{_≤ℤ_}
 use Rattle.laws.specs.Linear.{lin, given, given2}
 use Rattle.laws.specs.Tests.{and-true}
 use Rattle.laws.specs.Store.{set-cases}
 use Rattle.network.specs.Network.{Net, WellFormed, nodes}
-use Rattle.network.specs.Residual.{codes, src, dst, stepCost, Walk, walkCost, Price}
+use Rattle.network.specs.Residual.{codes, src, dst, Walk, walkCost, Price}
 use Rattle.certificates.specs.Codes.{either-is}
-use Rattle.relaxation.specs.Labels.{costGraph, Relaxable, roomy, State, state, label, offer, better, relaxed, relaxedAll, Sized}
+use Rattle.certificates.specs.Graph.{netWith, costGraph}
+use Rattle.certificates.specs.Room.{roomy}
+use Rattle.relaxation.specs.Labels.{Relaxable, State, state, label, offer, better, relaxed, relaxedAll, Sized}
 use Rattle.relaxation.specs.Potentials.{Settled}
+use Rattle.relaxation.proofs.Balances.{walk-whole, walk-bare, cost-whole}
 use Rattle.relaxation.proofs.Codes.{src-in, dst-in}
 use Rattle.relaxation.proofs.Trips.{usable-roomy, Trip, trip-walk}
+use Rattle.relaxation.proofs.Rises.{rise}
 use Rattle.relaxation.proofs.Rounds.{AtMost, all-length, zeros-at-most, zeros-sized, left-at-most, left-sized, left-quiet}
 use Rattle.prices.specs.Prices.{PriceLabels}
-use Rattle.prices.proofs.Shorten.{rise, shorten}
+use Rattle.prices.proofs.Shorten.{shorten}
 
 pub walk-trip : (N : Net) (f : List ℕ) (u v : ℕ) (cs : List ℕ) → Walk N f u v cs → Trip N f 1 u v cs
 walk-trip N f u v [] w = w
@@ -35,12 +39,6 @@ pub record Pricing (N : Net) (f : List ℕ) (d : List ℤ) (p : List ℕ) (k : �
   pub sized : Sized (1024000000 * k) d p
   pub at-most : AtMost N f 1 k d
   pub walked : Walked N f d
-
--- labels that are 0 at every node
-pub zero-at : (n v : ℕ) → getD (replicate n (pos 0)) v (pos 0) ≡ pos 0
-zero-at zero v = refl
-zero-at (suc n) zero = refl
-zero-at (suc n) (suc v) = zero-at n v
 
 module _ (N : Net) (f : List ℕ) (ok : Relaxable N f) where
   one-walked : (s : State) (c : ℕ) → c < codes N → length (s .labels) ≡ 64 → Walked N f (s .labels) → Walked N f (relaxed N f 1 c s .labels)
@@ -82,12 +80,12 @@ module _ (N : Net) (f : List ℕ) (ok : Relaxable N f) where
     -- a round that changed nothing: no walk costs less
     pub prices-quiet : last ≡ 64 → PriceLabels N f d′
     prices-quiet q =
-        let (b, c) = left-quiet N f ok 1 d p (S .sized .labels-len) d′ p′ last e q k (S .at-most) in
+        let (b, c) = left-quiet N f ok 1 d p (S .sized .labels-len) d′ p′ last e q in
         subst (PriceLabels N f) (sym b) (record {
           len = S .sized .labels-len;
           walked = λ v h. (let (u, cs, t, e) = S .walked v h in (u, cs, trip-walk N f 1 (omega arith) u v cs t, e));
           least = λ u v cs h w.
-              given2 (rise N f 1 (ok .graph) (λ v. getD d v (pos 0)) c u v cs (walk-trip N f u v cs w)) (S .at-most u u [] (omega arith) refl) (simp lin (omega arith));
+              given2 (rise N f 1 (λ v. getD d v (pos 0)) c u v cs (walk-trip N f u v cs w)) (S .at-most u u [] (omega arith) refl) (simp lin (omega arith));
         })
 
   -- after 64 rounds no walk costs less, however long
@@ -95,26 +93,14 @@ module _ (N : Net) (f : List ℕ) (ok : Relaxable N f) where
   prices-all d p S q = record {
     len = S .sized .labels-len;
     walked = λ v h. (let (u, cs, t, e) = S .walked v h in (u, cs, trip-walk N f 1 (omega arith) u v cs t, e));
-    least = λ u v cs h w. (let r = shorten N f 1 (ok .graph) (q .potential) (q .quiet) u v cs h (walk-trip N f u v cs w) in
+    least = λ u v cs h w. (let r = shorten N f 1 (ok .graph) (q .potential) (q .feasible) u v cs h (walk-trip N f u v cs w) in
         given2 (S .at-most u v (r .walk) (omega (arith, r .few)) (r .leads)) (r .costs) (simp lin (omega arith)));
   }
 
 -- the same of the network with its balances
 module _ (b : List ℤ) (t h l u : List ℕ) (c : List ℤ) (f : List ℕ) where
   abbrev whole : Net
-  whole = record { balances = b; tails = t; heads = h; lows = l; ups = u; costs = c }
-
-  walk-whole : (x v : ℕ) (cs : List ℕ) → Walk (costGraph t h l u c) f x v cs → Walk whole f x v cs
-  walk-whole x v [] w = w
-  walk-whole x v (e ∷ cs) w = (w .0, w .1, w .2, walk-whole x (src whole e) cs (w .3))
-
-  walk-bare : (x v : ℕ) (cs : List ℕ) → Walk whole f x v cs → Walk (costGraph t h l u c) f x v cs
-  walk-bare x v [] w = w
-  walk-bare x v (e ∷ cs) w = (w .0, w .1, w .2, walk-bare x (src whole e) cs (w .3))
-
-  cost-whole : (cs : List ℕ) → walkCost (costGraph t h l u c) cs ≡ walkCost whole cs
-  cost-whole [] = refl
-  cost-whole (e ∷ cs) = ap (λ z. stepCost whole e +ℤ z) (cost-whole cs)
+  whole = netWith b t h l u c
 
   -- a walk to a node starts at a node
   start-in : WellFormed whole → (x v : ℕ) (cs : List ℕ) → v < nodes whole → Walk whole f x v cs → x < nodes whole
@@ -131,8 +117,8 @@ module _ (b : List ℤ) (t h l u : List ℕ) (c : List ℤ) (f : List ℕ) where
       record {
         from = x;
         walk = cs;
-        starts = start-in ok x v cs k (walk-whole x v cs w);
-        leads = walk-whole x v cs w;
-        costs = sym (cost-whole cs) ∙ e;
-        least = λ y es _ w′. subst (λ z. getD d v (pos 0) ≤ℤ z) (cost-whole es) (P .least y v es (omega arith) (walk-bare y v es w′));
+        starts = start-in ok x v cs k (walk-whole b t h l u c f x v cs w);
+        leads = walk-whole b t h l u c f x v cs w;
+        costs = sym (cost-whole b t h l u c f cs) ∙ e;
+        least = λ y es _ w′. subst (λ z. getD d v (pos 0) ≤ℤ z) (cost-whole b t h l u c f es) (P .least y v es (omega arith) (walk-bare b t h l u c f y v es w′));
       }

@@ -6,15 +6,17 @@ use native.Mathlib.Omega.{arith}
 use native.Mathlib.Decide.{decLt}
 use lib.ListN.{length, take, drop, length-append, length-drop, take-append-drop}
 use lib.Seq.{length-take-le, drop-drop}
-use lib.IntN.{ℤ, pos, _+ℤ_, _-ℤ_}
+use lib.IntN.{ℤ, pos, _+ℤ_}
 use lib.Signed.{_≤ℤ_}
 use Rattle.laws.specs.Linear.{lin, given, given2, given3}
 use Rattle.laws.specs.Pigeonhole.{Twice, pigeon}
 use Rattle.network.specs.Network.{Net}
-use Rattle.network.specs.Residual.{src, dst, stepCost, walkCost}
+use Rattle.network.specs.Residual.{src, walkCost}
+use Rattle.network.specs.Potential.{FeasiblePotential}
+use Rattle.certificates.specs.Room.{roomy}
 use Rattle.relaxation.specs.Labels.{SmallGraph}
-use Rattle.relaxation.specs.Potentials.{Quiet}
 use Rattle.relaxation.proofs.Codes.{src-in}
+use Rattle.relaxation.proofs.Rises.{rise}
 use Rattle.relaxation.proofs.Trips.{Trip}
 
 module _ (N : Net) (f : List ℕ) (δ : ℕ) where
@@ -56,16 +58,7 @@ module _ (N : Net) (f : List ℕ) (δ : ℕ) where
       more : (i j : ℕ) → suc (i + j) ≡ suc i + j
       more i j = omega arith
 
-  module _ (ok : SmallGraph N) (π : ℕ → ℤ) (q : Quiet N f δ π) where
-    -- a walk costs at least what the potential rises
-    pub rise : (u v : ℕ) (cs : List ℕ) → Trip N f δ u v cs → (π v -ℤ π u) ≤ℤ walkCost N cs
-    rise u v [] e = subst (λ x. (π x -ℤ π u) ≤ℤ pos 0) e (simp lin (omega arith))
-    rise u v (c ∷ cs) (a, b, e, t) =
-        sum (π v) (π (dst N c)) (π (src N c)) (π u) (stepCost N c) (walkCost N cs) (ap π (sym e)) (q .reduced c a b) (rise u (src N c) cs t)
-      where
-        sum : (y d s u c w : ℤ) → y ≡ d → d ≤ℤ (s +ℤ c) → (s -ℤ u) ≤ℤ w → (y -ℤ u) ≤ℤ (c +ℤ w)
-        sum y d s u c w e h k = given3 e h k (simp lin (omega arith))
-
+  module _ (ok : SmallGraph N) (π : ℕ → ℤ) (q : FeasiblePotential N (roomy N f δ) π) where
     pub record Shorter (u v : ℕ) (cs : List ℕ) : Type 0 where
       pub walk : List ℕ
       pub few : length walk < 64
@@ -109,7 +102,7 @@ module _ (N : Net) (f : List ℕ) (δ : ℕ) where
 
             free : pos 0 ≤ℤ walkCost N (take (w .j - w .i) (drop (w .i) cs))
             free =
-                given2 (rise (nodeAt (nodeAt v cs (w .i)) (drop (w .i) cs) (w .j - w .i)) (nodeAt v cs (w .i)) (take (w .j - w .i) (drop (w .i) cs))
+                given2 (rise N f δ π q (nodeAt (nodeAt v cs (w .i)) (drop (w .i) cs) (w .j - w .i)) (nodeAt v cs (w .i)) (take (w .j - w .i) (drop (w .i) cs))
                 (trip-take u (nodeAt v cs (w .i)) (drop (w .i) cs) (trip-drop u v cs t (w .i) in-i) (w .j - w .i) (omega (arith, length-drop (w .i) cs, w .in-range))))
                 (ap π closed) (simp lin (omega arith))
 

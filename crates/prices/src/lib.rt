@@ -1,5 +1,6 @@
 // The price search: labels corrected in at most 64 rounds over the arcs, until they are the prices.
-ghost use Rattle.relaxation.specs.Labels.{costGraph, Relaxable};
+ghost use Rattle.certificates.specs.Graph.{costGraph};
+ghost use Rattle.relaxation.specs.Labels.{Relaxable};
 ghost use Rattle.relaxation.specs.Potentials.{Settled};
 ghost use Rattle.prices.specs.Prices.{PriceLabels};
 

@@ -2,16 +2,17 @@
 use mathlib.Core.Path.{_≡_, refl, ap, _∙_}
 use mathlib.Core.List.{List, [], _∷_}
 use mathlib.Core.Bool.{Bool, true, false}
-use Prim.Native.Nat.{ℕ, _+_, _/_, _%_, _≤_, _<_, min}
+use Prim.Native.Nat.{ℕ, _/_, _%_, _≤_, _<_, min}
 use native.Mathlib.Omega.{arith}
 use lib.Dec.{eqb}
 use lib.ListN.{getD}
 use borrow.Author.Tests.{ltb-true}
 use Rattle.laws.specs.Members.{Every}
 use Rattle.laws.specs.Tests.{and-true}
-use Rattle.network.specs.Network.{Net, arcs, low, up}
-use Rattle.network.specs.Residual.{usable}
-use Rattle.certificates.specs.Push.{Way, roomOf}
+use Rattle.network.specs.Network.{Net, low, up}
+use Rattle.network.specs.Residual.{codes, usable}
+use Rattle.certificates.specs.Room.{roomOf}
+use Rattle.certificates.specs.Push.{Way}
 use Rattle.certificates.specs.FreeArcs.{goes}
 use Rattle.pushing.specs.Pushing.{roomAll}
 
@@ -44,7 +45,7 @@ way-codes hi sr ds s t (c ∷ cs) w = (w .0, way-codes hi sr ds s (sr c) cs (w .
 -- ---- the loop of `room`: the codes that are left
 pub record RoomTurn (N : Net) (f : List ℕ) (goal least : ℕ) (rest : List ℕ) : Type 0 where
   pub same : roomAll N f least rest ≡ goal
-  pub codes-in : Every (λ c. c < arcs N + arcs N) rest
+  pub codes-in : Every (λ c. c < codes N) rest
 
 pub room-step : (N : Net) (f : List ℕ) (goal least : ℕ) (l : List ℕ) (c : ℕ) (rest : List ℕ) → l ≡ c ∷ rest → RoomTurn N f goal least l
     → (least′ r : ℕ) → least′ ≡ min least r → r ≡ roomOf N f c → RoomTurn N f goal least′ rest
@@ -52,5 +53,5 @@ room-step N f goal least l c rest e t least′ r p q =
     let t′ : RoomTurn N f goal least (c ∷ rest) = rw e at t in
     record { same = ap (λ x. roomAll N f x rest) (p ∙ ap (min least) q) ∙ t′ .same; codes-in = t′ .codes-in .1 }
 
-pub first-in : (N : Net) (l : List ℕ) (c : ℕ) (rest : List ℕ) → l ≡ c ∷ rest → Every (λ c. c < arcs N + arcs N) l → c < arcs N + arcs N
+pub first-in : (N : Net) (l : List ℕ) (c : ℕ) (rest : List ℕ) → l ≡ c ∷ rest → Every (λ c. c < codes N) l → c < codes N
 first-in N l c rest e h = (rw e at h) .0

@@ -4,7 +4,8 @@ use mathlib.Core.List.{List, [], _∷_}
 use Prim.Native.Nat.{ℕ, min}
 use lib.IntN.{ℤ}
 use Rattle.certificates.specs.Graph.{graph, netWith}
-use Rattle.certificates.specs.Push.{InBounds, roomOf}
+use Rattle.certificates.specs.Room.{roomOf}
+use Rattle.certificates.specs.Push.{InBounds}
 use Rattle.certificates.specs.Ready.{SmallBounds}
 use Rattle.pushing.specs.Pushing.{roomAll}
 

@@ -1,15 +1,14 @@
 -- Pushing along a path, code by code.
 use mathlib.Core.Path.{_≡_}
-use mathlib.Core.Logic.{_≢_}
 use mathlib.Core.List.{List, [], _∷_}
 use mathlib.Core.Bool.{true, false}
 use Prim.Native.Nat.{ℕ, _+_, _/_, _%_, _≤_, _<_}
 use native.Mathlib.Omega.{arith}
 use lib.Dec.{eqb}
 use lib.ListN.{length, getD}
-use Rattle.laws.specs.Members.{every-map2}
 use Rattle.network.specs.Network.{Net, arcs}
-use Rattle.certificates.specs.Push.{InBounds, Fits, one-bounds, one-fits, pushOne, pushAll}
+use Rattle.certificates.specs.Room.{roomy-forth, roomy-back}
+use Rattle.certificates.specs.Push.{InBounds, one-bounds, others-room, pushOne, pushAll}
 use Rattle.certificates.specs.Ready.{SmallBounds}
 use Rattle.pushing.specs.Pushing.{Pushable}
 
@@ -20,10 +19,10 @@ pub record PushTurn (N : Net) (δ : ℕ) (goal cur rest : List ℕ) : Type 0 whe
 
 pushable-rest : (N : Net) (δ : ℕ) (f : List ℕ) (c : ℕ) (rest : List ℕ) → Pushable N δ f (c ∷ rest) → Pushable N δ (pushOne δ c f) rest
 pushable-rest N δ f c rest a = record {
-  bounds = one-bounds N δ f c (a .bounds) (a .codes-in .0) (a .fits .0);
+  bounds = one-bounds N δ f c (a .bounds) (a .codes-in .0) (a .room .0);
   codes-in = a .codes-in .1;
   distinct = a .distinct .1;
-  fits = every-map2 (λ x. x ≢ c) (Fits N δ f) (Fits N δ (pushOne δ c f)) rest (one-fits N δ f c (a .bounds) (a .codes-in .0) (a .fits .0)) (a .distinct .0) (a .fits .1);
+  room = others-room N δ f c (a .bounds) (a .codes-in .0) (a .room .0) rest (a .distinct .0) (a .room .1);
 }
 
 pub push-step : (N : Net) (δ : ℕ) (goal cur l : List ℕ) (c : ℕ) (rest : List ℕ) → l ≡ c ∷ rest → PushTurn N δ goal cur l
@@ -35,15 +34,15 @@ push-step N δ goal cur l c rest e t cur′ p = rw p (go (rw e at t))
 
 -- what pushing along the first code asks
 pub push-asks : (N : Net) (δ : ℕ) (goal cur l : List ℕ) (c : ℕ) (rest : List ℕ) → SmallBounds N → l ≡ c ∷ rest → PushTurn N δ goal cur l
-    → (c / 2 < length cur) × (eqb (c % 2) 0 ≡ true → getD cur (c / 2) 0 + δ ≤ 4000000000) × (eqb (c % 2) 0 ≡ false → δ ≤ getD cur (c / 2) 0)
+    → (c / 2 < length cur) × (eqb (c % 2) 0 ≡ true → getD cur (c / 2) 0 + δ ≤ 1000000) × (eqb (c % 2) 0 ≡ false → δ ≤ getD cur (c / 2) 0)
 push-asks N δ goal cur l c rest z e t = go (rw e at t)
   where
     go : PushTurn N δ goal cur (c ∷ rest)
-        → (c / 2 < length cur) × (eqb (c % 2) 0 ≡ true → getD cur (c / 2) 0 + δ ≤ 4000000000) × (eqb (c % 2) 0 ≡ false → δ ≤ getD cur (c / 2) 0)
+        → (c / 2 < length cur) × (eqb (c % 2) 0 ≡ true → getD cur (c / 2) 0 + δ ≤ 1000000) × (eqb (c % 2) 0 ≡ false → δ ≤ getD cur (c / 2) 0)
     go t =
         let a = t .able in
         let k : c / 2 < arcs N = omega (arith, a .codes-in .0) in
-        (omega (arith, a .bounds .all-arcs), (λ p. omega (arith, a .fits .0 .forth p, z .ups-small (c / 2) k)), λ p. omega (arith, a .fits .0 .back p))
+        (omega (arith, a .bounds .all-arcs), (λ p. omega (arith, roomy-forth N cur δ c (a .room .0) p, z .ups-small (c / 2) k)), λ p. omega (arith, roomy-back N cur δ c (a .room .0) p))
 
 pub pushable-bounds : (N : Net) (δ : ℕ) (cs f : List ℕ) → Pushable N δ f cs → InBounds N (pushAll δ cs f)
 pushable-bounds N δ [] f a = a .bounds

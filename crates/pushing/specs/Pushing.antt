@@ -1,10 +1,14 @@
 -- What can go along a path, and what pushing it asks.
+use mathlib.Core.Path.{_≡_}
+use mathlib.Core.Bool.{true}
 use mathlib.Core.List.{List, [], _∷_}
-use Prim.Native.Nat.{ℕ, _+_, _<_, min}
+use Prim.Native.Nat.{ℕ, _<_, min}
 use Rattle.laws.specs.Members.{Every}
 use Rattle.laws.specs.Ascending.{Distinct}
-use Rattle.network.specs.Network.{Net, arcs}
-use Rattle.certificates.specs.Push.{Fits, InBounds, roomOf}
+use Rattle.network.specs.Network.{Net}
+use Rattle.network.specs.Residual.{codes}
+use Rattle.certificates.specs.Room.{roomy, roomOf}
+use Rattle.certificates.specs.Push.{InBounds}
 
 -- the least room along the codes, at most cap
 abbrev pub roomAll : Net → List ℕ → ℕ → List ℕ → ℕ
@@ -14,6 +18,6 @@ roomAll N f cap (c ∷ cs) = roomAll N f (min cap (roomOf N f c)) cs
 -- δ can go along the codes
 pub record Pushable (N : Net) (δ : ℕ) (f : List ℕ) (cs : List ℕ) : Type 0 where
   pub bounds : InBounds N f
-  pub codes-in : Every (λ c. c < arcs N + arcs N) cs
+  pub codes-in : Every (λ c. c < codes N) cs
   pub distinct : Distinct cs
-  pub fits : Every (Fits N δ f) cs
+  pub room : Every (λ c. roomy N f δ c ≡ true) cs

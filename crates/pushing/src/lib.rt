@@ -7,7 +7,8 @@ ghost use lib.Dec.{eqb};
 ghost use lib.ListN.{length, getD, take};
 ghost use Rattle.laws.specs.Members.{Every};
 ghost use Rattle.certificates.specs.Graph.{graph};
-ghost use Rattle.certificates.specs.Push.{InBounds, roomOf, pushOne, pushAll};
+ghost use Rattle.certificates.specs.Room.{roomOf};
+ghost use Rattle.certificates.specs.Push.{InBounds, pushOne, pushAll};
 ghost use Rattle.certificates.specs.Ready.{SmallBounds};
 ghost use Rattle.pushing.specs.Pushing.{roomAll, Pushable};
 
@@ -60,9 +61,9 @@ pub fn room(
     least
 }
 
-// d more along code c.
+// d more along code c, whose arc then carries at most 1,000,000, the most that a bound may be.
 fn push_one(flow: &mut [u32], c: usize, d: u32)
-    requires { ⌜ (c / 2 < length (now flow)) × (eqb (c % 2) 0 ≡ true → getD (now flow) (c / 2) 0 + d ≤ 4000000000) × (eqb (c % 2) 0 ≡ false → d ≤ getD (now flow) (c / 2) 0) ⌝ }
+    requires { ⌜ (c / 2 < length (now flow)) × (eqb (c % 2) 0 ≡ true → getD (now flow) (c / 2) 0 + d ≤ 1000000) × (eqb (c % 2) 0 ≡ false → d ≤ getD (now flow) (c / 2) 0) ⌝ }
     ensures { λ _. ⌜ now (flow .exit) ≡ pushOne d c (now (flow .entry)) ⌝ }
 {
     let h = c / 2;

@@ -1,11 +1,11 @@
--- A round over the residual arcs: labels fall, each arc has made its offer, and a round that changed nothing leaves a potential.
+-- A round over the residual arcs: labels fall, each arc has made its offer, and a round that changed nothing leaves a feasible potential.
 use mathlib.Core.Path.{_≡_, refl, sym, ap, subst, _∙_}
 use mathlib.Core.Bool.{Bool, true, false, cond, _&&_}
 use mathlib.Core.List.{List, [], _∷_}
 use Prim.Native.Nat.{ℕ, zero, suc, _+_, _*_, _≤_, _<_}
 use native.Mathlib.Omega.{arith}
 use native.Mathlib.Decide.{ℕ-discrete}
-use lib.ListN.{length, getD, set, length-set}
+use lib.ListN.{length, getD, set, replicate, length-set}
 use lib.Seq.{getD-set-same}
 use lib.IntN.{ℤ, pos, _+ℤ_}
 use lib.Signed.{ltZ, _≤ℤ_, _<ℤ_}
@@ -15,9 +15,10 @@ use Rattle.laws.specs.Tests.{and-true}
 use Rattle.laws.specs.Range.{Bounded, bounded-add, bounded-more}
 use Rattle.laws.specs.Store.{set-cases}
 use Rattle.network.specs.Network.{Net}
+use Rattle.network.specs.Potential.{FeasiblePotential}
 use Rattle.network.specs.Residual.{codes, src, dst, stepCost, walkCost}
-use Rattle.relaxation.specs.Labels.{Relaxable, roomy, State, state, label, offer, better, relaxed, relaxedAll, Sized}
-use Rattle.relaxation.specs.Potentials.{Quiet}
+use Rattle.certificates.specs.Room.{roomy}
+use Rattle.relaxation.specs.Labels.{Relaxable, State, state, label, offer, better, relaxed, relaxedAll, Sized}
 use Rattle.relaxation.proofs.Codes.{src-in, dst-in, step-small}
 use Rattle.relaxation.proofs.Trips.{Trip}
 
@@ -26,6 +27,11 @@ abbrev pub AtMost : Net → List ℕ → ℕ → ℕ → List ℤ → Type 0
 AtMost N f δ k d = (u v : ℕ) (cs : List ℕ) → length cs ≤ k → Trip N f δ u v cs → getD d v (pos 0) ≤ℤ walkCost N cs
 
 -- labels that are all 0
+pub zero-at : (n v : ℕ) → getD (replicate n (pos 0)) v (pos 0) ≡ pos 0
+zero-at zero v = refl
+zero-at (suc n) zero = refl
+zero-at (suc n) (suc v) = zero-at n v
+
 module _ (d : List ℤ) (zeros : (v : ℕ) → getD d v (pos 0) ≡ pos 0) where
   pub zeros-at-most : (N : Net) (f : List ℕ) (δ : ℕ) → AtMost N f δ 0 d
   zeros-at-most N f δ u v [] h w = rw (zeros v) (simp lin (omega arith))
@@ -170,12 +176,12 @@ module _ (N : Net) (f : List ℕ) (ok : Relaxable N f) (δ : ℕ) where
     changed : Changed d (codes N) (state d′ p′ last)
     changed = subst (Changed d (codes N)) (sym e) (round-changed d p len (codes N) (omega arith))
 
-    -- no label changed: the labels are a potential
-    pub left-quiet : last ≡ 64 → (k : ℕ) → AtMost N f δ k d → (d′ ≡ d) × Quiet N f δ (λ v. getD d v (pos 0))
-    left-quiet q k m = go changed
+    -- no label changed: the labels are a feasible potential
+    pub left-quiet : last ≡ 64 → (d′ ≡ d) × FeasiblePotential N (roomy N f δ) (λ v. getD d v (pos 0))
+    left-quiet q = go changed
       where
-        go : Changed d (codes N) (state d′ p′ last) → (d′ ≡ d) × Quiet N f δ (λ v. getD d v (pos 0))
-        go (quiet a b c) = (b, record { low = λ v. m v v [] (omega arith) refl; reduced = c })
+        go : Changed d (codes N) (state d′ p′ last) → (d′ ≡ d) × FeasiblePotential N (roomy N f δ) (λ v. getD d v (pos 0))
+        go (quiet a b c) = (b, c)
         go (noisy a b) = absurd (omega arith)
 
     -- or that of `last` fell

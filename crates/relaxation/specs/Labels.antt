@@ -1,19 +1,17 @@
 -- Labels corrected over the residual arcs that have room for a given amount (Bellman and Ford).
 use mathlib.Core.Path.{_≡_}
 use mathlib.Core.Bool.{Bool, cond, _&&_}
-use mathlib.Core.List.{List, []}
-use Prim.Native.Nat.{ℕ, zero, suc, _+_, _/_, _≤_, _<_}
-use lib.Dec.{leb}
+use mathlib.Core.List.{List}
+use Prim.Native.Nat.{ℕ, zero, suc, _≤_, _<_}
 use lib.ListN.{length, getD, set}
 use lib.IntN.{ℤ, pos, _+ℤ_}
 use lib.Signed.{ltZ}
 use Rattle.laws.specs.Range.{Bounded}
-use Rattle.network.specs.Network.{Net, arcs, tail, head, low, up, cost}
-use Rattle.network.specs.Residual.{either, src, dst, stepCost}
-
--- the network of the lists that a round reads; it reads no balances
-abbrev pub costGraph : List ℕ → List ℕ → List ℕ → List ℕ → List ℤ → Net
-costGraph t h l u c = record { balances = []; tails = t; heads = h; lows = l; ups = u; costs = c }
+use Rattle.network.specs.Network.{Net, arcs, tail, head, cost}
+use Rattle.network.specs.Residual.{src, dst, stepCost}
+use Rattle.certificates.specs.Push.{InBounds}
+use Rattle.certificates.specs.Ready.{SmallBounds}
+use Rattle.certificates.specs.Room.{roomy}
 
 -- at most 512 arcs, with ends below 64
 pub record SmallGraph (N : Net) : Type 0 where
@@ -22,21 +20,13 @@ pub record SmallGraph (N : Net) : Type 0 where
   pub tail-in : (a : ℕ) → a < arcs N → tail N a < 64
   pub head-in : (a : ℕ) → a < arcs N → head N a < 64
 
--- and as many bounds, costs and numbers of a flow within the bounds
+-- and as many small bounds, costs and numbers within the bounds
 pub record Relaxable (N : Net) (f : List ℕ) : Type 0 where
   pub graph : SmallGraph N
-  pub lows-len : length (N .lows) ≡ arcs N
-  pub ups-len : length (N .ups) ≡ arcs N
+  pub small : SmallBounds N
+  pub bounds : InBounds N f
   pub costs-len : length (N .costs) ≡ arcs N
-  pub flow-len : length f ≡ arcs N
-  pub up-small : (a : ℕ) → a < arcs N → up N a ≤ 1000000
-  pub low-flow : (a : ℕ) → a < arcs N → low N a ≤ getD f a 0
-  pub flow-up : (a : ℕ) → a < arcs N → getD f a 0 ≤ up N a
   pub cost-small : (a : ℕ) → a < arcs N → Bounded 1000000 (cost N a)
-
--- δ more can go along code c
-abbrev pub roomy : Net → List ℕ → ℕ → ℕ → Bool
-roomy N f δ c = either c (leb (getD f (c / 2) 0 + δ) (up N (c / 2))) (leb (low N (c / 2) + δ) (getD f (c / 2) 0))
 
 -- the labels of the nodes, the code that gave each its label (65535: none), and the node whose label fell last (64: none)
 pub record State : Type 0 where

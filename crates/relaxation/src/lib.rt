@@ -8,7 +8,8 @@ ghost use lib.Signed.{ltZ};
 ghost use mir.Syntax.{w64};
 ghost use mir.Val.{SFits};
 ghost use Rattle.network.specs.Residual.{codes};
-ghost use Rattle.relaxation.specs.Labels.{costGraph, Relaxable, state, setIf, relaxed, relaxedAll, Sized};
+ghost use Rattle.certificates.specs.Graph.{costGraph};
+ghost use Rattle.relaxation.specs.Labels.{Relaxable, state, setIf, relaxed, relaxedAll, Sized};
 
 // The residual arc `code` from u to v, if it is on: a better label for v, or nothing. The node whose label fell last.
 fn relax(
@@ -38,7 +39,7 @@ fn relax(
     last
 }
 
-// Both residual arcs of arc a, where `need` more can go.
+// Both residual arcs of arc a, where `need` more can go. The labels are those of 64 rounds at most: 64 × 1,024 codes of cost at most 1,000,000.
 fn relax_arc(
     tails: &[u8],
     heads: &[u8],
@@ -52,7 +53,7 @@ fn relax_arc(
     a: usize,
     last: usize,
 ) -> usize
-    requires { ⌜ Relaxable (costGraph (now tails) (now heads) (now lows) (now ups) (now costs)) (now flow) × Sized 90000000000 (now labels) (now preds) × (a < length (now tails)) × (need ≤ 1000000) ⌝ }
+    requires { ⌜ Relaxable (costGraph (now tails) (now heads) (now lows) (now ups) (now costs)) (now flow) × Sized 65536000000 (now labels) (now preds) × (a < length (now tails)) × (need ≤ 1000000) ⌝ }
     ensures { λ r. ⌜ state (now (labels .exit)) (now (preds .exit)) r ≡ relaxed (costGraph (now (tails .entry)) (now (heads .entry)) (now (lows .entry)) (now (ups .entry)) (now (costs .entry))) (now (flow .entry)) need (suc (a + a)) (relaxed (costGraph (now (tails .entry)) (now (heads .entry)) (now (lows .entry)) (now (ups .entry)) (now (costs .entry))) (now (flow .entry)) need (a + a) (state (now (labels .entry)) (now (preds .entry)) last)) ⌝ }
 {
     let t = tails[a] as usize;
@@ -65,7 +66,8 @@ fn relax_arc(
     relax(labels, preds, backward, h, t, -c, (a + a + 1) as u16, next)
 }
 
-// One round over the arcs. The node whose label fell last, or 64 where none did.
+// One round over the arcs, where `need` more can go. The node whose label fell last, or 64 where none did. The labels before it are those of
+// 63 rounds at most: 63 × 1,024 codes of cost at most 1,000,000.
 pub fn round(
     tails: &[u8],
     heads: &[u8],
@@ -77,7 +79,7 @@ pub fn round(
     labels: &mut [i64],
     preds: &mut [u16],
 ) -> usize
-    requires { ⌜ Relaxable (costGraph (now tails) (now heads) (now lows) (now ups) (now costs)) (now flow) × Sized 80000000000 (now labels) (now preds) × (need ≤ 1000000) ⌝ }
+    requires { ⌜ Relaxable (costGraph (now tails) (now heads) (now lows) (now ups) (now costs)) (now flow) × Sized 64512000000 (now labels) (now preds) × (need ≤ 1000000) ⌝ }
     ensures { λ r. ⌜ state (now (labels .exit)) (now (preds .exit)) r ≡ relaxedAll (costGraph (now (tails .entry)) (now (heads .entry)) (now (lows .entry)) (now (ups .entry)) (now (costs .entry))) (now (flow .entry)) need (codes (costGraph (now (tails .entry)) (now (heads .entry)) (now (lows .entry)) (now (ups .entry)) (now (costs .entry)))) (state (now (labels .entry)) (now (preds .entry)) 64) ⌝ }
 {
     let mut last = 64;

@@ -14,7 +14,8 @@ use Rattle.laws.specs.Ascending.{Distinct}
 use Rattle.laws.specs.Pigeonhole.{Twice, pigeon}
 use Rattle.network.specs.Network.{Net}
 use Rattle.network.specs.Residual.{codes, src, dst, stepCost, walkCost, Cycle}
-use Rattle.relaxation.specs.Labels.{SmallGraph, roomy}
+use Rattle.certificates.specs.Room.{roomy}
+use Rattle.relaxation.specs.Labels.{SmallGraph}
 use Rattle.relaxation.proofs.Trips.{Trip, trip-walk}
 use Rattle.relaxation.proofs.Rounds.{AtMost}
 use Rattle.search.specs.Predecessors.{pred, back, backCost, Backs, Returns, Ends, Period, trail, Labelled}

@@ -2,3 +2,4 @@ mod Relaxing
 mod Cycles
 mod Ways
 mod Searching
+pub mod Ending

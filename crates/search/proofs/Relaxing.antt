@@ -17,7 +17,8 @@ use Rattle.laws.specs.Store.{set-cases}
 use Rattle.laws.specs.Pigeonhole.{Found, find}
 use Rattle.network.specs.Network.{Net}
 use Rattle.network.specs.Residual.{codes, src, dst, stepCost}
-use Rattle.relaxation.specs.Labels.{SmallGraph, Relaxable, roomy, State, label, offer, better, relaxed, relaxedAll}
+use Rattle.certificates.specs.Room.{roomy}
+use Rattle.relaxation.specs.Labels.{SmallGraph, Relaxable, State, label, offer, better, relaxed, relaxedAll}
 use Rattle.relaxation.proofs.Codes.{src-in, dst-in}
 use Rattle.search.specs.Predecessors.{pred, back, backCost, Backs, Round, Labelled}
 

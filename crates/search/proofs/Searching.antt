@@ -1,21 +1,28 @@
 -- The rounds of the search: what holds before each, and what each way out shows.
 use mathlib.Core.Path.{_≡_, refl, sym, ap, subst, _∙_}
-use mathlib.Core.List.{List, _∷_}
+use mathlib.Core.List.{List, [], _∷_}
 use Prim.Native.Nat.{ℕ, zero, suc, _+_, _*_, _≤_, _<_}
 use native.Mathlib.Omega.{arith}
 use native.Mathlib.Numerals.{add-one}
 use lib.ListN.{length, getD}
 use lib.IntN.{ℤ, pos}
 use lib.Signed.{_<ℤ_}
+use Rattle.laws.specs.Linear.{lin, given2}
 use Rattle.laws.specs.Range.{bounded-more}
 use Rattle.network.specs.Network.{Net}
 use Rattle.network.specs.Residual.{codes, src}
-use Rattle.relaxation.specs.Labels.{costGraph, SmallGraph, Relaxable, State, state, relaxedAll, Sized}
+use Rattle.certificates.specs.Graph.{costGraph}
+use Rattle.relaxation.specs.Labels.{SmallGraph, Relaxable, State, state, relaxedAll, Sized}
+use Rattle.relaxation.proofs.Rises.{closed-nonneg}
 use Rattle.relaxation.proofs.Rounds.{AtMost, zeros-at-most, zeros-sized, left-at-most, left-sized, left-quiet, left-fell}
 use Rattle.search.specs.Predecessors.{pred, back, Backs, Round, Returns, trail, Labelled, WentBack, ended, went, Collected}
-use Rattle.search.specs.Search.{QuietLabels, Searched, found}
+use Rattle.search.specs.Search.{QuietLabels, Searched, found, none}
 use Rattle.search.proofs.Relaxing.{all-labelled}
 use Rattle.search.proofs.Cycles.{comes-round, period-cycle, period-room, period-negative, ends-late}
+
+-- labels that show that there is no negative cycle
+pub searched-none : (N : Net) (f : List ℕ) (δ : ℕ) (d : List ℤ) (out : List ℕ) → QuietLabels N f δ d → Searched N f δ d out out 0
+searched-none N f δ d out q = none refl (λ cs C. given2 (closed-nonneg N f δ (λ v. getD d v (pos 0)) (q .feasible) (C .cycle .node) cs (C .cycle .closed) (C .room)) (C .negative) (simp lin (omega arith))) q refl
 
 pub record Searching (N : Net) (f : List ℕ) (δ : ℕ) (d : List ℤ) (p : List ℕ) (k : ℕ) : Type 0 where
   pub early : k < 64
@@ -47,11 +54,12 @@ module _ (t h l u l′ u′ : List ℕ) (c c′ : List ℤ) (p : List ℕ) where
   went-any v r (ended e i n) = ended e i (record { few = n .few; steps = backs-any i v (n .steps); ends = subst (λ y. length t + length t ≤ pred p y) (back-any i v) (n .ends) })
   went-any v r (went e b) = went (e ∙ back-any 64 v) (backs-any 64 v b)
 
-  pub collected-any : (x : ℕ) (out : List ℕ) (r : ℕ) → Collected (costGraph t h l u c) p x out r → Collected (costGraph t h l′ u′ c′) p x out r
-  collected-any x out r k = record {
+  pub collected-any : (x : ℕ) (out out′ : List ℕ) (r : ℕ) → Collected (costGraph t h l u c) p x out out′ r → Collected (costGraph t h l′ u′ c′) p x out out′ r
+  collected-any x out out′ r k = record {
     few = k .few;
     period = record { round = round-any x r (k .period .round); first = λ i a b e. k .period .first i a b (back-any i x ∙ e) };
     are = k .are ∙ trail-any r x;
+    rest = k .rest;
   }
 
 pub graph-any : (t h l u l′ u′ : List ℕ) (c c′ : List ℤ) → SmallGraph (costGraph t h l u c) → SmallGraph (costGraph t h l′ u′ c′)
@@ -61,7 +69,7 @@ module _ (N : Net) (f : List ℕ) (ok : Relaxable N f) (δ : ℕ) where
   -- no labels yet
   pub searching-start : (d : List ℤ) (p : List ℕ) → length d ≡ 64 → length p ≡ 64 → ((v : ℕ) → getD d v (pos 0) ≡ pos 0) → ((v : ℕ) → v < 64 → 1024 ≤ pred p v) → Searching N f δ d p 0
   unfolding back
-  searching-start d p dl pl zeros none = record {
+  searching-start d p dl pl zeros unset = record {
     early = omega arith;
     labelled = record {
       labels-len = dl;
@@ -77,7 +85,7 @@ module _ (N : Net) (f : List ℕ) (ok : Relaxable N f) (δ : ℕ) where
   }
     where
       rootless : (v : ℕ) → v < 64 → ¬ (pred p v < codes N)
-      rootless v h l = omega (arith, none v h, ok .graph .few)
+      rootless v h l = omega (arith, unset v h, ok .graph .few)
 
   -- a round from d and p, which left d′, p′ and last
   module _ (d : List ℤ) (p : List ℕ) (k : ℕ) (S : Searching N f δ d p k) (d′ : List ℤ) (p′ : List ℕ) (last : ℕ)
@@ -87,10 +95,11 @@ module _ (N : Net) (f : List ℕ) (ok : Relaxable N f) (δ : ℕ) where
 
     pub quiet-of : last ≡ 64 → QuietLabels N f δ d′
     quiet-of q =
-        let (b, c) = left-quiet N f ok δ d p (S .labelled .labels-len) d′ p′ last e q k (S .at-most) in
+        let (b, c) = left-quiet N f ok δ d p (S .labelled .labels-len) d′ p′ last e q in
         subst (QuietLabels N f δ) (sym b) (record {
           len = S .labelled .labels-len;
-          quiet = c;
+          low = λ v. S .at-most v v [] (omega arith) refl;
+          feasible = c;
           small = λ v h. bounded-more (omega (arith, S .early)) (S .sized .small v h);
         })
 
@@ -111,9 +120,9 @@ module _ (N : Net) (f : List ℕ) (ok : Relaxable N f) (δ : ℕ) where
     searching-more x n (went q b) m = absurd (omega (arith, comes-round N p′ (ok .graph) last (fell n .0) b .round .node))
 
   -- the cycle's codes
-  pub searched-found : 0 < δ → (d : List ℤ) (p : List ℕ) → Labelled N f δ d p → (x : ℕ) (out : List ℕ) (r : ℕ) → Collected N p x out r → Searched N f δ d out r
-  searched-found h d p L x out r c = found (c .few) (rw (c .are) (record {
+  pub searched-found : 0 < δ → (d : List ℤ) (p : List ℕ) → Labelled N f δ d p → (x : ℕ) (out out′ : List ℕ) (r : ℕ) → Collected N p x out out′ r → Searched N f δ d out out′ r
+  searched-found h d p L x out out′ r c = found (c .few) (rw (c .are) (record {
     cycle = period-cycle N f (ok .graph) δ d p L x r (c .period) h;
     room = period-room N f (ok .graph) δ d p L x r (c .period);
     negative = period-negative N f (ok .graph) δ d p L x r (c .period);
-  }))
+  })) (c .rest)

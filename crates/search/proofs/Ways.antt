@@ -5,8 +5,9 @@ use Prim.Native.Nat.{ℕ, suc, _+_, _/_, _≤_, _<_}
 use native.Mathlib.Omega.{arith}
 use native.Mathlib.Numerals.{add-one}
 use native.Mathlib.Decide.{ℕ-discrete}
-use lib.ListN.{length, take, set, length-set}
+use lib.ListN.{length, take, drop, set, length-set}
 use lib.Seq.{take-suc-set}
+use Rattle.laws.specs.Store.{drop-set-next}
 use Rattle.network.specs.Network.{Net, arcs}
 use Rattle.network.specs.Residual.{codes, src}
 use Rattle.relaxation.specs.Labels.{SmallGraph}
@@ -49,20 +50,21 @@ module _ (N : Net) (ok : SmallGraph N) (p : List ℕ) where
   pub going-ends : (v i w : ℕ) → Going N p v i w → i < 64 → codes N ≤ pred p w → Ends N p v i
   going-ends v i w g l h = record { few = l; steps = g .steps; ends = subst (λ y. codes N ≤ pred p y) (g .is) h }
 
-pub record Collecting (N : Net) (p : List ℕ) (x : ℕ) (out : List ℕ) (w len : ℕ) : Type 0 where
+pub record Collecting (N : Net) (p : List ℕ) (x : ℕ) (out₀ out : List ℕ) (w len : ℕ) : Type 0 where
   pub returns : Returns N p x
   pub early : len < returns .steps
   pub is : w ≡ back N p len x
   pub away : (i : ℕ) → 0 < i → i ≤ len → ¬ (back N p i x ≡ x)
   pub long : length out ≡ 64
   pub are : take len out ≡ trail N p len x
+  pub rest : drop len out ≡ drop len out₀
 
 module _ (N : Net) (ok : SmallGraph N) (p : List ℕ) (x : ℕ) where
-  pub collecting-none : (out : List ℕ) → length out ≡ 64 → Returns N p x → Collecting N p x out x 0
+  pub collecting-none : (out : List ℕ) → length out ≡ 64 → Returns N p x → Collecting N p x out out x 0
   unfolding back
-  collecting-none out h r = record { returns = r; early = r .round .some; is = refl; away = λ i l k. absurd (omega arith); long = h; are = refl }
+  collecting-none out h r = record { returns = r; early = r .round .some; is = refl; away = λ i l k. absurd (omega arith); long = h; are = refl; rest = refl }
 
-  module _ (out : List ℕ) (w len : ℕ) (c : Collecting N p x out w len) where
+  module _ (out₀ out : List ℕ) (w len : ℕ) (c : Collecting N p x out₀ out w len) where
     pub here : pred p w < codes N
     here = subst (λ y. pred p y < codes N) (sym (c .is)) (c .returns .round .steps len (c .early))
 
@@ -81,7 +83,7 @@ module _ (N : Net) (ok : SmallGraph N) (p : List ℕ) (x : ℕ) where
     unfolding back
     next-is w′ e = e ∙ ap (λ y. src N (pred p y)) (c .is)
 
-    pub collecting-more : (w′ : ℕ) → w′ ≡ src N (pred p w) → ¬ (w′ ≡ x) → Collecting N p x (set out len (pred p w)) w′ (len + 1)
+    pub collecting-more : (w′ : ℕ) → w′ ≡ src N (pred p w) → ¬ (w′ ≡ x) → Collecting N p x out₀ (set out len (pred p w)) w′ (len + 1)
     collecting-more w′ e n = record {
       returns = c .returns;
       early = rw add-one (later (ℕ-discrete (suc len) (c .returns .steps)));
@@ -89,6 +91,7 @@ module _ (N : Net) (ok : SmallGraph N) (p : List ℕ) (x : ℕ) where
       away = λ i l k. apart i l (rw add-one at k) (ℕ-discrete i (suc len));
       long = length-set out len (pred p w) ∙ c .long;
       are = rw add-one stored;
+      rest = drop-set-next out out₀ len (pred p w) (c .rest);
     }
       where
         later : Dec (suc len ≡ c .returns .steps) → suc len < c .returns .steps
@@ -99,7 +102,7 @@ module _ (N : Net) (ok : SmallGraph N) (p : List ℕ) (x : ℕ) where
         apart i l k (yes q) e′ = n (next-is w′ e ∙ ap (λ k. back N p k x) (sym q) ∙ e′)
         apart i l k (no q) e′ = c .away i l (omega arith) e′
 
-    pub collecting-done : (w′ : ℕ) → w′ ≡ src N (pred p w) → w′ ≡ x → Collected N p x (set out len (pred p w)) (len + 1)
+    pub collecting-done : (w′ : ℕ) → w′ ≡ src N (pred p w) → w′ ≡ x → Collected N p x out₀ (set out len (pred p w)) (len + 1)
     collecting-done w′ e q = record {
       few = omega (arith, room);
       period = rw add-one (record {
@@ -112,4 +115,5 @@ module _ (N : Net) (ok : SmallGraph N) (p : List ℕ) (x : ℕ) where
         first = λ i l k. c .away i l (omega arith);
       });
       are = rw add-one stored;
+      rest = drop-set-next out out₀ len (pred p w) (c .rest);
     }

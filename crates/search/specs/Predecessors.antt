@@ -3,12 +3,12 @@ use mathlib.Core.Path.{_≡_}
 use mathlib.Core.Bool.{true}
 use mathlib.Core.List.{List, [], _∷_}
 use Prim.Native.Nat.{ℕ, zero, suc, _≤_, _<_}
-use lib.ListN.{length, getD, take}
+use lib.ListN.{length, getD, take, drop}
 use lib.IntN.{ℤ, pos, _+ℤ_}
 use lib.Signed.{_≤ℤ_, _<ℤ_}
 use Rattle.network.specs.Network.{Net}
 use Rattle.network.specs.Residual.{codes, src, dst, stepCost}
-use Rattle.relaxation.specs.Labels.{roomy}
+use Rattle.certificates.specs.Room.{roomy}
 
 -- the code that gave node v its label
 abbrev pub pred : List ℕ → ℕ → ℕ
@@ -73,8 +73,9 @@ pub data WentBack (N : Net) (p : List ℕ) (v r : ℕ) : Type 0 where
   ended : r ≡ 64 → (t : ℕ) → Ends N p v t → WentBack N p v r
   went : r ≡ back N p 64 v → Backs N p 64 v → WentBack N p v r
 
--- r codes lead back from x to x for the first time
-pub record Collected (N : Net) (p : List ℕ) (x : ℕ) (out : List ℕ) (r : ℕ) : Type 0 where
+-- r codes lead back from x to x for the first time; the lent list keeps what it held beyond them
+pub record Collected (N : Net) (p : List ℕ) (x : ℕ) (out out′ : List ℕ) (r : ℕ) : Type 0 where
   pub few : r ≤ 64
   pub period : Period N p x r
-  pub are : take r out ≡ trail N p r x
+  pub are : take r out′ ≡ trail N p r x
+  pub rest : drop r out′ ≡ drop r out

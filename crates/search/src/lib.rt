@@ -4,11 +4,12 @@ ghost use mathlib.Core.List.{[]};
 ghost use Prim.Native.Nat.{ℕ, _≤_, _<_};
 ghost use lib.ListN.{length, getD};
 ghost use lib.IntN.{pos};
-ghost use Rattle.relaxation.specs.Labels.{costGraph, SmallGraph, Relaxable};
+ghost use Rattle.certificates.specs.Graph.{costGraph};
+ghost use Rattle.relaxation.specs.Labels.{SmallGraph, Relaxable};
 ghost use Rattle.search.specs.Predecessors.{Returns, WentBack, Collected};
 ghost use Rattle.search.specs.Search.{Searched};
 
-// 64 predecessors back from v, or 64 where a node without one is met.
+// The node 64 predecessors back from v, which is on a cycle; or 64, no node, where one without a predecessor is met.
 fn go_back(tails: &[u8], heads: &[u8], preds: &[u16], v: usize) -> usize
     requires { ⌜ SmallGraph (costGraph (now tails) (now heads) [] [] []) × (length (now preds) ≡ 64) × (v < 64) ⌝ }
     ensures { λ r. ⌜ WentBack (costGraph (now (tails .entry)) (now (heads .entry)) [] [] []) (now (preds .entry)) v r ⌝ }
@@ -28,7 +29,7 @@ fn go_back(tails: &[u8], heads: &[u8], preds: &[u16], v: usize) -> usize
 // The codes of the cycle through x, the last first. How many.
 fn collect(tails: &[u8], heads: &[u8], preds: &[u16], x: usize, out: &mut [usize]) -> usize
     requires { ⌜ SmallGraph (costGraph (now tails) (now heads) [] [] []) × (length (now preds) ≡ 64) × (length (now out) ≡ 64) × Returns (costGraph (now tails) (now heads) [] [] []) (now preds) x ⌝ }
-    ensures { λ r. ⌜ Collected (costGraph (now (tails .entry)) (now (heads .entry)) [] [] []) (now (preds .entry)) x (now (out .exit)) r ⌝ }
+    ensures { λ r. ⌜ Collected (costGraph (now (tails .entry)) (now (heads .entry)) [] [] []) (now (preds .entry)) x (now (out .entry)) (now (out .exit)) r ⌝ }
 {
     let mut w = x;
     let mut len = 0;
@@ -54,7 +55,8 @@ fn clear(labels: &mut [i64])
     }
 }
 
-// A residual cycle of negative cost, each of its arcs with room for `need` more: its codes, the last first, and how many; or 0, and labels that show there is none.
+// A residual cycle of negative cost with room for `need` more on each arc (for 1, any such cycle): its codes, the last first, and how many;
+// or 0, and labels that show that there is none.
 pub fn find_cycle(
     tails: &[u8],
     heads: &[u8],
@@ -67,11 +69,13 @@ pub fn find_cycle(
     out: &mut [usize],
 ) -> usize
     requires { ⌜ Relaxable (costGraph (now tails) (now heads) (now lows) (now ups) (now costs)) (now flow) × (0 < need) × (need ≤ 1000000) × (length (now labels) ≡ 64) × (length (now out) ≡ 64) ⌝ }
-    ensures { λ r. ⌜ Searched (costGraph (now (tails .entry)) (now (heads .entry)) (now (lows .entry)) (now (ups .entry)) (now (costs .entry))) (now (flow .entry)) need (now (labels .exit)) (now (out .exit)) r ⌝ }
+    ensures { λ r. ⌜ Searched (costGraph (now (tails .entry)) (now (heads .entry)) (now (lows .entry)) (now (ups .entry)) (now (costs .entry))) (now (flow .entry)) need (now (labels .exit)) (now (out .entry)) (now (out .exit)) r ⌝ }
 {
     clear(labels);
     let mut preds = [65535u16; 64];
+    // The rounds so far, which are fewer than 64. Only the proof reads it.
     let mut k: usize = 0;
+    // A node on a cycle, or 64 after a round that changed no label.
     let node = 'rounds: loop {
         let last = relaxation::round(
             tails,

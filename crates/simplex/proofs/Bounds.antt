@@ -1,14 +1,16 @@
 -- Clamped numbers are within the bounds, where no lower bound is above the upper one.
+use mathlib.Core.Path.{_≡_}
 use mathlib.Core.List.{List}
 use Prim.Native.Nat.{ℕ, _≤_, _<_}
 use native.Mathlib.Omega.{arith}
 use lib.ListN.{length, getD}
+use Rattle.certificates.specs.Graph.{graph}
+use Rattle.certificates.specs.Push.{InBounds}
 use Rattle.clamping.specs.Clamped.{Clamped}
-use Rattle.simplex.specs.Bounds.{WithinBounds}
 
-pub within-bounds : {l u r f : List ℕ} → Clamped l u r f → ((a : ℕ) → a < length f → getD l a 0 ≤ getD u a 0) → WithinBounds l u f
-within-bounds c h = record {
-  len = c .len;
-  above = λ a k. omega (arith, c .each a k, h a k);
-  below = λ a k. omega (arith, c .each a k);
+pub in-bounds : {t h l u r f : List ℕ} → Clamped l u r f → length l ≡ length t → ((a : ℕ) → a < length t → getD l a 0 ≤ getD u a 0) → InBounds (graph t h l u) f
+in-bounds c e h = record {
+  all-arcs = omega (arith, c .len);
+  above = λ a k. omega (arith, c .each a (omega (arith, c .len)), h a k);
+  below = λ a k. omega (arith, c .each a (omega (arith, c .len)));
 }

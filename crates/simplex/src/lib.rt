@@ -2,11 +2,13 @@
 // that it is within the bounds: whoever needs a flow tests it.
 ghost use Prim.Native.Nat.{ℕ, _≤_, _<_};
 ghost use lib.ListN.{length, getD};
+ghost use Rattle.certificates.specs.Graph.{graph};
+ghost use Rattle.certificates.specs.Push.{InBounds};
 ghost use Rattle.simplex.specs.Lengths.{SameLengths};
-ghost use Rattle.simplex.specs.Bounds.{WithinBounds};
 
 // The nodes of the tree are those of the network and the root; arc m + v joins node v to the root. Code 2a is the arc a from its tail to
-// its head, 2a + 1 the same arc back. What an array says of a code: its head, its room, its cost.
+// its head, 2a + 1 the same arc back. What an array says of a code: its head, its room, its cost. There are at most 2 × (512 + 64) codes; the
+// arrays have the next power of two of places, so that `% 2048` keeps any number within them. An array of 256 places is read by a u8.
 const ROOT: u8 = 64;
 
 // More than any path costs.
@@ -95,8 +97,8 @@ fn push_up(
     }
 }
 
-// A path up the tree to the join: the node where it ends, the least room on it, and the node whose arc upwards has it; ROOT if no arc of
-// the path has less than could come.
+// A path up the tree to the node `join`: `amount` can go along it, which is the room of the arc above the node `leave` or, if that is ROOT,
+// the most that was asked for.
 struct PathToJoin {
     join: u8,
     leave: u8,
@@ -112,7 +114,7 @@ fn tree_room(room: &[u32; 2048], up: &[usize; 256], x: u8, upwards: bool) -> u32
     room[back(code)]
 }
 
-// From `from` up to the join, the first node whose subtree has `to`, where `most` can come. Of the arcs with the least room, the last on
+// From `from` up to the join, the first node whose subtree has `to`, for at most `most`. Of the arcs with the least room, the last on
 // the cycle is taken: down from the join, by the entering arc, and up again. Then no tree comes back.
 fn path_to_join(
     head: &[u8; 2048],
@@ -565,7 +567,8 @@ fn solve(
     improve(head, room, cost, &mut up, &mut price, &mut below, m);
 }
 
-// The rooms after the last pivot; as given, where the balances do not sum to 0.
+// Writes the room of each code after the last pivot; that of code 2a + 1 is what arc a carries above its lower bound. Where the balances do
+// not sum to 0 there is no flow, and `room` stays as it was.
 fn optimise(
     tails: &[u8],
     heads: &[u8],
@@ -608,7 +611,7 @@ pub fn guess(
     flow: &mut [u32],
 )
     requires { ⌜ SameLengths (length (now flow)) (now tails) (now heads) (now lows) (now ups) (now costs) × (length (now balances) ≤ 64) × ((a : ℕ) → a < length (now flow) → getD (now lows) a 0 ≤ getD (now ups) a 0) ⌝ }
-    ensures { λ _. ⌜ WithinBounds (now (lows .entry)) (now (ups .entry)) (now (flow .exit)) ⌝ }
+    ensures { λ _. ⌜ InBounds (graph (now (tails .entry)) (now (heads .entry)) (now (lows .entry)) (now (ups .entry))) (now (flow .exit)) ⌝ }
 {
     let mut room = [0u32; 2048];
     optimise(tails, heads, lows, ups, costs, balances, &mut room);

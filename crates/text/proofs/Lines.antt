@@ -1,4 +1,4 @@
--- Lines of one form, one after another: what a loop knows that reads them. Assumes nothing.
+-- Lines of one form, one after another: what a loop knows that reads them.
 use Prim.Native.Nat.{ℕ, zero, suc, _+_, _-_, _<_, _≤_}
 use mathlib.Core.Path.{_≡_, refl, ap, _∙_}
 use mathlib.Core.List.{List, [], _∷_, _++_}

@@ -1,17 +1,22 @@
--- The rest of a line. Assumes nothing.
-use Prim.Native.Nat.{ℕ, suc, _-_, _≤_}
-use mathlib.Core.Path.{_≡_, _∙_}
+-- The rest of a line.
+use Prim.Native.Nat.{ℕ, suc, _-_, _<_, _≤_}
+use mathlib.Core.Path.{_≡_, refl, _∙_}
 use mathlib.Core.List.{List, [], _∷_}
 use native.Mathlib.Omega.{arith}
-use lib.ListN.{length, drop, set, length-set}
-use lib.Seq.{drop-cons, getD-set-same, drop-set-lt}
-use Rattle.text.specs.Reader.{_>>=_, _>>_, give, bytes, text, number, row, Right}
+use lib.ListN.{length, drop, getD, set, replicate, length-set, getD-replicate}
+use lib.Seq.{drop-cons, getD-set-same, getD-set-other, drop-set-lt}
+use Rattle.text.specs.Reader.{fails, _>>=_, _>>_, give, bytes, text, number, row, Right, RowRead}
+use Rattle.text.proofs.Runs.{absent}
 use Rattle.text.proofs.Sequence.{From, begin, mapped}
 
 -- a row of no numbers
-pub row-none : (head s : List ℕ) (n u : ℕ) → n ≡ 0 → Right s (text (bytes ")\n") s) u tt → Right s (row head n s) u []
+pub row-none : (head s : List ℕ) (n u : ℕ) → n ≡ 0 → Right s (text (bytes ")\n") s) u tt → RowRead s head n u (replicate 4 0)
 unfolding row _>>_
-row-none head s n u e r = rw e (mapped (text (bytes ")\n")) (λ _. []) s r)
+row-none head s n u e r = record { right = rw e (mapped (text (bytes ")\n")) (λ _. []) s r); before = λ k h. getD-replicate 4 k 0 0 (omega arith); none = λ _. refl }
+
+-- a row that is not there
+pub row-absent : (head s : List ℕ) (n : ℕ) → row head n s ≡ fails → RowRead s head n 0 (replicate 4 0)
+row-absent head s n e = record { right = absent e; before = λ k h. getD-replicate 4 k 0 0 (omega arith); none = λ _. refl }
 
 -- a row of m numbers and one before them
 pub row-more : (head s : List ℕ) (n m : ℕ) → n ≡ suc m
@@ -27,3 +32,6 @@ put-first l n v e h z =
   where
     next : suc (4 - n) ≡ 4 - (n - 1)
     next = omega arith
+
+pub put-before : (l : List ℕ) (n v : ℕ) → (n ≡ 0 → ⊥) → ((k : ℕ) → k < 4 - (n - 1) → getD l k 0 ≡ 0) → (k : ℕ) → k < 4 - n → getD (set l (4 - n) v) k 0 ≡ 0
+put-before l n v z h k i = getD-set-other l (4 - n) k v 0 (λ e. omega arith) ∙ h k (omega arith)

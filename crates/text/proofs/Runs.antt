@@ -1,4 +1,4 @@
--- A fixed text, a number and a word, at an index of the bytes, which is how the code's loops go. Assumes nothing.
+-- A fixed text, a number and a word, at an index of the bytes, which is how the code's loops go.
 use Prim.Native.Nat.{ℕ, _+_, _*_, _-_, _^_, _<_, _≤_}
 use mathlib.Core.Path.{_≡_, refl, sym, ap, _∙_}
 use mathlib.Core.List.{List, [], _∷_}

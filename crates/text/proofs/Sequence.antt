@@ -1,4 +1,4 @@
--- One form after another, each read from the rest that follows the one before. Assumes nothing.
+-- One form after another, each read from the rest that follows the one before.
 use Prim.Native.Nat.{ℕ, _+_, _-_, _<_, _≤_}
 use mathlib.Core.Path.{_≡_, refl, sym, ap, _∙_}
 use mathlib.Core.List.{List}

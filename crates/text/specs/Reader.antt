@@ -1,11 +1,11 @@
 -- Readers: what stands at the front of a list of bytes, and the bytes that follow it.
-use Prim.Native.Nat.{ℕ, zero, suc, _+_, _*_, _-_, _≤_}
+use Prim.Native.Nat.{ℕ, zero, suc, _+_, _*_, _-_, _<_, _≤_}
 use Prim.Native.Char.{code}
 use Prim.Native.String.{String, [] as []ˢ, _∷_ as _∷ˢ_}
 use mathlib.Core.Path.{_≡_}
 use mathlib.Core.List.{List, [], _∷_}
 use mathlib.Core.Bool.{Bool, true, false, not, _&&_, _||_}
-use lib.ListN.{length, drop, getD}
+use lib.ListN.{length, drop, getD, replicate}
 use lib.Dec.{leb, eqb}
 
 -- a form was read, with its value and the bytes that follow it; or it does not stand there
@@ -65,13 +65,14 @@ front test (b ∷ s) = elim (test b) [ true ↦ b ∷ front test s | false ↦ [
 unfoldable pub run : (ℕ → Bool) → Reader (List ℕ)
 run test s = reads (front test s) (drop (length (front test s)) s)
 
+-- 48 to 57 are the bytes of 0 to 9, 97 to 122 those of a to z
 abbrev pub digit : ℕ → Bool
 digit b = leb 48 b && leb b 57
 
 abbrev pub letter : ℕ → Bool
 letter b = leb 97 b && leb b 122
 
--- the value of a run of digits after a number a
+-- the value of a run of digits that follows the digits of the number a
 unfoldable pub valueFrom : ℕ → List ℕ → ℕ
 valueFrom a [] = a
 valueFrom a (d ∷ ds) = valueFrom (a * 10 + (d - 48)) ds
@@ -129,3 +130,10 @@ pub record Right {A : Type 0} (s : List ℕ) (p : Parsed A) (used : ℕ) (a : A)
   pub absent : used ≡ 0 → p ≡ fails
   pub stands : (used ≡ 0 → ⊥) → p ≡ reads a (drop used s)
   pub within : used ≤ length s
+
+-- What is answered of a row of n numbers, at most 4: they are the last n of four, and the numbers before them are 0; all four are 0 where
+-- there is no such row.
+pub record RowRead (s head : List ℕ) (n used : ℕ) (numbers : List ℕ) : Type 0 where
+  pub right : Right s (row head n s) used (drop (4 - n) numbers)
+  pub before : (k : ℕ) → k < 4 - n → getD numbers k 0 ≡ 0
+  pub none : used ≡ 0 → numbers ≡ replicate 4 0

@@ -1,15 +1,15 @@
 // Readers of text. Each reads what stands at the front of `rest`, and answers how many bytes it takes: 0 if it is not there.
-ghost use Prim.Native.Nat.{_-_, _<_, _≤_};
+ghost use Prim.Native.Nat.{_<_, _≤_};
 ghost use mathlib.Core.Path.{_≡_};
-ghost use lib.ListN.{length, take, drop};
-ghost use Rattle.text.specs.Reader.{digit, wordByte, text, number, word, row, Right};
+ghost use lib.ListN.{length, take};
+ghost use Rattle.text.specs.Reader.{digit, wordByte, text, number, word, Right, RowRead};
 
 pub struct Number {
     pub value: u32,
     pub used: usize,
 }
 
-// The last n places of `numbers` hold the n numbers of a row.
+// The last n places of `numbers` hold the n numbers of a row; the others are 0.
 pub struct Row {
     pub numbers: [u32; 4],
     pub used: usize,
@@ -90,7 +90,7 @@ pub fn read_word(rest: &[u8]) -> usize
 // The rest of a line from `head` on, with n numbers.
 pub fn read_row(rest: &[u8], head: &[u8], n: usize) -> Row
     requires { ⌜ (n ≤ 4) × (0 < length (now head)) ⌝ }
-    ensures { λ r. ⌜ Right (now (rest .entry)) (row (now (head .entry)) n (now (rest .entry))) (r .used) (drop (4 - n) (r .numbers)) ⌝ }
+    ensures { λ r. ⌜ RowRead (now (rest .entry)) (now (head .entry)) n (r .used) (r .numbers) ⌝ }
 {
     if n == 0 {
         return Row {

@@ -9,7 +9,9 @@ use lib.ListN.{length}
 use Rattle.laws.specs.Tests.{ask}
 use Rattle.book.specs.Book.{Book, parse}
 use Rattle.book.specs.Questions.{refusal, questionOf, lineOf}
+use Rattle.book.specs.Told.{Told}
 use Rattle.book.specs.Checked.{checkedBook, entriesOf}
+use Rattle.book.proofs.Told.{untold}
 use Rattle.book_check.specs.Judged.{Judged}
 use Rattle.book.specs.declared.Checked.{Checked}
 use Rattle.book.specs.declared.CheckedBook.{CheckedBook}
@@ -18,9 +20,7 @@ use Rattle.book_network.proofs.Made.{held}
 use Rattle.calls.specs.ByteLists.{room}
 use Rattle.calls.proofs.Turns.{fails-first}
 use Rattle.allocation.specs.BookBytes.{size}
-use Rattle.way_bytes.specs.Told.{Told}
 use Rattle.way_bytes.specs.Steps.{Admits}
-use Rattle.way_bytes.proofs.Told.{told, untold}
 
 module _ (s : List ℕ) where
   pub accepted : (v : Checked) → Judged s v → questionOf (v .answer) ≡ 0 → refusal s ≡ 0
@@ -35,7 +35,7 @@ module _ (s : List ℕ) where
   -- questions 11 to 17 with a list of so many bytes for the way: what `admit` hands back
   module _ (r : Checked) (judged : Judged s r) (bytes : ℕ) where
     pub admits-refused : (k t : ℕ) → k ≡ questionOf (r .answer) → t ≡ lineOf (r .answer) → ¬ (k ≡ 0) → Admits s bytes (record { number = k; line = t; book = r .book })
-    admits-refused k t e l n = record { number-is = fails-first (refusal s) _ k (e ∙ judged .question) n; told = rw (e, l) (told s r judged); book-is = judged .book }
+    admits-refused k t e l n = record { number-is = fails-first (refusal s) _ k (e ∙ judged .question) n; told = rw (e, l) (judged .line); book-is = judged .book }
 
     pub admits : (b : Bool) → questionOf (r .answer) ≡ 0 → room (r .book .count) bytes ≡ b → Admits s bytes (record { number = ask b 17 0; line = 0; book = r .book })
     admits b z e = record { number-is = rw (ok, fits); told = tell b; book-is = judged .book }
@@ -47,5 +47,5 @@ module _ (s : List ℕ) where
         fits = ap (λ n. room n bytes) (sym (ap (λ (c : CheckedBook). c .count) (judged .book) ∙ count-is ok)) ∙ e
 
         tell : (t : Bool) → Told s (ask t 17 0) 0
-        tell true = untold s ok 0 (λ e. omega arith) (λ e. omega arith) (λ e. omega arith)
-        tell false = untold s ok 17 (λ e. omega arith) (λ e. omega arith) (λ e. omega arith)
+        tell true = untold 0 (λ e. omega arith) (λ e. omega arith) (λ e. omega arith) s
+        tell false = untold 17 (λ e. omega arith) (λ e. omega arith) (λ e. omega arith) s

@@ -9,7 +9,7 @@ use lib.ListN.{length}
 use Rattle.laws.specs.Members.{Every}
 use Rattle.bytes32.specs.Words.{words}
 use Rattle.book.specs.Book.{Book}
-use Rattle.book.proofs.Accepted.{Accepted}
+use Rattle.book.specs.WithinLimits.{WithinLimits}
 use Rattle.allocation.specs.Follow.{size}
 use Rattle.allocation.specs.Ways.{Joined, LeastCostWay}
 use Rattle.allocation.specs.FullWays.{fullWays}
@@ -17,7 +17,7 @@ use Rattle.allocation.proofs.FullWays.{full-way, full-ways-ascending}
 use Rattle.calls.specs.ByteLists.{listed}
 use Rattle.calls.proofs.Lines.{FullOf, listed-line, line-listed}
 
-module _ (b : Book) (ok : Accepted b) where
+module _ (b : Book) (ok : WithinLimits b) where
   joined-small : (j : ℕ) (w : List ℕ) → Joined b j w → Every (λ n. n < 4294967296) w
   joined-small j [] h = tt
   joined-small j (p ∷ w) h = (let k = ok .few in let l = h .0 in omega arith, joined-small (suc j) w (h .2))

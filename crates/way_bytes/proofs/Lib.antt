@@ -1,4 +1,3 @@
 pub mod BookLines
-pub mod Told
 pub mod BookBytes
 mod HandingWays

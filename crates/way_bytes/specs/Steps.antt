@@ -9,19 +9,20 @@ use Rattle.laws.specs.Tests.{ask}
 use Rattle.bytes32.specs.Words.{words}
 use Rattle.book.specs.Book.{Book}
 use Rattle.book.specs.Questions.{refusal}
+use Rattle.book.specs.Told.{Told}
 use Rattle.book.specs.Checked.{checkedBook}
 use Rattle.book.specs.declared.CheckedBook.{CheckedBook}
 use Rattle.allocation.specs.Ways.{wayCost}
 use Rattle.allocation.specs.FullWays.{fullWays}
 use Rattle.book_network.specs.Held.{Holds}
-use Rattle.way_enumerator.specs.WayWalk.{Walks, wayAt}
+use Rattle.enumerator.specs.declared.Place.the-variants.{Start}
+use Rattle.way_enumerator.specs.WayWalk.{Walks, wayAt, At}
 use Rattle.way_enumerator.specs.declared.WayWalk.{WayWalk}
 use Rattle.calls.specs.declared.Reply.{Reply}
 use Rattle.calls.specs.Replies.{orElse, HandedOut}
 use Rattle.calls.specs.ByteLists.{room, listed}
 use Rattle.way_bytes.specs.declared.Admitted.{Admitted}
 use Rattle.allocation.specs.BookBytes.{size}
-use Rattle.way_bytes.specs.Told.{Told}
 
 -- questions 11 to 17, with a list of so many bytes lent for the way
 pub record Admits (s : List ℕ) (bytes : ℕ) (r : Admitted) : Type 0 where
@@ -29,9 +30,9 @@ pub record Admits (s : List ℕ) (bytes : ℕ) (r : Admitted) : Type 0 where
   pub told : Told s (r .number) (r .line)
   pub book-is : r .book ≡ checkedBook s
 
--- question 18: a walk that stands on the way given, or on none
+-- question 18: a walk that stands on the way given, if it is on the full list; else one that has not begun
 pub record FindsGiven (c : CheckedBook) (g : List ℕ) (r : WayWalk) : Type 0 where
-  pub each : (b : Book) → Holds b c → Walks b r × (wayAt b r ≡ cond (listed g (fullWays b)) (some (words g)) none)
+  pub each : (b : Book) → Holds b c → At b Start (cond (listed g (fullWays b)) (some (words g)) none) r
 
 -- the way that a walk stands on is handed out
 pub record HandsWay (s : WayWalk) (k : ℕ) (out : List ℕ) (r : Reply) (out′ : List ℕ) : Type 0 where

@@ -10,13 +10,14 @@ use book::CheckedBook;
 use calls::Reply;
 use way_enumerator::WayWalk;
 
-// The book of a call, and the number of the first of questions 11 to 17 that fails, or 0, where a list of so many bytes is lent for the way.
+// The book of a call, and the number of the first of questions 11 to 17 that fails, or 0, with the line that is told.
 pub struct Admitted {
     pub number: u32,
     pub line: u32,
     pub book: CheckedBook,
 }
 
+// Puts questions 11 to 17, where a list of so many bytes is lent for the way.
 pub fn admit(book: &[u8], bytes: usize) -> Admitted
     ensures { λ r. ⌜ Admits (now (book .entry)) bytes r ⌝ }
 {
@@ -47,7 +48,7 @@ pub fn admit(book: &[u8], bytes: usize) -> Admitted
     }
 }
 
-// Question 18: the walk that stands on the way given, or on none.
+// Question 18: the walk that stands on the way given, if it is on the full list; else one that has not begun.
 pub fn find_way(book: CheckedBook, given: &[u8]) -> WayWalk
     requires { ⌜ Held book ⌝ }
     ensures { λ r. ⌜ FindsGiven book (now (given .entry)) r ⌝ }

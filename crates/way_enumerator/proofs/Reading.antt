@@ -1,10 +1,10 @@
 -- Lines of a book's network read as ways: the first, the next, and the cost.
 use mathlib.Core.Path.{_≡_, refl, sym, ap, _∙_}
-use mathlib.Core.Logic.{inl, inr}
+use mathlib.Core.Logic.{inr}
 use mathlib.Core.List.{List, [], _∷_}
 use mathlib.Core.Option.{Option, none, some}
 use Prim.Native.Nat.{ℕ}
-use Rattle.laws.specs.Members.{_∈_, first?, none-some}
+use Rattle.laws.specs.Members.{_∈_, none-some, first-member}
 use Rattle.laws.specs.After.{after, afterIf}
 use Rattle.laws.specs.Image.{mapOption}
 use Rattle.laws.specs.Equality.{same-list}
@@ -20,11 +20,7 @@ use Rattle.allocation.proofs.Matched.{way-cost, flow-back}
 use Rattle.allocation.proofs.LineByLine.{first-matched, after-matched}
 use Rattle.way_enumerator.specs.WayWalk.{costShown}
 
--- members
-first-member : (l : List (List ℕ)) (w : List ℕ) → first? l ≡ some w → w ∈ l
-first-member [] w e = absurd (none-some w e)
-first-member (v ∷ l) w e = inl (let q : v ≡ w = cc in sym q)
-
+-- the member after another
 after-member : (v : List ℕ) (l : List (List ℕ)) (w : List ℕ) → after same-list (λ x. x) v l ≡ some w → w ∈ l
 after-member v [] w e = absurd (none-some w e)
 after-member v (u ∷ l) w e = inr (step (same-list u v) e (after-member v l w))

@@ -9,25 +9,29 @@ use lib.ListN.{length, take, length-take}
 use Rattle.laws.specs.Padded.{padded}
 use Rattle.laws.specs.Members.{none-some}
 use Rattle.laws.specs.Image.{mapOption}
-use Rattle.network.specs.Network.{LeastCost, costOf}
+use Rattle.network.specs.Network.{WellFormed, IsFlow, LeastCost, costOf}
 use Rattle.network.specs.Struct.{netIn, Sound}
 use Rattle.network.specs.declared.Network.{Network}
+use Rattle.network.proofs.Struct.{struct-of}
 use Rattle.enumerator.specs.declared.Place.{Place}
 use Rattle.enumerator.specs.declared.Place.the-variants.{Start, Line, None, End}
 use Rattle.enumerator.specs.declared.Enumerator.{Enumerator}
 use Rattle.enumerator.specs.Enumerator.{netOf, flowIn, lineAt, lineOf, placeOf, Stands}
 use Rattle.enumerator.specs.Enumerator as flows
+use Rattle.enumerator.proofs.Given.{line-least, no-line}
 use Rattle.book.specs.Book.{Book}
 use Rattle.book.specs.declared.CheckedBook.{CheckedBook}
 use Rattle.allocation.specs.Follow.{size}
 use Rattle.allocation.specs.BookNet.{bookNet}
 use Rattle.allocation.specs.WayFlow.{flowOf, wayOf}
 use Rattle.allocation.specs.Ways.{LeastCostWay}
+use Rattle.allocation.proofs.Arcs.{well-formed}
 use Rattle.allocation.proofs.WayBack.{way-back}
+use Rattle.allocation.proofs.Matched.{flow-back}
 use Rattle.book_network.proofs.Made.{made-net, made-sound}
 use Rattle.book_network.specs.Held.{Holds, Held}
 use Rattle.book_network.specs.Arrays.{MakesNet}
-use Rattle.way_flow.specs.Arcs.{Ends, HasEnds, ReadsWay, LaysFlow}
+use Rattle.way_flow.specs.Arcs.{Ends, HasEnds, HasFlow, ReadsWay, LaysFlow}
 use Rattle.way_flow.proofs.Lines.{ends-of, reads-flow, laid-flow, laid-least}
 use Rattle.way_enumerator.specs.declared.WayWalk.{WayWalk}
 use Rattle.way_enumerator.specs.WayWalk.{Walks, Walking, wayAt, costShown, following, At, ResumesIn, Tells}
@@ -46,6 +50,10 @@ on-least s h f e = go (s .place) refl
         let l : flowIn s ≡ f = cc in
         subst (LeastCost (netOf s)) l (h .marked q .marks .least)
 
+-- the network walked is the book's
+pub walked : (b : Book) (s : WayWalk) → Walks b s → netOf (s .walk) ≡ bookNet b
+walked b s h = ap netIn (h .net-is) ∙ struct-of (bookNet b) (well-formed b)
+
 -- the cost that a state holds is that of its way
 pub cost-held : (b : Book) (s : WayWalk) → Walks b s → s .walk .cost ≡ costShown b (wayAt b s)
 cost-held b s walks = walks .stands .cost-is ∙ go (lineOf (s .walk)) refl
@@ -53,8 +61,8 @@ cost-held b s walks = walks .stands .cost-is ∙ go (lineOf (s .walk)) refl
     go : (o : Option (List ℕ)) → lineOf (s .walk) ≡ o → flows.costShown (netOf (s .walk)) o ≡ costShown b (mapOption (wayOf b) o)
     go none e = refl
     go (some f) e =
-        ap (λ N. costOf N f) (walks .net-is)
-        ∙ cost-read b f (subst (λ N. LeastCost N f) (walks .net-is) (on-least (s .walk) (walks .stands) f e))
+        ap (λ N. costOf N f) (walked b s walks)
+        ∙ cost-read b f (subst (λ N. LeastCost N f) (walked b s walks) (on-least (s .walk) (walks .stands) f e))
 
 placed : (b : Book) (p : Place) (o : Option (List ℕ)) → placeOf p o ≡ placeOf p (mapOption (wayOf b) o)
 placed b p none = refl
@@ -74,9 +82,9 @@ at-way b r walks p o line place = record {
 module _ (b : Book) (s r : WayWalk) (walks : Walks b s) (entries : r .entries ≡ s .entries) (p : Place) (o : Option (List ℕ)) (steps : flows.Steps (s .walk) p o (r .walk)) where
   goes-on : Walks b r
   goes-on = record {
-    accepted = walks .accepted;
+    limits = walks .limits;
     entries-are = entries ∙ walks .entries-are;
-    net-is = ap netIn (steps .net-is) ∙ walks .net-is;
+    net-is = steps .net-is ∙ walks .net-is;
     stands = steps .stands;
   }
 
@@ -90,8 +98,8 @@ follows b s walks = go (lineOf (s .walk)) refl
     go : (o : Option (List ℕ)) → lineOf (s .walk) ≡ o → mapOption (wayOf b) (flows.following (netOf (s .walk)) o) ≡ following b (mapOption (wayOf b) o)
     go none e = refl
     go (some f) e =
-        ap (λ N. mapOption (wayOf b) (flows.following N (some f))) (walks .net-is)
-        ∙ next-read b f (subst (λ N. LeastCost N f) (walks .net-is) (on-least (s .walk) (walks .stands) f e))
+        ap (λ N. mapOption (wayOf b) (flows.following N (some f))) (walked b s walks)
+        ∙ next-read b f (subst (λ N. LeastCost N f) (walked b s walks) (on-least (s .walk) (walks .stands) f e))
 
 -- a walk of the network made of a checked book
 module _ (k : CheckedBook) (N : Network) (makes : MakesNet k N) where
@@ -102,17 +110,17 @@ module _ (k : CheckedBook) (N : Network) (makes : MakesNet k N) where
   count-is b h = ap (λ (c : CheckedBook). c .count) (h .is)
 
   made-ends : (b : Book) → Holds b k → Ends b (k .count) (take (N .arcs) (N .tails)) (take (N .arcs) (N .heads))
-  made-ends b h = rw (count-is b h) (ends-of b (h .accepted) N (made-net b k h N makes))
+  made-ends b h = rw (count-is b h) (ends-of b (h .limits) N (made-net b k h N makes))
 
-  pub net-ends : Held k → HasEnds (k .count) (take (N .arcs) (N .tails)) (take (N .arcs) (N .heads))
-  net-ends h = record { book = h .book; ends = made-ends (h .book) (h .holds) }
+  pub net-ends : Held k → HasEnds (k .count) (k .players) (take (N .arcs) (N .tails)) (take (N .arcs) (N .heads))
+  net-ends h = record { book = h .book; ends = made-ends (h .book) (h .holds); players-are = ap (λ (c : CheckedBook). c .players) (h .holds .is) }
 
   module _ (b : Book) (h : Holds b k) (r : Enumerator) (stands : Stands r) (same : r .net ≡ N) where
     pub walks : Walks b (record { walk = r; entries = k .count })
     walks = record {
-      accepted = h .accepted;
+      limits = h .limits;
       entries-are = count-is b h;
-      net-is = ap netIn same ∙ made-net b k h N makes;
+      net-is = same ∙ makes .each b h;
       stands = stands;
     }
 
@@ -124,14 +132,13 @@ module _ (k : CheckedBook) (N : Network) (makes : MakesNet k N) where
     pub resumes : (w flow : List ℕ) → length w ≡ k .count
         → LaysFlow (k .count) (k .players) (take (N .arcs) (N .tails)) (take (N .arcs) (N .heads)) w flow
         → flows.Resumes (netIn N) (take (N .arcs) flow) r → ResumesIn b w (record { walk = r; entries = k .count })
-    resumes w flow len lays step = record {
-      walks = walks;
-      on = λ p. (let l = is-way (step .on p .1) in (ap (λ q. mapOption (wayOf b) (lineAt q (flowIn r))) p ∙ ap some (ap (wayOf b) (step .on p .0 ∙ laid) ∙ way-back b w (l .way)), l));
-      off = λ n l. step .off n (subst (λ M. LeastCost M (take (N .arcs) flow)) (sym made) (least .1 l));
-    }
+    resumes w flow len lays step = record { on = on; off = λ n. begins (step .place-is ∙ ap (placeOf Start) (no-line (netIn N) ok (take (N .arcs) flow) (λ l. n (is-way l)))) }
       where
         made : netIn N ≡ bookNet b
         made = made-net b k h N makes
+
+        ok : WellFormed (netIn N)
+        ok = made-sound b k h N makes .accepted .well-formed
 
         held : N .arcs ≡ length (take (N .arcs) (N .tails))
         held = made-sound b k h N makes .arcs-held
@@ -148,6 +155,12 @@ module _ (k : CheckedBook) (N : Network) (makes : MakesNet k N) where
         is-way : LeastCost (netIn N) (take (N .arcs) flow) → LeastCostWay b w
         is-way l = least .0 (subst (λ M. LeastCost M (take (N .arcs) flow)) made l)
 
+        on : LeastCostWay b w → At b Start (some w) (record { walk = r; entries = k .count })
+        on l =
+            let e = line-least (netIn N) ok (take (N .arcs) flow) (subst (λ M. LeastCost M (take (N .arcs) flow)) (sym made) (least .1 l)) in
+            subst (λ v. At b Start (some v) (record { walk = r; entries = k .count })) (ap (wayOf b) laid ∙ way-back b w (l .way))
+            (at-way b (record { walk = r; entries = k .count }) walks Start (some (take (N .arcs) flow)) (step .line-is ∙ e) (step .place-is ∙ ap (placeOf Start) e))
+
 -- a sound network's arrays have room for its arcs
 module _ (net : Network) (ok : Sound net) where
   room : {A : Type 0} (l : List A) → length (take (net .arcs) l) ≡ net .arcs → net .arcs ≤ length l
@@ -163,10 +176,17 @@ module _ (net : Network) (ok : Sound net) where
   in-heads = room (net .heads) (ok .accepted .well-formed .heads-len ∙ sym (ok .arcs-held))
 
 ends : (b : Book) (s : WayWalk) → Walks b s → Ends b (s .entries) (take (s .walk .net .arcs) (s .walk .net .tails)) (take (s .walk .net .arcs) (s .walk .net .heads))
-ends b s h = rw (h .entries-are) (ends-of b (h .accepted) (s .walk .net) (h .net-is))
+ends b s h = rw (h .entries-are) (ends-of b (h .limits) (s .walk .net) (walked b s h))
 
-pub has-ends : (s : WayWalk) → Walking s → HasEnds (s .entries) (take (s .walk .net .arcs) (s .walk .net .tails)) (take (s .walk .net .arcs) (s .walk .net .heads))
-has-ends s h = record { book = h .book; ends = ends (h .book) s (h .walks) }
+-- the line that it stands on is a flow of the book's network
+pub on-flow : (b : Book) (s : WayWalk) → Walks b s → s .walk .place ≡ Line → IsFlow (bookNet b) (flowIn (s .walk))
+on-flow b s h on = subst (λ N. LeastCost N (flowIn (s .walk))) (walked b s h) (on-least (s .walk) (h .stands) (flowIn (s .walk)) (ap (λ p. lineAt p (flowIn (s .walk))) on)) .flow
+
+pub has-flow : (s : WayWalk) → Walking s → s .walk .place ≡ Line → HasFlow (s .entries) (take (s .walk .net .arcs) (s .walk .net .tails)) (take (s .walk .net .arcs) (s .walk .net .heads)) (flowIn (s .walk))
+has-flow s h on =
+    let b = h .book in
+    let (way, is) = flow-back b (flowIn (s .walk)) (on-flow b s (h .walks) on) in
+    record { book = b; ends = ends b s (h .walks); way = wayOf b (flowIn (s .walk)); is-way = way; flow-is = sym is }
 
 -- the way read off the line is the way that the walk stands on
 pub tells : (s : WayWalk) (r : List ℕ) → s .walk .place ≡ Line
@@ -175,8 +195,6 @@ tells s r on reads = record { each = go }
   where
     go : (b : Book) → Walks b s → (w : List ℕ) → wayAt b s ≡ some w → r ≡ padded 28 0 w
     go b h w e =
-        let l : lineOf (s .walk) ≡ some (flowIn (s .walk)) = ap (λ p. lineAt p (flowIn (s .walk))) on in
-        let least = subst (λ N. LeastCost N (flowIn (s .walk))) (h .net-is) (on-least (s .walk) (h .stands) (flowIn (s .walk)) l) in
-        let q : some (wayOf b (flowIn (s .walk))) ≡ some w = sym (ap (mapOption (wayOf b)) l) ∙ e in
+        let q : some (wayOf b (flowIn (s .walk))) ≡ some w = sym (ap (λ p. mapOption (wayOf b) (lineAt p (flowIn (s .walk)))) on) ∙ e in
         let k : wayOf b (flowIn (s .walk)) ≡ w = cc in
-        reads-flow b (s .entries) _ _ (ends b s h) (flowIn (s .walk)) r reads (least .flow) ∙ ap (padded 28 0) k
+        reads-flow b (s .entries) _ _ (ends b s h) (flowIn (s .walk)) r reads (on-flow b s h on) ∙ ap (padded 28 0) k

@@ -1,6 +1,5 @@
 -- The state of a walk through the full list of a book.
 use mathlib.Core.Path.{_≡_}
-use mathlib.Core.Logic.{_≢_}
 use mathlib.Core.List.{List}
 use mathlib.Core.Option.{Option, none, some}
 use Prim.Native.Nat.{ℕ}
@@ -8,12 +7,13 @@ use lib.IntN.{ℤ, pos}
 use Rattle.laws.specs.Count.{counted}
 use Rattle.laws.specs.Image.{mapOption}
 use Rattle.laws.specs.Padded.{padded}
-use Rattle.enumerator.specs.Enumerator.{netOf, lineOf, placeOf, Stands}
+use Rattle.network.specs.Struct.{structOf}
+use Rattle.enumerator.specs.Enumerator.{lineOf, placeOf, Stands}
 use Rattle.enumerator.specs.declared.Place.{Place}
-use Rattle.enumerator.specs.declared.Place.the-variants.{Start, Line}
+use Rattle.enumerator.specs.declared.Place.the-variants.{Start}
 use Rattle.book.specs.Book.{Book}
 use Rattle.book.specs.declared.CheckedBook.{CheckedBook}
-use Rattle.book.proofs.Accepted.{Accepted}
+use Rattle.book.specs.WithinLimits.{WithinLimits}
 use Rattle.allocation.specs.Follow.{size}
 use Rattle.allocation.specs.Ways.{wayCost, LeastCostWay}
 use Rattle.allocation.specs.FullWays.{nextWay, countWays}
@@ -22,11 +22,11 @@ use Rattle.allocation.specs.WayFlow.{wayOf}
 use Rattle.book_network.specs.Held.{Holds}
 use Rattle.way_enumerator.specs.declared.WayWalk.{WayWalk}
 
--- s walks through the ways of b
+-- s walks through the ways of b, by the network of b
 pub record Walks (b : Book) (s : WayWalk) : Type 0 where
-  pub accepted : Accepted b
+  pub limits : WithinLimits b
   pub entries-are : s .entries ≡ size b
-  pub net-is : netOf (s .walk) ≡ bookNet b
+  pub net-is : s .walk .net ≡ structOf (bookNet b)
   pub stands : Stands (s .walk)
 
 pub record Walking (s : WayWalk) : Type 0 where
@@ -61,11 +61,10 @@ pub record Begins (c : CheckedBook) (r : WayWalk) : Type 0 where
 pub record Steps (s : WayWalk) (p : Place) (o : Book → Option (List ℕ)) (r : WayWalk) : Type 0 where
   pub each : (b : Book) → Walks b s → At b p (o b) r
 
--- r stands on w if that is a least-cost way, and else on no way
+-- r stands on w if that is a least-cost way, and else it has not begun
 pub record ResumesIn (b : Book) (w : List ℕ) (r : WayWalk) : Type 0 where
-  pub walks : Walks b r
-  pub on : r .walk .place ≡ Line → (wayAt b r ≡ some w) × LeastCostWay b w
-  pub off : r .walk .place ≢ Line → ¬ LeastCostWay b w
+  pub on : LeastCostWay b w → At b Start (some w) r
+  pub off : ¬ LeastCostWay b w → At b Start none r
 
 pub record Resumes (c : CheckedBook) (w : List ℕ) (r : WayWalk) : Type 0 where
   pub each : (b : Book) → Holds b c → ResumesIn b w r

@@ -27,7 +27,7 @@ pub fn start(book: CheckedBook) -> WayWalk
     }
 }
 
-// A walk that stands on a given list of numbers, if that is a least-cost way (question 18); else one on no way.
+// A walk that stands on a given list of numbers, if that is a least-cost way (question 18); else one that has not begun.
 pub fn resume(book: CheckedBook, given: &[u32]) -> WayWalk
     requires { ⌜ Held book × (length (now given) ≡ book .count) ⌝ }
     ensures { λ r. ⌜ Resumes book (now (given .entry)) r ⌝ }

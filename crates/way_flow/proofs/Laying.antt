@@ -120,9 +120,9 @@ module _ (e players : ℕ) (tails heads w : List ℕ) where
     pub each : (b : Book) → Ends b e tails heads → players ≡ b .players → flow ≡ filled (λ x. x) (flowOf b w) 512 0 k
 
   few : (b : Book) → Ends b e tails heads → length tails ≤ 463
-  few b h = omega (arith, arcs-few b (h .accepted), count-arcs b, ap length (h .tails-are))
+  few b h = omega (arith, arcs-few b (h .limits), count-arcs b, ap length (h .tails-are))
 
-  pub laying-room : HasEnds e tails heads → length tails ≤ 463
+  pub laying-room : HasEnds e players tails heads → length tails ≤ 463
   laying-room h = few (h .book) (h .ends)
 
   pub laying-start : Laying (replicate 512 0) 0

@@ -9,7 +9,7 @@ use Rattle.network.specs.declared.Network.{Network}
 use Rattle.network.specs.Network.{Net, IsFlow, LeastCost}
 use Rattle.network.specs.Struct.{netIn}
 use Rattle.book.specs.Book.{Book}
-use Rattle.book.proofs.Accepted.{Accepted}
+use Rattle.book.specs.WithinLimits.{WithinLimits}
 use Rattle.allocation.specs.Follow.{size}
 use Rattle.allocation.specs.Ways.{LeastCostWay}
 use Rattle.allocation.specs.BookNet.{bookNet}
@@ -20,8 +20,8 @@ use Rattle.way_flow.specs.Arcs.{Ends, ReadsWay, LaysFlow}
 use Rattle.way_flow.proofs.Laying.{flow-long}
 
 -- the ends of a struct that holds the book's network
-pub ends-of : (b : Book) → Accepted b → (r : Network) → netIn r ≡ bookNet b → Ends b (size b) (take (r .arcs) (r .tails)) (take (r .arcs) (r .heads))
-ends-of b ok r e = record { accepted = ok; entries-are = refl; tails-are = ap (λ (N : Net). N .tails) e; heads-are = ap (λ (N : Net). N .heads) e }
+pub ends-of : (b : Book) → WithinLimits b → (r : Network) → netIn r ≡ bookNet b → Ends b (size b) (take (r .arcs) (r .tails)) (take (r .arcs) (r .heads))
+ends-of b ok r e = record { limits = ok; entries-are = refl; tails-are = ap (λ (N : Net). N .tails) e; heads-are = ap (λ (N : Net). N .heads) e }
 
 module _ (b : Book) (e : ℕ) (tails heads : List ℕ) (h : Ends b e tails heads) where
   pub reads-flow : (flow way : List ℕ) → ReadsWay e tails heads flow way → IsFlow (bookNet b) flow → way ≡ padded 28 0 (wayOf b flow)

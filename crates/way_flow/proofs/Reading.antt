@@ -128,13 +128,13 @@ module _ (e : ℕ) (tails heads : List ℕ) where
   tail-at b h k l =
       let t = well-formed b .tail-in k (omega (arith, ap length (h .tails-are))) in
       let x : getD tails k 0 ≡ tail (bookNet b) k = ap (λ l. getD l k 0) (h .tails-are) in
-      omega (arith, nodes-few b (h .accepted))
+      omega (arith, nodes-few b (h .limits))
 
   pub reads-way : (flow way : List ℕ) (n : ℕ) → n ≡ length tails - (2 * e + 1) → way ≡ read n tails heads flow (replicate 28 0) → ReadsWay e tails heads flow way
   reads-way flow way n c q = record {
     each = λ b h w v f.
         (let len = v .all-entries in
-        let few = h .accepted .few in
+        let few = h .limits .few in
         let m : n ≡ length (joinArcs b (size b) 1) = omega (arith, joins-count b h) in
         let g : length (joinFlow b 1 w) ≡ length (joinArcs b (size b) 1) = subst (λ k. length (joinFlow b 1 w) ≡ length (joinArcs b k 1)) len (joinFlow-length b 1 w) in
         let d : readArcs (joinArcs b (size b) 1) (joinFlow b 1 w) (replicate 28 0) ≡ sets (replicate 28 0) 0 w =

@@ -5,21 +5,32 @@ use Prim.Native.Nat.{ℕ}
 use lib.ListN.{getD}
 use Rattle.laws.specs.Padded.{padded}
 use Rattle.book.specs.Book.{Book}
-use Rattle.book.proofs.Accepted.{Accepted}
+use Rattle.book.specs.WithinLimits.{WithinLimits}
 use Rattle.allocation.specs.Follow.{size}
 use Rattle.allocation.specs.Ways.{IsWay}
 use Rattle.allocation.specs.BookNet.{bookArcs}
 use Rattle.allocation.specs.WayFlow.{flowOf}
 
+-- they are those of the book b, of e entries
 pub record Ends (b : Book) (e : ℕ) (tails heads : List ℕ) : Type 0 where
-  pub accepted : Accepted b
+  pub limits : WithinLimits b
   pub entries-are : e ≡ size b
   pub tails-are : tails ≡ map (λ a. a .tail) (bookArcs b)
   pub heads-are : heads ≡ map (λ a. a .head) (bookArcs b)
 
-pub record HasEnds (e : ℕ) (tails heads : List ℕ) : Type 0 where
+-- those of a book with so many players
+pub record HasEnds (e players : ℕ) (tails heads : List ℕ) : Type 0 where
   pub book : Book
   pub ends : Ends book e tails heads
+  pub players-are : players ≡ book .players
+
+-- those of a book, with the flow of a way of it
+pub record HasFlow (e : ℕ) (tails heads flow : List ℕ) : Type 0 where
+  pub book : Book
+  pub ends : Ends book e tails heads
+  pub way : List ℕ
+  pub is-way : IsWay book way
+  pub flow-is : flow ≡ flowOf book way
 
 -- the way whose flow it is, of each book that has these arcs
 pub record ReadsWay (e : ℕ) (tails heads flow way : List ℕ) : Type 0 where

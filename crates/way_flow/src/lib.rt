@@ -6,7 +6,7 @@ ghost use lib.Dec.{eqb};
 ghost use lib.ListN.{length, set};
 ghost use Rattle.allocation.specs.Ways.{times};
 ghost use Rattle.allocation.specs.WayFlow.{hit};
-ghost use Rattle.way_flow.specs.Arcs.{HasEnds, ReadsWay, FlowAt, LaysFlow};
+ghost use Rattle.way_flow.specs.Arcs.{HasEnds, HasFlow, ReadsWay, FlowAt, LaysFlow};
 
 // An arc that carries 1 from node t to node h, noted in the way: entry (h + 1) / 2 has predecessor t / 2.
 fn note(way: &mut [u32], t: u8, h: u8, x: u32)
@@ -18,9 +18,9 @@ fn note(way: &mut [u32], t: u8, h: u8, x: u32)
     }
 }
 
-// The way that a flow of a book of e entries is the flow of: in each entry's block of arcs, the predecessor whose arc carries 1.
+// The way of which `flow` is the flow, of a book of e entries: in each entry's block of arcs, the predecessor whose arc carries 1.
 pub fn way_of(e: usize, tails: &[u8], heads: &[u8], flow: &[u32]) -> [u32; 28]
-    requires { ⌜ HasEnds e (now tails) (now heads) × (length (now flow) ≡ length (now tails)) ⌝ }
+    requires { ⌜ HasFlow e (now tails) (now heads) (now flow) ⌝ }
     ensures { λ r. ⌜ ReadsWay e (now (tails .entry)) (now (heads .entry)) (now (flow .entry)) r ⌝ }
 {
     let mut way = [0u32; 28];
@@ -66,7 +66,7 @@ fn flow_at<'a>(
     way: &'a [u32],
     k: usize,
 ) -> u32
-    requires { ⌜ HasEnds e (now tails) (now heads) × (length (now way) ≡ e) × (k < length (now tails)) ⌝ }
+    requires { ⌜ HasEnds e players (now tails) (now heads) × (length (now way) ≡ e) × (k < length (now tails)) ⌝ }
     ensures { λ r. ⌜ FlowAt e players (now (tails .entry)) (now (heads .entry)) (now (way .entry)) k r ⌝ }
 {
     let joins = tails.len() - (2 * e + 1);
@@ -92,7 +92,7 @@ pub fn flow_of<'a>(
     heads: &'a [u8],
     way: &'a [u32],
 ) -> [u32; 512]
-    requires { ⌜ HasEnds e (now tails) (now heads) × (length (now way) ≡ e) ⌝ }
+    requires { ⌜ HasEnds e players (now tails) (now heads) × (length (now way) ≡ e) ⌝ }
     ensures { λ r. ⌜ LaysFlow e players (now (tails .entry)) (now (heads .entry)) (now (way .entry)) r ⌝ }
 {
     let mut flow = [0u32; 512];

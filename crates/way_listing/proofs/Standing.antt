@@ -8,7 +8,6 @@ use lib.ListN.{length, take}
 use Rattle.laws.specs.Image.{mapOption}
 use Rattle.laws.specs.Members.{every-map}
 use Rattle.laws.specs.Padded.{take-padded}
-use Rattle.network.specs.Network.{IsFlow}
 use Rattle.enumerator.specs.Enumerator.{flowIn, lineAt}
 use Rattle.enumerator.specs.declared.Place.the-variants.{Line}
 use Rattle.enumerator.proofs.Steps.{NoLine}
@@ -23,6 +22,7 @@ use Rattle.allocation.proofs.Laid.{joined-small}
 use Rattle.allocation.proofs.Matched.{flow-back}
 use Rattle.way_enumerator.specs.WayWalk.{Walks, wayAt, Tells}
 use Rattle.way_enumerator.specs.declared.WayWalk.{WayWalk}
+use Rattle.way_enumerator.proofs.Walking.{on-flow}
 use Rattle.way_listing.specs.WayListing.{ListsOne}
 
 abbrev pub shown : Book → WayWalk → List ℕ
@@ -37,15 +37,15 @@ module _ (b : Book) (s : WayWalk) (on : s .walk .place ≡ Line) where
 
   module _ (walks : Walks b s) where
     is-way : IsWay b (shown b s)
-    is-way = flow-back b (flowIn (s .walk)) (subst (λ N. IsFlow N (flowIn (s .walk))) (walks .net-is) (walks .stands .marked on .marks .least .flow)) .0
+    is-way = flow-back b (flowIn (s .walk)) (on-flow b s walks on) .0
 
     pub shown-few : length (shown b s) ≤ 28
-    shown-few = omega (arith, is-way .all-entries, walks .accepted .few)
+    shown-few = omega (arith, is-way .all-entries, walks .limits .few)
 
     pub line-short : length (wayLine (shown b s)) ≤ 90
     line-short =
         way-size (shown b s) shown-few
-        (every-map (λ p. p ≤ size b) (λ p. p ≤ 28) (shown b s) (λ p h. omega (arith, walks .accepted .few)) (joined-small b 1 (shown b s) (is-way .joined)))
+        (every-map (λ p. p ≤ size b) (λ p. p ≤ 28) (shown b s) (λ p h. omega (arith, walks .limits .few)) (joined-small b 1 (shown b s) (is-way .joined)))
 
     pub told : (r : List ℕ) → Tells s r → take (s .entries) r ≡ shown b s
     told r t =

@@ -10,6 +10,7 @@ use Rattle.listing.specs.Lines.{costLine, wayLine, endLine, moreLine, noneLine}
 use Rattle.book.specs.Book.{Book}
 use Rattle.allocation.specs.Ways.{wayCost}
 use Rattle.allocation.specs.FullWays.{fullWays, firstWay}
+use Rattle.enumerator.specs.declared.Place.the-variants.{Line}
 use Rattle.way_enumerator.specs.WayWalk.{Walks, wayAt}
 use Rattle.way_enumerator.specs.declared.WayWalk.{WayWalk}
 
@@ -32,14 +33,21 @@ listWays cost (w ∷ l) = costLine (cost w) ++ (wayLines (take 1000 (w ∷ l)) +
 abbrev pub waysText : Book → List ℕ
 waysText b = listWays (wayCost b) (fullWays b)
 
+-- a walk that stands on the first way of a book
+pub record OnFirst (s : WayWalk) : Type 0 where
+  pub book : Book
+  pub walks : Walks book s
+  pub first : wayAt book s ≡ firstWay book
+  pub on : s .walk .place ≡ Line
+
 -- what the functions write, of each book that is walked: the line of the way that the walk stands on
 pub record ListsOne (s : WayWalk) (before : List ℕ) (at : ℕ) (after : List ℕ) (r : ℕ) : Type 0 where
   pub each : (b : Book) → Walks b s → (w : List ℕ) → wayAt b s ≡ some w → Appended before at (wayLine w) after r
 
--- all lines but the first, of a walk that stands on the first way
+-- all lines after `(cost C)`, of a walk that stands on the first way
 pub record ListsFrom (s : WayWalk) (before : List ℕ) (at : ℕ) (after : List ℕ) (r : ℕ) : Type 0 where
   pub each : (b : Book) → Walks b s → wayAt b s ≡ firstWay b → Appended before at (wayLines (take 1000 (fullWays b)) ++ lastLine (counted 1000 (length (fullWays b)))) after r
 
--- the whole text
+-- the whole text, of a walk that stands on the first way
 pub record Lists (s : WayWalk) (before after : List ℕ) (r : ℕ) : Type 0 where
-  pub each : (b : Book) → Walks b s → Appended before 0 (waysText b) after r
+  pub each : (b : Book) → Walks b s → wayAt b s ≡ firstWay b → Appended before 0 (waysText b) after r

@@ -6,7 +6,7 @@ ghost use Prim.Native.Nat.{_+_, _≤_};
 ghost use lib.ListN.{length};
 ghost use Rattle.enumerator.specs.declared.Place.the-variants.{Line};
 ghost use Rattle.way_enumerator.specs.WayWalk.{Walking};
-ghost use Rattle.way_listing.specs.WayListing.{ListsOne, ListsFrom, Lists};
+ghost use Rattle.way_listing.specs.WayListing.{OnFirst, ListsOne, ListsFrom, Lists};
 
 // The line of the way that a walk stands on.
 fn list_one(walk: WayWalk, out: &mut [u8], at: usize) -> usize
@@ -42,20 +42,13 @@ fn list_from(walk: WayWalk, out: &mut [u8], at: usize) -> usize
     }
 }
 
-// The listing of all ways, at the front of the list; how long it is.
+// The listing of all ways, at the front of the list, by a walk that stands on the first of them; how long it is.
 pub fn list(walk: WayWalk, out: &mut [u8]) -> usize
-    requires { ⌜ Walking walk × (90031 ≤ length (now out)) ⌝ }
+    requires { ⌜ OnFirst walk × (90031 ≤ length (now out)) ⌝ }
     ensures { λ r. ⌜ Lists walk (now (out .entry)) (now (out .exit)) r ⌝ }
 {
-    let first = walk.first();
-    let inner = first.walk;
-    let place = inner.place;
-    match place {
-        Place::Line => {
-            let cost = inner.cost;
-            let at = listing::put_cost(out, 0, cost as u64);
-            list_from(first, out, at)
-        }
-        _ => listing::put_none(out, 0),
-    }
+    let inner = walk.walk;
+    let cost = inner.cost;
+    let at = listing::put_cost(out, 0, cost as u64);
+    list_from(walk, out, at)
 }

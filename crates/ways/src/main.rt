@@ -1,16 +1,18 @@
 // Prints the listing of the book on standard input.
-// One byte more than the longest book is read, to know a longer one.
+
+// One byte more than the longest accepted book has: a longer one is read so far, and refused.
 fn book_buffer() -> [u8; 16385] {
     [0; 16385]
 }
 
+// Room for every text that `printed` gives.
 fn text_buffer() -> [u8; 98304] {
     [0; 98304]
 }
 
-// The listing of the first n bytes, written to standard output.
+// The text of the book, written to standard output.
 fn print(book: &[u8], text: &mut [u8]) {
-    let n = book_listing::list(book, text);
+    let n = book_listing::printed(book, text);
     if n <= text.len() {
         io::write_all(1, &text[..n]);
     }

@@ -46,7 +46,7 @@ abbrev codes-of : tie.After-codes3 Inv-loop μ-loop → List ℕ
 codes-of d = take (len-of d) (d .before .before .before .before .before .before .detour .last .1 .1 .1 .1 .1 .1 .1 .1 .1 .0)
 
 told : (d : tie.After-codes3 Inv-loop μ-loop) → (len-of d ≤ length (d .before .before .before .before .before .before .detour .last .1 .1 .1 .1 .1 .1 .1 .1 .1 .0)) × Path (part (start d)) (d .before .before .before .before .before .before .before .before .before .before .before .loop .flow) (start d .args .tight .now) (getD (start d .args .tails .now) (start d .args .a) 0) (getD (start d .args .heads .now) (start d .args .a) 0) (start d .args .a + 1) (codes-of d)
-told d = rw (d .before .before .before .route .given .1) at (d .before .before .before .before .before .before .detour .ensures)
+told d = let (few, path, _) = rw (d .before .before .before .route .given .1) at (d .before .before .before .before .before .before .detour .ensures) in (few, path)
 
 path-of : (d : tie.After-codes3 Inv-loop μ-loop) → Path (part (start d)) (d .before .before .before .before .before .before .before .before .before .before .before .loop .flow) (start d .args .tight .now) (getD (start d .args .tails .now) (start d .args .a) 0) (getD (start d .args .heads .now) (start d .args .a) 0) (suc (start d .args .a)) (codes-of d)
 path-of d = rw add-one at (told d .1)
@@ -103,7 +103,7 @@ returns-3 : tie.Need-returns-3 Inv-loop μ-loop
 returns-3 c = let s = c .before .before .before .before .before .before .before .before .before .before .before .before .before .before .before .before .before .before .before .before in let a = c .before .before .before .before .before .before .before .before .loop in (
   a .inv .1,
   λ b d π ti. low-done (whole s b d) π (s .args .tight .now) (s .args .flow .now) (s .args .a) (s .pre .1) (a .flow) (a .inv .2 b d π ti)
-      (no-less (s .args .tails .now) (s .args .heads .now) (s .args .lows .now) (s .args .ups .now) b d π (s .args .tight .now) (a .flow) (a .inv .2 b d π ti .tight-still) (s .args .a) (s .pre .1) (inr (inr (rw add-one at (rw (c .enum-told .given .1) at (c .before .before .before .detour .ensures)))))),
+      (no-less (s .args .tails .now) (s .args .heads .now) (s .args .lows .now) (s .args .ups .now) b d π (s .args .tight .now) (a .flow) (a .inv .2 b d π ti .tight-still) (s .args .a) (s .pre .1) (inr (inr (rw add-one at ((rw (c .enum-told .given .1) at (c .before .before .before .detour .ensures)) .0))))),
 )
 
 take-off-requires : tie.Need-take-off-requires Inv-loop μ-loop

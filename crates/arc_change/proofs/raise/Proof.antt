@@ -34,7 +34,7 @@ abbrev codes-of : tie.After-codes3 → List ℕ
 codes-of d = take (len-of d) (d .before .before .before .before .before .before .detour .last .1 .1 .1 .1 .1 .1 .1 .1 .1 .0)
 
 told : (d : tie.After-codes3) → (len-of d ≤ length (d .before .before .before .before .before .before .detour .last .1 .1 .1 .1 .1 .1 .1 .1 .1 .0)) × Path (part (start d)) (start d .args .flow .now) (start d .args .tight .now) (getD (start d .args .heads .now) (start d .args .a) 0) (getD (start d .args .tails .now) (start d .args .a) 0) (start d .args .a + 1) (codes-of d)
-told d = rw (d .before .before .before .route .given .1) at (d .before .before .before .before .before .before .detour .ensures)
+told d = let (few, path, _) = rw (d .before .before .before .route .given .1) at (d .before .before .before .before .before .before .detour .ensures) in (few, path)
 
 path-of : (d : tie.After-codes3) → Path (part (start d)) (start d .args .flow .now) (start d .args .tight .now) (getD (start d .args .heads .now) (start d .args .a) 0) (getD (start d .args .tails .now) (start d .args .a) 0) (suc (start d .args .a)) (codes-of d)
 path-of d = rw add-one at (told d .1)
@@ -54,7 +54,7 @@ returns c =
     let s = c .before .before .before .before .before .before .before .before .before .before .before .before .before .before in
     absurd
     (unblocked (part s) (s .args .flow .now) (s .args .tight .now) (getD (s .args .heads .now) (s .args .a) 0) (getD (s .args .tails .now) (s .args .a) 0) (suc (s .args .a)) (s .pre .2 .2)
-    (rw add-one at (rw (c .enum-told .given .1) at (c .before .before .before .detour .ensures))))
+    (rw add-one at ((rw (c .enum-told .given .1) at (c .before .before .before .detour .ensures)) .0)))
 
 put-on-requires : tie.Need-put-on-requires
 put-on-requires c κs = let s = start c in (

@@ -1,4 +1,4 @@
--- `book::answer_of` meets its contract. Assumes nothing.
+-- `book::answer_of` meets its contract.
 use borrow.Author.Tests.{eq-eqb, ne-eqb, le-leb, lt-leb}
 use Rattle.book.proofs.answer_of.Statement.{statement}
 use Rattle.book.proofs.answer_of.Tie as tie

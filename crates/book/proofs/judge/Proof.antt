@@ -1,4 +1,4 @@
--- `book::judge` meets its contract. Assumes nothing.
+-- `book::judge` meets its contract.
 use mathlib.Core.Path.{_≡_, sym, ap, _∙_}
 use borrow.Author.Needs.{needs}
 use Rattle.book.specs.declared.Answer.{Answer}

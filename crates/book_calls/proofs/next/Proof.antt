@@ -1,4 +1,4 @@
-use mathlib.Core.Path.{_≡_, refl, sym, ap, _∙_}
+use mathlib.Core.Path.{refl, sym, ap, _∙_}
 use mathlib.Core.Bool.{cond}
 use mathlib.Core.Option.{none, some}
 use lib.ListN.{length}
@@ -9,7 +9,8 @@ use Rattle.bytes32.specs.Words.{words}
 use Rattle.enumerator.specs.Enumerator.{flowIn, wordAfter}
 use Rattle.allocation.specs.FullWays.{fullWays}
 use Rattle.allocation.specs.WayFlow.{wayOf}
-use Rattle.way_enumerator.specs.WayWalk.{Walks, wayAt, following, At}
+use Rattle.enumerator.specs.declared.Place.the-variants.{Start}
+use Rattle.way_enumerator.specs.WayWalk.{wayAt, following, At}
 use Rattle.calls.specs.ByteLists.{listed}
 use Rattle.calls.proofs.Places.{no-line, a-line}
 use Rattle.calls.proofs.Given.{on-none, on-some}
@@ -30,13 +31,13 @@ gone c =
 
 -- what question 18 found
 found : (c : tie.After-find-way) → let b = gone (c .before .before) .book in let g = entry (c .before .before .before) .args .given .now in
-    Walks b (c .find-way .result) × (wayAt b (c .find-way .result) ≡ cond (listed g (fullWays b)) (some (words g)) none)
+    At b Start (cond (listed g (fullWays b)) (some (words g)) none) (c .find-way .result)
 found c = let p = gone (c .before .before) in c .find-way .ensures .each (p .book) (p .holds)
 
 -- the walk on the way after it
 on-next : (c : tie.After-next) → let f = c .before .before .before .before in let b = gone (f .before .before) .book in
     At b (wordAfter (f .find-way .result .walk .place)) (following b (wayAt b (f .find-way .result))) (c .next .result)
-on-next c = let f = c .before .before .before .before in c .next .ensures .each (gone (f .before .before) .book) (found f .0)
+on-next c = let f = c .before .before .before .before in c .next .ensures .each (gone (f .before .before) .book) (found f .walks)
 
 returns : tie.Need-returns
 returns c =
@@ -56,12 +57,12 @@ returns-2 c =
     let p = gone e in
     let w = f .find-way .result in
     fails-given (a .book .now) _ _ p (a .way .now) refl (a .given .now) (c .word .result)
-    (on-none _ (words (a .given .now)) (wayAt (p .book) w) (found f .1)
+    (on-none _ (words (a .given .now)) (wayAt (p .book) w) (found f .way-is)
     (ap (mapOption (wayOf (p .book))) (no-line (w .walk .place) (flowIn (w .walk)) (sym (l .on-line .ensures) ∙ not-true (l .on-line .result) (c .before .if2 .taken)))))
     (c .word .ensures)
 
 next-requires : tie.Need-next-requires
-next-requires c κs = let f = c .before .before .before in record { book = gone (f .before .before) .book; walks = found f .0 }
+next-requires c κs = let f = c .before .before .before in record { book = gone (f .before .before) .book; walks = found f .walks }
 
 hand-way-requires : tie.Need-hand-way-requires
 hand-way-requires c κs =
@@ -80,7 +81,7 @@ returns-3 c =
     let p = gone e in
     let w = f .find-way .result in
     let g = a .given .now in
-    let (given, on-it) = on-some _ (words g) (wayOf (p .book) (flowIn (w .walk))) (wayAt (p .book) w) (found f .1)
+    let (given, on-it) = on-some _ (words g) (wayOf (p .book) (flowIn (w .walk))) (wayAt (p .book) w) (found f .way-is)
     (ap (mapOption (wayOf (p .book))) (a-line (w .walk .place) (flowIn (w .walk)) (sym (l .on-line .ensures) ∙ not-false (l .on-line .result) (n .before .if2 .left)))) in
     answers-next (a .book .now) _ _ p (a .way .now) refl g (wayAt (p .book) (n .next .result)) given (on-next n .way-is ∙ ap (following (p .book)) on-it) (h .hand-way .result) _
     (h .hand-way .ensures .each (p .book) (on-next n .walks))

@@ -1,21 +1,19 @@
--- `book_check::check` meets its contract: each part of the book is read where the one before it ended. Assumes nothing.
+-- `book_check::check` meets its contract: each part of the book is read where the one before it ended.
 use Prim.Native.Nat.{_+_}
-use mathlib.Core.Path.{refl}
 use borrow.Author.Needs.{needs}
 use borrow.Author.Tests.{not-true, not-false}
-use Rattle.book.specs.declared.Answer.the-variants.{TooLong, Malformed}
 use Rattle.text.specs.Reader.{Reader, _>>=_, _>>_, give, bytes, text, many}
 use Rattle.lines.specs.Lines.{move, entry}
 use Rattle.book.specs.Book.{Book, book}
 use Rattle.text.proofs.Sequence.{From, part, part-part, begin, first, first-stops, next}
 use Rattle.book_check.specs.Closing.{Closing}
 use Rattle.book_check.proofs.Form.{parse-fails, parse-closed, parse-open, closing-part, placed-part}
-use Rattle.book_check.proofs.Judged.{long, no-form, refused-right, Found, judged-right}
+use Rattle.book_check.proofs.Judged.{long-right, form-right, Found, judged-right}
 use Rattle.book_check.proofs.check.Statement.{statement}
 use Rattle.book_check.proofs.check.Tie as tie
 
 returns : tie.Need-returns
-returns c = refused-right _ _ TooLong 10 (c .refused .ensures) (long (c .before .before .before .args .book .now) (c .before .if1 .taken)) refl (λ _. tt)
+returns c = long-right (c .before .before .before .args .book .now) _ (c .refused .ensures) (c .before .if1 .taken)
 
 -- What is to be read after the first lines, after the moves, and after the entries.
 abbrev Close : Book → Reader Book
@@ -58,13 +56,13 @@ unfolding book _>>_
 returns-2 c =
     let s = c .before .before .before .before .before .args .book .now in
     let e = parse-fails s (first-stops _ _ (begin book s) (c .before .before .read-opening .ensures) (c .before .if2 .taken)) in
-    refused-right s _ Malformed 11 (c .refused2 .ensures) (no-form s (c .before .before .before .if1 .left) e) refl (λ _. tt)
+    form-right s _ (c .refused2 .ensures) (c .before .before .before .if1 .left) e
 
 returns-3 : tie.Need-returns-3
 returns-3 c =
     let s = c .before .before .before .before .before .before .before .before .before .before .before .before .args .book .now in
     let e = parse-open _ _ _ _ (listed (c .before .before .before .before)) (closed (c .before .before)) (not-true _ (c .before .if3 .taken)) in
-    refused-right s _ Malformed 11 (c .refused3 .ensures) (no-form s (c .before .before .before .before .before .before .before .before .before .before .if1 .left) e) refl (λ _. tt)
+    form-right s _ (c .refused3 .ensures) (c .before .before .before .before .before .before .before .before .before .before .if1 .left) e
 
 returns-4 : tie.Need-returns-4
 returns-4 c =

@@ -1,4 +1,4 @@
--- `book_check::closes` meets its contract. Assumes nothing.
+-- `book_check::closes` meets its contract.
 use borrow.Author.Needs.{needs}
 use Rattle.text.specs.Reader.{bytes}
 use Rattle.book_check.proofs.Form.{closing-absent, closing-is}

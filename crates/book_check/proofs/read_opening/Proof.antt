@@ -1,4 +1,4 @@
--- `book_check::read_opening` meets its contract: each line is read where the one before it ended. Assumes nothing.
+-- `book_check::read_opening` meets its contract: each line is read where the one before it ended.
 use Prim.Native.Nat.{_+_}
 use native.Mathlib.Omega.{arith}
 use borrow.Author.Needs.{needs}
@@ -24,7 +24,7 @@ played : (c : tie.Else2)
     let p = c .before .read-row .result in
     From (opening s) (row (bytes "(fee ") 1 >>= (λ cs. give (getD (drop 3 (p .numbers)) 0 0, getD cs 0 0))) s (n + p .used)
 unfolding bytes
-played c = next-right _ _ (headed (c .before .before .before .before)) (c .before .read-row .ensures) (c .if2 .left)
+played c = next-right _ _ (headed (c .before .before .before .before)) (c .before .read-row .ensures .right) (c .if2 .left)
 
 ended : (c : tie.After-cs)
     → let s = c .before .before .before .before .before .before .before .before .before .before .before .before .before .before .args .book .now in
@@ -33,7 +33,7 @@ ended : (c : tie.After-cs)
     let f = c .before .before .before .read-row2 .result in
     From (opening s) (give (getD (drop 3 (p .numbers)) 0 0, getD (drop 3 (f .numbers)) 0 0)) s (n + p .used + f .used)
 unfolding bytes
-ended c = next-right _ _ (played (c .before .before .before .before .before .before)) (c .before .before .before .read-row2 .ensures) (c .before .before .if3 .left)
+ended c = next-right _ _ (played (c .before .before .before .before .before .before)) (c .before .before .before .read-row2 .ensures .right) (c .before .before .if3 .left)
 
 returns : tie.Need-returns
 unfolding opening bytes _>>_
@@ -41,11 +41,11 @@ returns c = absent (first-stops _ _ (begin opening _) (c .before .read-text .ens
 
 returns-2 : tie.Need-returns-2
 unfolding bytes
-returns-2 c = absent (stops _ _ (headed (c .before .before .before .before)) (c .before .read-row .ensures) (c .if2 .taken))
+returns-2 c = absent (stops _ _ (headed (c .before .before .before .before)) (c .before .read-row .ensures .right) (c .if2 .taken))
 
 returns-3 : tie.Need-returns-3
 unfolding bytes
-returns-3 c = absent (stops _ _ (played (c .before .before .before .before)) (c .before .read-row2 .ensures) (c .if3 .taken))
+returns-3 c = absent (stops _ _ (played (c .before .before .before .before)) (c .before .read-row2 .ensures .right) (c .if3 .taken))
 
 returns-4 : tie.Need-returns-4
 returns-4 c =

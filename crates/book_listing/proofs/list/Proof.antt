@@ -1,34 +1,49 @@
-use mathlib.Core.Path.{sym, ap, _∙_}
-use native.Mathlib.Omega.{arith}
+use borrow.Author.Needs.{needs}
+use mathlib.Core.Path.{sym}
 use Prim.Native.Nat.{_≤_}
 use lib.ListN.{length}
+use native.Mathlib.Omega.{arith}
 use lib.Seq.{length-take-le}
-use borrow.Author.Needs.{needs}
-use Rattle.listing.specs.Fit.{fit}
-use Rattle.listing.proofs.Pieces.{appended-long}
-use Rattle.book_listing.specs.Listing.{listing}
-use Rattle.book_listing.proofs.Texts.{taken}
+use Rattle.laws.specs.Range.{fits}
+use mir.Syntax.{w64}
+use mir.Facts.{toZ-pos}
+use Rattle.book_listing.proofs.Texts.{in-room, few, lists, lists-nothing}
 use Rattle.book_listing.proofs.list.Statement.{statement}
 use Rattle.book_listing.proofs.list.Tie as tie
 
-in-room : (c : tie.After-write-listing) → c .write-listing .result ≤ length (c .write-listing .last .1 .0)
-in-room c = let a = c .write-listing .ensures in omega (arith, appended-long a, a .within)
+abbrev entry : tie.After-write-listing → tie.Start
+entry w = w .before .before .before .before .before
 
-array-share-prefix-room : tie.Need-array-share-prefix-room
-array-share-prefix-room c = in-room (c .before)
+inside : (w : tie.After-write-listing) → w .write-listing .result .len ≤ length (w .write-listing .last .1 .0)
+inside w = in-room (entry w .args .book .now) _ (w .write-listing .last .1 .0) (w .before .before .blank .ensures) (w .write-listing .result) (w .write-listing .ensures)
 
-slice-aggregate-copy-if-room : tie.Need-slice-aggregate-copy-if-room
-slice-aggregate-copy-if-room c = let w = c .before .before in sym (length-take-le (w .write-listing .result) (w .write-listing .last .1 .0) (in-room w))
+short : (w : tie.After-write-listing) → w .write-listing .result .len ≤ 98304
+short w = few (entry w .args .book .now) _ (w .write-listing .last .1 .0) (w .before .before .blank .ensures) (w .write-listing .result) (w .write-listing .ensures)
 
 returns : tie.Need-returns
 returns c =
+    let t = c .before in
+    let w = t .before .before in
+    let a = entry w .args in
+    lists-nothing (a .book .now) _ (w .write-listing .last .1 .0) (w .before .before .blank .ensures) (w .write-listing .result) (w .write-listing .ensures) (a .text .now) (c .refused .result) (t .if1 .taken) (c .refused .ensures)
+
+array-share-prefix-room : tie.Need-array-share-prefix-room
+array-share-prefix-room c = inside (c .before .before)
+
+slice-aggregate-copy-if-room : tie.Need-slice-aggregate-copy-if-room
+slice-aggregate-copy-if-room c = let w = c .before .before .before in sym (length-take-le (w .write-listing .result .len) (w .write-listing .last .1 .0) (inside w))
+
+cast : tie.Need-cast-t16
+cast c = simp fits (omega (arith, short (c .before .before .before .before .before .before .before)))
+
+returns-2 : tie.Need-returns-2
+returns-2 c =
     let p = c .before .before in
-    let w = p .before .before .before .before in
-    let b = w .before .before in
-    let s = b .before .before .before in
-    let l = w .write-listing in
-    let (long, is) = taken (listing (s .args .book .now)) _ (l .last .1 .0) (l .result) (l .ensures) in
-    record { long = long; few = omega (arith, l .ensures .within, b .blank .ensures); text = p .copy-if-room .ensures ∙ ap (λ v. fit v (s .args .text .now)) is }
+    let n = p .before .before .before in
+    let w = n .before .before in
+    let a = entry w .args in
+    rw (toZ-pos w64 {n = w .write-listing .result .len} (omega (arith, short w)))
+    (lists (a .book .now) _ (w .write-listing .last .1 .0) (w .before .before .blank .ensures) (w .write-listing .result) (w .write-listing .ensures) (a .text .now) (p .copy-if-room .last .1 .0) (n .if1 .left) (p .copy-if-room .ensures))
 
 pub list-spec : {M : Type 1} → statement M
 list-spec =
@@ -37,8 +52,11 @@ list-spec =
     (λ c κs. search needs)
     (λ c. search needs)
     (λ c κs. search needs)
+    (λ c κs. search needs)
+    returns
     array-share-prefix-room
     slice-aggregate-copy-if-room
     (λ c κs. search needs)
+    cast
     (λ c. search needs)
-    returns)
+    returns-2)

@@ -1,17 +1,23 @@
 use borrow.Author.Needs.{needs}
-use mathlib.Core.Path.{_≡_, sym, subst, _∙_}
-use mathlib.Core.List.{List}
+use mathlib.Core.Path.{_≡_, sym, ap, _∙_}
 use mathlib.Core.Option.{some}
-use Prim.Native.Nat.{ℕ}
+use mathlib.Core.Bool.{true}
 use native.Mathlib.Omega.{arith}
-use Rattle.listing.specs.Appended.{Appended}
-use Rattle.listing.proofs.Sizes.{refused-size}
+use borrow.Author.Tests.{not-true, not-false}
+use Rattle.laws.specs.Image.{mapOption}
+use Rattle.enumerator.specs.declared.Place.the-variants.{None}
+use Rattle.enumerator.specs.Enumerator.{flowIn}
+use Rattle.listing.proofs.Sizes.{none-size, refused-size}
 use Rattle.book.specs.Book.{Book, parse}
 use Rattle.book.specs.Questions.{refusal}
 use Rattle.book_network.specs.Held.{Holds}
-use Rattle.way_enumerator.specs.WayWalk.{Walks}
+use Rattle.allocation.specs.FullWays.{firstWay}
+use Rattle.allocation.specs.WayFlow.{wayOf}
+use Rattle.way_enumerator.specs.WayWalk.{Walks, At}
+use Rattle.calls.specs.Replies.{onLine}
+use Rattle.calls.proofs.Places.{no-line, is-line, a-line}
 use Rattle.way_bytes.proofs.BookBytes.{accepted, held-book}
-use Rattle.book_listing.proofs.Texts.{question-few, refused-text, ways-text}
+use Rattle.book_listing.proofs.Texts.{question-few, writes-refused, writes-none, writes-ways}
 use Rattle.book_listing.proofs.write_listing.Statement.{statement}
 use Rattle.book_listing.proofs.write_listing.Tie as tie
 
@@ -24,25 +30,70 @@ ok c = let n = c .before in accepted (entry n .args .book .now) (n .before .chec
 held : (c : tie.Else1) → (b : Book) × (parse (entry (c .before) .args .book .now) ≡ some b) × Holds b (c .before .before .check .result .book)
 held c = let n = c .before in held-book (entry n .args .book .now) (n .before .check .result) (n .before .check .ensures) (ok c)
 
+-- the walk, before its first way and on it
 begun : (c : tie.After-start) → Walks (held (c .before .before) .0) (c .start .result)
 begun c = let h = held (c .before .before) in c .start .ensures .each (h .0) (h .2) .walks
 
+on-first : (c : tie.After-first) → let b = held (c .before .before .before) .0 in At b None (firstWay b) (c .first .result)
+on-first c = c .first .ensures .each (held (c .before .before .before) .0) (begun (c .before))
+
 put-refused-requires : tie.Need-put-refused-requires
-put-refused-requires c κs = let n = c .before .before in omega (arith, c .before .before .before .before .before .before .pre, refused-size (n .question .result) (omega (arith, n .question .ensures, question-few (n .before .check .result .answer))))
+put-refused-requires c κs = let n = c .before .before in omega (arith, entry n .pre, refused-size (n .question .result) (omega (arith, n .question .ensures, question-few (n .before .check .result .answer))))
 
 returns : tie.Need-returns
-returns c = let s = c .before .before .before .before .before .before .before .before .before in let n = c .before .before .before .before .before in let p = c .before .before .put-refused in
-    subst (λ (t : List ℕ). Appended (s .args .out .now) 0 t (p .last .0) (p .result)) (refused-text (s .args .book .now) (n .question .result) (n .question .ensures ∙ n .before .check .ensures .question) (c .before .before .before .before .if1 .taken)) (p .ensures)
+returns c =
+    let p = c .before .before .before .put-refused in
+    let t = c .before .before .before .before .before in
+    let n = t .before in
+    let a = entry n .args in
+    writes-refused (a .book .now) (a .out .now) (p .last .0) (p .result) (n .before .check .result) (n .before .check .ensures) (n .question .result) (c .line .result) (n .question .ensures) (c .line .ensures) (t .if1 .taken) (p .ensures)
 
 start-requires : tie.Need-start-requires
 start-requires c κs = let h = held (c .before) in record { book = h .0; holds = h .2 }
 
-list-requires : tie.Need-list-requires
-list-requires c κs = (record { book = held (c .before .before .before) .0; walks = begun (c .before) }, omega (arith, c .before .before .before .before .before .before .before .before .pre))
+first-requires : tie.Need-first-requires
+first-requires c κs = record { book = held (c .before .before) .0; walks = begun c }
+
+put-none-requires : tie.Need-put-none-requires
+put-none-requires c κs = omega (arith, entry (c .before .before .before .before .before .before .before .before) .pre, none-size)
 
 returns-2 : tie.Need-returns-2
-returns-2 c = let s = c .before .before .before .before .before .before .before .before .before .before .before in let e = c .before .before .before .before .before .before in let l = c .before .before .list in let h = held e in
-    subst (λ (t : List ℕ). Appended (s .args .out .now) 0 t (l .last .1 .0) (l .result)) (ways-text (s .args .book .now) (h .0) (ok e) (h .1)) (l .ensures .each (h .0) (begun (c .before .before .before .before)))
+returns-2 c =
+    let p = c .before .before .put-none in
+    let t = c .before .before .before .before in
+    let l = t .before in
+    let f = l .before .before in
+    let e = f .before .before .before in
+    let h = held e in
+    let a = entry (e .before) .args in
+    let w = f .first .result in
+    let off = sym (l .on-line .ensures) ∙ not-true (l .on-line .result) (t .if2 .taken) in
+    writes-none (a .book .now) (a .out .now) (p .last .0) (p .result) (ok e) (h .0) (h .1)
+    (sym (on-first f .way-is) ∙ ap (mapOption (wayOf (h .0))) (no-line (w .walk .place) (flowIn (w .walk)) off)) (p .ensures)
+
+-- past "none"
+on : (c : tie.Else2) → onLine (c .before .before .before .first .result .walk .place) ≡ true
+on c = let l = c .before in sym (l .on-line .ensures) ∙ not-false (l .on-line .result) (c .if2 .left)
+
+list-requires : tie.Need-list-requires
+list-requires c κs =
+    let e = c .before in
+    let f = e .before .before .before in
+    let s = entry (f .before .before .before .before) in
+    (record { book = held (f .before .before .before) .0; walks = on-first f .walks; first = on-first f .way-is; on = is-line (f .first .result .walk .place) (on e) }, omega (arith, s .pre))
+
+returns-3 : tie.Need-returns-3
+returns-3 c =
+    let p = c .before .before .list in
+    let n = c .before .before .before .before in
+    let f = n .before .before .before in
+    let e = f .before .before .before in
+    let h = held e in
+    let a = entry (e .before) .args in
+    let w = f .first .result in
+    let v = wayOf (h .0) (flowIn (w .walk)) in
+    writes-ways (a .book .now) (a .out .now) (p .last .1 .0) (p .result) (ok e) (h .0) (h .1) v
+    (sym (on-first f .way-is) ∙ ap (mapOption (wayOf (h .0))) (a-line (w .walk .place) (flowIn (w .walk)) (on n))) (p .ensures .each (h .0) (on-first f .walks) (on-first f .way-is))
 
 pub write-listing-spec : {M : Type 1} → statement M
 write-listing-spec =
@@ -52,9 +103,15 @@ write-listing-spec =
     (λ c κs. search needs)
     (λ c. search needs)
     put-refused-requires
+    (λ c κs. search needs)
     (λ c. search needs)
     returns
     start-requires
+    first-requires
+    (λ c κs. search needs)
+    put-none-requires
+    (λ c. search needs)
+    returns-2
     list-requires
     (λ c. search needs)
-    returns-2)
+    returns-3)

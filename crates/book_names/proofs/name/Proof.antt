@@ -1,4 +1,4 @@
--- `name` meets its contract: the part that the span tells of. Assumes nothing.
+-- `name` meets its contract: the part that the span tells of.
 use native.Mathlib.Nat.{add-sub-cancel-left}
 use borrow.Author.Needs.{needs}
 use Rattle.book_names.proofs.name.Statement.{statement}

@@ -1,4 +1,4 @@
--- `name_refusal` meets its contract. Assumes nothing.
+-- `name_refusal` meets its contract.
 use mathlib.Core.Path.{_≡_, sym, _∙_}
 use borrow.Author.Needs.{needs}
 use Rattle.book.specs.Questions.{refusal}

@@ -1,4 +1,4 @@
--- `place` meets its contract. Assumes nothing.
+-- `place` meets its contract.
 use Prim.Native.Nat.{ℕ, _-_, _≤_, _<_}
 use borrow.Author.Needs.{needs}
 use Rattle.book_names.proofs.Places.{nowhere, in-arrays, somewhere}

@@ -24,7 +24,7 @@ abbrev joined : tie.After-costs Inv-loop μ-loop → tie.After-put-join Inv-loop
 joined c = c .before .before .before .before .before
 
 few : (c : tie.Start Inv-loop μ-loop) → c .args .e ≤ 28
-few c = omega (arith, c .pre .0 .tables .accepted .few, c .pre .0 .tables .entries-are)
+few c = omega (arith, c .pre .0 .tables .limits .few, c .pre .0 .tables .entries-are)
 
 loop-holds : tie.Need-loop-holds Inv-loop μ-loop
 loop-holds c =

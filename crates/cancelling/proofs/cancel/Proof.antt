@@ -6,7 +6,7 @@ use lib.ListN.{take, length-replicate}
 use lib.IntN.{ℤ}
 use borrow.Author.Needs.{needs}
 use Rattle.network.specs.Network.{Net}
-use Rattle.relaxation.specs.Labels.{costGraph}
+use Rattle.certificates.specs.Graph.{costGraph}
 use Rattle.search.specs.Search.{NegativeCycle}
 use Rattle.cancelling.proofs.Cancelling.{labels-of, cycle-of, small-of, bounds-of, codes-of, able, cancelled}
 use Rattle.cancelling.proofs.cancel.Statement.{statement}
@@ -27,7 +27,7 @@ module _ (a : tie.After-find-cycle) where
   codes = a .find-cycle .last .1 .1 .1 .1 .1 .1 .1 .1 .0
 
 returns : tie.Need-returns
-returns c = let a = c .before .before .before in let s = start a in (refl, labels-of (net s) (s .args .flow .now) (s .args .need) (labels a) (codes a) (a .find-cycle .result) (a .find-cycle .ensures) (c .if1 .taken))
+returns c = let a = c .before .before .before in let s = start a in (refl, labels-of (net s) (s .args .flow .now) (s .args .need) (labels a) _ (codes a) (a .find-cycle .result) (a .find-cycle .ensures) (c .if1 .taken))
 
 -- a cycle was found
 module _ (c : tie.Else1) where
@@ -35,7 +35,7 @@ module _ (c : tie.Else1) where
   ran = c .before .before .before
 
   cycle : (ran .find-cycle .result ≤ 64) × NegativeCycle (net (start ran)) (start ran .args .flow .now) (start ran .args .need) (take (ran .find-cycle .result) (codes ran))
-  cycle = cycle-of (net (start ran)) (start ran .args .flow .now) (start ran .args .need) (labels ran) (codes ran) (ran .find-cycle .result) (ran .find-cycle .ensures) (c .if1 .left)
+  cycle = cycle-of (net (start ran)) (start ran .args .flow .now) (start ran .args .need) (labels ran) _ (codes ran) (ran .find-cycle .result) (ran .find-cycle .ensures) (c .if1 .left)
 
 room-requires : tie.Need-room-requires
 room-requires c κs = let e = c .before .before in let a = ran e in let s = start a in

@@ -7,7 +7,8 @@ use lib.IntN.{ℤ}
 use lib.Signed.{_<ℤ_}
 use borrow.Author.Tests.{not-true, not-false}
 use Rattle.network.specs.Network.{Net, costOf}
-use Rattle.relaxation.specs.Labels.{costGraph, Relaxable}
+use Rattle.certificates.specs.Graph.{costGraph}
+use Rattle.relaxation.specs.Labels.{Relaxable}
 use Rattle.cancelling.specs.Cancelling.{Rerouted}
 use Rattle.cancelling.proofs.Cancelling.{none-left, one-less, left, falls, same-flow, further, relaxable-again}
 use Rattle.cancelling.proofs.cancel_all.Statement.{statement}
@@ -54,7 +55,7 @@ cancel-requires : tie.Need-cancel-requires Inv-loop μ-loop
 cancel-requires c κs = let l = c .before .before in let s = l .before .before .before .before .before .before in (l .loop .inv .0, s .pre .1, s .pre .2, l .loop .inv .2)
 
 same-length : tie.Need-same-length Inv-loop μ-loop
-same-length c = let a = c .before .before .before .before in a .cancel .kept .1 .1 .1 .1 .1 .0 ∙ before a .loop .inv .0 .flow-len ∙ sym (start a .pre .0 .flow-len)
+same-length c = let a = c .before .before .before .before in a .cancel .kept .1 .1 .1 .1 .1 .0 ∙ before a .loop .inv .0 .bounds .all-arcs ∙ sym (start a .pre .0 .bounds .all-arcs)
 
 same-length-2 : tie.Need-same-length-2 Inv-loop μ-loop
 same-length-2 c = let a = c .before .before .before .before in labels-len a ∙ sym (start a .pre .3)

@@ -5,7 +5,8 @@ use native.Mathlib.Omega.{arith}
 use lib.ListN.{length}
 use lib.IntN.{ℤ}
 use Rattle.network.specs.Network.{Net}
-use Rattle.relaxation.specs.Labels.{costGraph, Relaxable}
+use Rattle.certificates.specs.Graph.{costGraph}
+use Rattle.relaxation.specs.Labels.{Relaxable}
 use Rattle.search.specs.Search.{QuietLabels}
 use Rattle.cancelling.specs.Cancelling.{Rerouted}
 use Rattle.cancelling.proofs.Cancelling.{same-flow, further, relaxable-again}
@@ -45,7 +46,7 @@ cancel-all-requires : tie.Need-cancel-all-requires Inv-loop μ-loop
 cancel-all-requires c κs = let i = c .before .before .loop .inv in (i .0, i .2, omega (arith, i .3), i .4)
 
 same-length : tie.Need-same-length Inv-loop μ-loop
-same-length c = let a = c .before .before .before .before in rerouted a .bounds .all-arcs ∙ sym (start a .pre .0 .flow-len)
+same-length c = let a = c .before .before .before .before in rerouted a .bounds .all-arcs ∙ sym (start a .pre .0 .bounds .all-arcs)
 
 same-length-2 : tie.Need-same-length-2 Inv-loop μ-loop
 same-length-2 c = let a = c .before .before .before .before in a .cancel-all .ensures .1 .len ∙ sym (start a .pre .1)

@@ -5,7 +5,7 @@ use lib.IntN.{ℤ}
 use borrow.Author.Needs.{needs}
 use borrow.Author.Tests.{not-true, not-false}
 use Rattle.network.specs.Network.{Net}
-use Rattle.relaxation.specs.Labels.{costGraph}
+use Rattle.certificates.specs.Graph.{costGraph}
 use Rattle.cancelling.specs.Cancelling.{Rerouted}
 use Rattle.cancelling.proofs.Cancelling.{same-flow, further, relaxable-again, one-less, none-left}
 use Rattle.cancelling.proofs.cheapen.Statement.{statement}

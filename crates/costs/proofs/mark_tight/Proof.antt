@@ -1,4 +1,5 @@
 use mathlib.Core.Path.{_≡_, sym, _∙_}
+use mathlib.Core.List.{[]}
 use Prim.Native.Nat.{_-_, _≤_}
 use native.Mathlib.Omega.{arith}
 use lib.ListN.{length, getD}
@@ -10,16 +11,17 @@ use borrow.Author.Needs.{needs}
 use borrow.Author.Tests.{eqb-true, eqb-false}
 use Rattle.laws.specs.Range.{zero-of, zero-bits}
 use Rattle.certificates.specs.Optimality.{reduced}
-use Rattle.costs.specs.Costs.{endsAndCosts, MarkedBelow}
+use Rattle.certificates.specs.Graph.{costGraph}
+use Rattle.costs.specs.Costs.{MarkedBelow}
 use Rattle.costs.proofs.Sizes.{marked-more, marked-all}
 use Rattle.costs.proofs.mark_tight.Statement.{statement}
 use Rattle.costs.proofs.mark_tight.Tie as tie
 
 abbrev Inv-loop : tie.InvT-loop
-Inv-loop tails heads costs prices marks₀ a₀ marks a = (a ≤ length tails) × (length marks ≡ length tails) × MarkedBelow (endsAndCosts tails heads costs) (λ v. getD prices v (pos 0)) marks a
+Inv-loop tails heads costs labels marks₀ a₀ marks a = (a ≤ length tails) × (length marks ≡ length tails) × MarkedBelow (costGraph tails heads [] [] costs) (λ v. getD labels v (pos 0)) marks a
 
 abbrev μ-loop : tie.MeasureT-loop
-μ-loop tails heads costs prices marks₀ a₀ marks a = length tails - a
+μ-loop tails heads costs labels marks₀ a₀ marks a = length tails - a
 
 loop-holds : tie.Need-loop-holds Inv-loop μ-loop
 loop-holds c = (omega arith, c .before .before .before .pre .marks-len, record { marked = λ a h. absurd (omega arith); unmarked = λ a h. absurd (omega arith) })
@@ -51,22 +53,22 @@ shared-slice-copy-out-reduced-3 c = c .before .before .before .before .before .b
 cost-is : (c : tie.After-reduced-arg3 Inv-loop μ-loop) → toZ w32 (ofZ w32 (getD (c .before .before .before .before .before .before .before .before .before .before .args .costs .now) (c .before .before .before .before .before .before .loop .a) (pos 0))) ≡ getD (c .before .before .before .before .before .before .before .before .before .before .args .costs .now) (c .before .before .before .before .before .before .loop .a) (pos 0)
 cost-is c = toZ-ofZ (search needs)
 
-tail-price : (c : tie.After-reduced-arg3 Inv-loop μ-loop) → toZ w64 (ofZ w64 (getD (c .before .before .before .before .before .before .before .before .before .before .args .prices .now) (getD (c .before .before .before .before .before .before .before .before .before .before .args .tails .now) (c .before .before .before .before .before .before .loop .a) 0) (pos 0))) ≡ getD (c .before .before .before .before .before .before .before .before .before .before .args .prices .now) (getD (c .before .before .before .before .before .before .before .before .before .before .args .tails .now) (c .before .before .before .before .before .before .loop .a) 0) (pos 0)
-tail-price c = toZ-ofZ (search needs)
+tail-label : (c : tie.After-reduced-arg3 Inv-loop μ-loop) → toZ w64 (ofZ w64 (getD (c .before .before .before .before .before .before .before .before .before .before .args .labels .now) (getD (c .before .before .before .before .before .before .before .before .before .before .args .tails .now) (c .before .before .before .before .before .before .loop .a) 0) (pos 0))) ≡ getD (c .before .before .before .before .before .before .before .before .before .before .args .labels .now) (getD (c .before .before .before .before .before .before .before .before .before .before .args .tails .now) (c .before .before .before .before .before .before .loop .a) 0) (pos 0)
+tail-label c = toZ-ofZ (search needs)
 
-head-price : (c : tie.After-reduced-arg3 Inv-loop μ-loop) → toZ w64 (ofZ w64 (getD (c .before .before .before .before .before .before .before .before .before .before .args .prices .now) (getD (c .before .before .before .before .before .before .before .before .before .before .args .heads .now) (c .before .before .before .before .before .before .loop .a) 0) (pos 0))) ≡ getD (c .before .before .before .before .before .before .before .before .before .before .args .prices .now) (getD (c .before .before .before .before .before .before .before .before .before .before .args .heads .now) (c .before .before .before .before .before .before .loop .a) 0) (pos 0)
-head-price c = toZ-ofZ (search needs)
+head-label : (c : tie.After-reduced-arg3 Inv-loop μ-loop) → toZ w64 (ofZ w64 (getD (c .before .before .before .before .before .before .before .before .before .before .args .labels .now) (getD (c .before .before .before .before .before .before .before .before .before .before .args .heads .now) (c .before .before .before .before .before .before .loop .a) 0) (pos 0))) ≡ getD (c .before .before .before .before .before .before .before .before .before .before .args .labels .now) (getD (c .before .before .before .before .before .before .before .before .before .before .args .heads .now) (c .before .before .before .before .before .before .loop .a) 0) (pos 0)
+head-label c = toZ-ofZ (search needs)
 
 reduced-requires : tie.Need-reduced-requires Inv-loop μ-loop
 reduced-requires c κs =
     let s = c .before .before .before .before .before .before .before .before .before .before .pre in
     let a = c .before .before .before .before .before .before .loop .a in
     let l = c .before .before .before .before .before .loop-test .taken in
-    rw (cost-is c, tail-price c, head-price c) (s .cost-small a l, s .price-small _ (s .tail-in a l), s .price-small _ (s .head-in a l))
+    rw (cost-is c, tail-label c, head-label c) (s .cost-small a l, s .label-small _ (s .tail-in a l), s .label-small _ (s .head-in a l))
 
 -- what the function answers is the reduced cost
-is : (c : tie.After-reduced Inv-loop μ-loop) → c .reduced .result ≡ reduced (endsAndCosts (c .before .before .before .before .before .before .before .before .before .before .before .args .tails .now) (c .before .before .before .before .before .before .before .before .before .before .before .args .heads .now) (c .before .before .before .before .before .before .before .before .before .before .before .args .costs .now)) (λ v. getD (c .before .before .before .before .before .before .before .before .before .before .before .args .prices .now) v (pos 0)) (c .before .before .before .before .before .before .before .loop .a)
-is c = c .reduced .ensures ∙ rw (cost-is (c .before), tail-price (c .before), head-price (c .before))
+is : (c : tie.After-reduced Inv-loop μ-loop) → c .reduced .result ≡ reduced (costGraph (c .before .before .before .before .before .before .before .before .before .before .before .args .tails .now) (c .before .before .before .before .before .before .before .before .before .before .before .args .heads .now) [] [] (c .before .before .before .before .before .before .before .before .before .before .before .args .costs .now)) (λ v. getD (c .before .before .before .before .before .before .before .before .before .before .before .args .labels .now) v (pos 0)) (c .before .before .before .before .before .before .before .loop .a)
+is c = c .reduced .ensures ∙ rw (cost-is (c .before), tail-label (c .before), head-label (c .before))
 
 slice-write-marks : tie.Need-slice-write-marks Inv-loop μ-loop
 slice-write-marks c = omega (arith, c .before .before .before .before .before .before .loop-test .taken, c .before .before .before .before .before .before .before .loop .inv .1)

@@ -12,7 +12,8 @@ use Rattle.network.specs.Struct.{netIn}
 use Rattle.least_cost.specs.Marked.{Marked}
 use Rattle.laws.specs.Padded.{part-written}
 use Rattle.enumerator.proofs.Held.{few, in-tails, in-heads, in-lows, in-ups, in-costs, in-balances, as-many, small-costs}
-use Rattle.enumerator.proofs.Steps.{on-line, cost-summed, marked-yes, not-marked, resume-off}
+use Rattle.enumerator.proofs.Given.{resume-on, resume-off}
+use Rattle.enumerator.proofs.Steps.{on-line, cost-summed, marked-yes, not-marked}
 use Rattle.enumerator.proofs.resume.Statement.{statement}
 use Rattle.enumerator.proofs.resume.Tie as tie
 
@@ -20,7 +21,7 @@ in-flow : (s : tie.Start) → s .args .net .arcs ≤ length (s .args .t2)
 in-flow s = let e : length (s .args .t2) ≡ 512 = search needs in omega (arith, few (s .args .net) (s .pre))
 
 line-of : (c : tie.Else1) → Marked (netIn (c .before .before .before .before .before .before .before .before .before .before .before .before .before .before .before .before .before .args .net)) (c .before .before .mark-if-least .last .1 .1 .1 .1 .1 .1 .1 .0) (take (c .before .before .before .before .before .before .before .before .before .before .before .before .before .before .before .before .before .args .net .arcs) (c .before .before .before .before .before .before .before .before .before .before .before .before .before .before .before .before .before .args .t2))
-line-of c = let s = c .before .before .before .before .before .before .before .before .before .before .before .before .before .before .before .before .before in let k = c .before .before .mark-if-least in marked-yes (netIn (s .args .net)) (take (s .args .net .arcs) (s .args .t2)) (k .last .1 .1 .1 .1 .1 .1 .1 .0) (k .result) (k .ensures) (not-false (k .result) (c .if1 .left))
+line-of c = let s = c .before .before .before .before .before .before .before .before .before .before .before .before .before .before .before .before .before in let k = c .before .before .mark-if-least in marked-yes (netIn (s .args .net)) (take (s .args .net .arcs) (s .args .t2)) _ (k .last .1 .1 .1 .1 .1 .1 .1 .0) (k .result) (k .ensures) (not-false (k .result) (c .if1 .left))
 
 slice-aggregate-mark-if-least-7 : tie.Need-slice-aggregate-mark-if-least-7
 slice-aggregate-mark-if-least-7 c = let s = c .before .before .before .before .before .before .before .before .before .before .before .before .before in sym (length-take-le (s .args .net .arcs) (s .args .t2) (in-flow s))
@@ -39,7 +40,7 @@ start-requires c κs = c .before .before .before .before .before .before .before
 
 returns : tie.Need-returns
 returns c = let s = c .before .before .before .before .before .before .before .before .before .before .before .before .before .before .before .before .before .before in let k = c .before .before .before .mark-if-least in let p = c .start .ensures in
-    (p .0, p .1, resume-off (netIn (s .args .net)) _ (c .start .result) (p .2) (not-marked (netIn (s .args .net)) _ _ (k .result) (k .ensures) (not-true (k .result) (c .before .if1 .taken))))
+    (p .0, p .1, resume-off (netIn (s .args .net)) (s .pre .accepted .well-formed) _ (c .start .result) (not-marked (netIn (s .args .net)) _ _ _ (k .result) (k .ensures) (not-true (k .result) (c .before .if1 .taken))) (p .2))
 
 slice-aggregate-cost-of-2 : tie.Need-slice-aggregate-cost-of-2
 slice-aggregate-cost-of-2 c = let s = c .before .before .before .before .before .before .before .before .before .before .before .before .before .before .before .before .before .before .before in sym (length-take-le (s .args .net .arcs) (s .args .t2) (in-flow s))
@@ -60,7 +61,7 @@ returns-2 c =
           (cost-summed (netIn n) (s .pre .accepted .well-formed) g g refl _ (c .cost-of .result) (toZ-ofZ (record { sfits = c .cost-of .ok })) (c .cost-of .ensures))
           (subst (λ (x : List Bool). Marked (netIn n) x g) (sym (part-written t (drop (n .arcs) (replicate 512 false)) (n .arcs) (m .marks-len ∙ sym (s .pre .arcs-held)) .1)) m),
       refl,
-      record { on = λ _. (refl, m .marks .least); off = λ h. absurd (h refl) },
+      resume-on (netIn n) (s .pre .accepted .well-formed) g _ (m .marks .least) refl refl,
     )
 
 pub resume-spec : {M : Type 1} → statement M

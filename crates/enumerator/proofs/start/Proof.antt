@@ -5,7 +5,7 @@ use Rattle.enumerator.proofs.start.Statement.{statement}
 use Rattle.enumerator.proofs.start.Tie as tie
 
 returns : tie.Need-returns
-returns c = (off-line (c .args .net) Start (λ _. refl) (c .pre) _ _, refl, refl)
+returns c = (off-line (c .args .net) Start (λ _. refl) (c .pre) _ _, refl, refl, refl, refl)
 
 pub start-spec : {M : Type 1} → statement M
 start-spec = tie.close (tie.spec returns)

@@ -19,7 +19,7 @@ returns : tie.Need-returns
 returns c =
     let s = c .before .before .before .before .before .before .before in
     let t = c .before .total in
-    no-balance (s .args .balances .now) (s .args .tails .now) (s .args .heads .now) (s .args .lows .now) (s .args .ups .now) (s .args .flow .now) (s .pre .0) (s .args .flow .now)
+    no-balance (s .args .balances .now) (s .args .tails .now) (s .args .heads .now) (s .args .lows .now) (s .args .ups .now) (s .args .flow .now) (s .pre .0) (s .args .flow .now) (s .pre .1)
     (λ e. c .if1 .taken (zero-bits (t .result) (t .ensures ∙ e)))
 
 slice-aggregate-from-bounds : tie.Need-slice-aggregate-from-bounds

@@ -4,7 +4,7 @@ use lib.ListN.{length}
 use borrow.Author.Tests.{not-true, not-false}
 use Rattle.laws.specs.Parts.{plus}
 use Rattle.certificates.specs.Push.{InBounds}
-use Rattle.certificates.specs.Feasible.{lacks as excesses}
+use Rattle.certificates.specs.Feasible.{totalExcess}
 use Rattle.certificates.specs.Graph.{graph}
 use Rattle.flow_test.specs.Excess.{supplies}
 use Rattle.feasible.proofs.Answer.{small-of, ready-of, all-sent, no-flow-left, falls}
@@ -15,7 +15,7 @@ abbrev Inv-loop : tie.InvT-loop
 Inv-loop tails heads lows ups free balances flow₀ excess₀ flow excess = InBounds (graph tails heads lows ups) flow × (length excess ≡ length balances)
 
 abbrev μ-loop : tie.MeasureT-loop
-μ-loop tails heads lows ups free balances flow₀ excess₀ flow excess = plus (excesses (supplies balances tails heads) flow)
+μ-loop tails heads lows ups free balances flow₀ excess₀ flow excess = plus (totalExcess (supplies balances tails heads) flow)
 
 loop-holds : tie.Need-loop-holds Inv-loop μ-loop
 loop-holds c = let s = c .before .before .before .before .before .before in (s .pre .1, s .pre .3)
@@ -46,7 +46,7 @@ same-length-4 : tie.Need-same-length-4 Inv-loop μ-loop
 same-length-4 c = let s = c .before .before .before .before .before .before .before .before .before .before .before .before .before .before .before .before .before .before .before .before in c .before .before .before .before .before .before .before .before .before .before .excess-of .ensures .len ∙ sym (s .pre .3)
 
 returns-2 : tie.Need-returns-2 Inv-loop μ-loop
-returns-2 c = let s = c .before .before .before .before .before .before .before .before .before .before .before .before .before .before .before .before .before .before .before .before in let a = c .before .before .before .before .before .before .before .before .before .before .before .before .before in let d = c .before .before .before .before .before .before .before .before .before .before in no-flow-left (s .args .balances .now) (s .args .tails .now) (s .args .heads .now) (s .args .lows .now) (s .args .ups .now) (s .args .flow .now) (s .pre .0) (a .loop .flow) (a .loop .inv .0) (d .excess-of .last .1 .1 .1 .1 .0) (d .excess-of .ensures) (s .args .free .now) (s .pre .2) (c .before .before .before .before .before .before .before .first-excess .result) (c .before .before .before .before .before .before .if1 .left) (c .before .before .before .before .before .before .before .first-excess .ensures .above (c .before .before .before .before .before .before .if1 .left)) (c .before .before .before .send .ensures .stuck (not-true _ (c .if2 .taken))) _
+returns-2 c = let s = c .before .before .before .before .before .before .before .before .before .before .before .before .before .before .before .before .before .before .before .before in let a = c .before .before .before .before .before .before .before .before .before .before .before .before .before in let d = c .before .before .before .before .before .before .before .before .before .before in no-flow-left (s .args .balances .now) (s .args .tails .now) (s .args .heads .now) (s .args .lows .now) (s .args .ups .now) (s .args .flow .now) (s .pre .0) (a .loop .flow) (a .loop .inv .0) (d .excess-of .last .1 .1 .1 .1 .0) (d .excess-of .ensures) (s .args .free .now) (s .pre .2) (c .before .before .before .before .before .before .before .first-excess .result) (c .before .before .before .before .before .before .if1 .left) (c .before .before .before .before .before .before .before .first-excess .ensures .above (c .before .before .before .before .before .before .if1 .left)) (c .before .before .before .send .ensures .stuck (not-true _ (c .if2 .taken))) _ (c .before .before .before .send .ensures .bounds)
 
 loop-less : tie.Need-loop-less Inv-loop μ-loop
 loop-less c = let s = c .before .before .before .before .before .before .before .before .before .before .before .before .before .before .before .before .before .before .before .before in let a = c .before .before .before .before .before .before .before .before .before .before .before .before .before in let d = c .before .before .before .before .before .before .before .before .before .before in falls (s .args .balances .now) (s .args .tails .now) (s .args .heads .now) (s .args .lows .now) (s .args .ups .now) (s .args .flow .now) (s .pre .0) (a .loop .flow) (a .loop .inv .0) (d .excess-of .last .1 .1 .1 .1 .0) (d .excess-of .ensures) _ (c .before .before .before .before .before .before .before .first-excess .result) (c .before .before .before .before .before .before .if1 .left) (c .before .before .before .send .ensures .done (not-false _ (c .if2 .left)))

@@ -36,13 +36,13 @@ abbrev net : tie.Start → Net
 net s = graph (s .args .tails .now) (s .args .heads .now) (s .args .lows .now) (s .args .ups .now)
 
 told : (k : tie.After-known-told) → (len-of k ≤ length (lent k)) × Path (net (start k)) (start k .args .flow .now) (start k .args .free .now) (start k .args .s) (start k .args .t) 0 (codes-of k)
-told k = rw (k .before .route .given .1) at (k .before .before .before .before .detour .ensures)
+told k = let (few, path, _) = rw (k .before .route .given .1) at (k .before .before .before .before .detour .ensures) in (few, path)
 
 returns : tie.Need-returns
 returns c = let s = c .before .before .before .before .before .before .before in sends-to-none (net s) (s .args .flow .now) (s .args .free .now) (s .args .s) (s .args .t) (s .args .most) (s .args .x) (s .pre .0 .bounds) (toZ w64 (ofZ w64 (s .args .x))) (toZ-ofZ (s .fits .x)) (c .if1 .taken)
 
 returns-3 : tie.Need-returns-3
-returns-3 c = let s = c .before .before .before .before .before .before .before .before .before .before .before .before .before in sends-to-blocked (net s) (s .args .flow .now) (s .args .free .now) (s .args .s) (s .args .t) (s .args .most) (s .args .x) (s .pre .0 .bounds) (rw (c .enum-told .given .1) at (c .before .before .before .detour .ensures))
+returns-3 c = let s = c .before .before .before .before .before .before .before .before .before .before .before .before .before in sends-to-blocked (net s) (s .args .flow .now) (s .args .free .now) (s .args .s) (s .args .t) (s .args .most) (s .args .x) (s .pre .0 .bounds) ((rw (c .enum-told .given .1) at (c .before .before .before .detour .ensures)) .0)
 
 sub-capped : tie.Need-sub-capped
 sub-capped c = let s = c .before .before .before .before .before .before .before .before .before .before .before .before .before .before in turned-fits (toZ w64 (ofZ w64 (s .args .x))) (s .args .x) (toZ-ofZ (s .fits .x)) (s .pre .4)

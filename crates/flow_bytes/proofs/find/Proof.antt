@@ -9,8 +9,11 @@ use Rattle.network.specs.Network.{arcs}
 use Rattle.network.specs.FullList.{fullList}
 use Rattle.network.specs.Struct.{netIn}
 use Rattle.calls.specs.ByteLists.{listed}
+use Rattle.flow_bytes.specs.NetworkBytes.{givenFlow}
+use Rattle.enumerator.specs.declared.Place.the-variants.{Start}
 use Rattle.network.proofs.FullList.{full-member}
-use Rattle.enumerator.specs.Enumerator.{lineAt, lineOf, flowIn}
+use Rattle.enumerator.specs.Enumerator.{lineAt, lineOf, flowIn, placeOf}
+use Rattle.enumerator.proofs.Given.{resumed-on, resumed-off}
 use Rattle.calls.proofs.Lines.{every-at, other-length}
 use Rattle.flow_bytes.proofs.NetworkLines.{full-flows}
 use Rattle.calls.proofs.Given.{read-all, found}
@@ -24,9 +27,10 @@ returns c =
     let a = c .before .before .before in
     let N = netIn (a .args .net) in
     let g = a .args .given .now in
-    let (stands, same, start) = c .start .ensures in
+    let (stands, same, start, _, _) = c .start .ensures in
     let e : listed g (fullList N) ≡ false = other-length (arcs N) (fullList N) (full-flows N (a .pre .accepted)) g (λ q. c .before .if1 .taken (q ∙ ap (λ k. 4 * k) (sym (a .pre .arcs-held)))) in
-    (stands, same, ap (λ p. lineAt p (flowIn (c .start .result))) start ∙ sym (ap (λ t. cond t (some (words g)) none) e))
+    let none-given : givenFlow N g ≡ none = ap (λ t. cond t (some (words g)) none) e in
+    record { stands = stands; net-is = same; line-is = ap (λ p. lineAt p (flowIn (c .start .result))) start ∙ sym none-given; place-is = start ∙ ap (placeOf Start) (sym none-given) }
 
 returns-2 : tie.Need-returns-2
 returns-2 c =
@@ -39,13 +43,12 @@ returns-2 c =
     let q : take (s .arcs) (c .before .read-words .result) ≡ words g =
     ap (λ l. take (s .arcs) l) (c .before .read-words .ensures) ∙ ap (λ k. take k (padded 512 0 (take 512 (words g)))) (a .pre .arcs-held) ∙ read-all (arcs N) (a .pre .accepted .few-arcs) g e in
     let r = c .resume .result in
-    let member = full-member N (a .pre .accepted .well-formed) (words g) in (
-      stands,
-      same,
-      found (arcs N) (fullList N) (full-flows N (a .pre .accepted)) g (every-at g 256 (λ i h. c .before .before .before .shared-slice-known .given i .fits)) e (r .place) (lineOf r)
-          (λ p. (ap (λ x. lineAt x (flowIn r)) p ∙ ap some (resumes .on p .0 ∙ q), member .1 (rw q at (resumes .on p .1))))
-          (λ n. (off-line (r .place) (flowIn r) n, λ m. resumes .off n (rw q (member .0 m)))),
-    )
+    let member = full-member N (a .pre .accepted .well-formed) (words g) in
+    let line-is : lineOf r ≡ givenFlow N g =
+    found (arcs N) (fullList N) (full-flows N (a .pre .accepted)) g (every-at g 256 (λ i h. c .before .before .before .shared-slice-known .given i .fits)) e (r .place) (lineOf r)
+    (λ p. (let (same-flow, least) = resumed-on N (a .pre .accepted .well-formed) (take (s .arcs) (c .before .read-words .result)) r resumes p in (ap (λ x. lineAt x (flowIn r)) p ∙ ap some (same-flow ∙ q), member .1 (rw q at least))))
+    (λ n. (off-line (r .place) (flowIn r) n, λ m. resumed-off N (a .pre .accepted .well-formed) (take (s .arcs) (c .before .read-words .result)) r resumes n (rw q (member .0 m)))) in
+    record { stands = stands; net-is = same; line-is = line-is; place-is = resumes .place-is ∙ ap (placeOf Start) (sym (resumes .line-is) ∙ line-is) }
 
 pub find-spec : {M : Type 1} → statement M
 find-spec =

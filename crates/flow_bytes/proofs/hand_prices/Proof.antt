@@ -41,7 +41,7 @@ returns-2 c =
     rw e (
       take n ps,
       prices-held (netIn (s .net)) (flowIn s) n ps (p .prices .ok .0) (a .pre .0 .sound .nodes-held)
-          (omega (arith, k, a .pre .0 .sound .nodes-held, a .pre .0 .sound .accepted .few-nodes)) (p .prices .ok .1 .1) (p .prices .ensures),
+          (omega (arith, k, a .pre .0 .sound .nodes-held, a .pre .0 .sound .accepted .few-nodes)) (p .prices .ok .1 .1) (p .prices .ensures .prices),
       ap some (w .write-ints .ensures ∙ ap (λ m. over (encodeInts (take m ps)) out) (room-fits n out (a .pre .1))),
     )
 

@@ -42,7 +42,7 @@ returns : tie.Need-returns Inv-loop μ-loop
 returns c = let s = c .before .before .before .before .before .before .before .before .before .before .before .before .before in let a = c .before .before .before .before .before .before .loop in let o = c .before .before .before .next in (
   omega (arith, c .before .before .before .before .before .loop-test .taken),
   λ b d π ti e.
-      line-last (whole s b d) (a .n) (a .flow) (a .inv .4 b d π ti e) (ti .well-formed) (s .args .cap) _ (o .result) (not-true _ (c .if1 .taken)) (o .ensures .2 b d π (tight-any (whole s b d) π (s .args .tight .now) (s .args .flow .now) (a .flow) ti (a .inv .4 b d π ti e .least))),
+      line-last (whole s b d) (a .n) (a .flow) (a .inv .4 b d π ti e) (ti .well-formed) (s .args .cap) _ (o .result) (not-true _ (c .if1 .taken)) (o .ensures .1 (not-true _ (c .if1 .taken))) (o .ensures .2 b d π (tight-any (whole s b d) π (s .args .tight .now) (s .args .flow .now) (a .flow) ti (a .inv .4 b d π ti e .least))),
 )
 
 add-n : tie.Need-add-n Inv-loop μ-loop

@@ -51,7 +51,7 @@ minimise-requires : tie.Need-minimise-requires
 minimise-requires c κs =
     let r = c .before .before .before in
     let s = start (r .before .before .before) in
-    (ready-again (part s) (s .args .flow .now) (r .raise .last .1 .1 .1 .1 .1 .0) (s .args .tight .now) (r .raise .kept .1 .1 .1 .1 .1 .0) (r .raise .ensures .0) (s .pre), r .before .before .before .after-last-raisable .ensures .none .in-range)
+    (ready-again (part s) (s .args .flow .now) (r .raise .last .1 .1 .1 .1 .1 .0) (s .args .tight .now) (r .raise .kept .1 .1 .1 .1 .1 .0) (r .raise .ensures .0) (s .pre), omega (arith, r .before .before .before .after-last-raisable .ensures .none .in-range))
 
 same-length-2 : tie.Need-same-length-2
 same-length-2 c = c .before .before .minimise .kept .1 .1 .1 .1 .1 .0 ∙ c .before .before .before .before .before .before .raise .kept .1 .1 .1 .1 .1 .0

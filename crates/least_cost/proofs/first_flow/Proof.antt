@@ -1,4 +1,4 @@
-use mathlib.Core.Path.{sym, _∙_}
+use mathlib.Core.Path.{refl, sym, _∙_}
 use mathlib.Core.List.{List}
 use Prim.Native.Nat.{ℕ}
 use native.Mathlib.Omega.{arith}
@@ -9,9 +9,10 @@ use borrow.Author.Tests.{not-true, not-false}
 use Rattle.network.specs.Network.{Net, IsFlow, LeastCost}
 use Rattle.certificates.specs.Push.{flow-bounds}
 use Rattle.certificates.specs.Graph.{netWith}
+use Rattle.relaxation.proofs.Accepted.{relaxable}
 use Rattle.cancelling.proofs.Cheapest.{cheapest}
 use Rattle.least_cost.specs.Marked.{Marked}
-use Rattle.least_cost.proofs.Premises.{given, relaxable, ready}
+use Rattle.least_cost.proofs.Premises.{given, ready}
 use Rattle.least_cost.proofs.Marked.{labels-whole, marked-narrowed, first-marked, no-first}
 use Rattle.least_cost.proofs.first_flow.Statement.{statement}
 use Rattle.least_cost.proofs.first_flow.Tie as tie
@@ -23,7 +24,7 @@ starting-flow-requires : tie.Need-starting-flow-requires
 starting-flow-requires c κs = let s = c .before .before .before .before .before .before .before in (given (s .args .balances .now) (s .args .tails .now) (s .args .heads .now) (s .args .lows .now) (s .args .ups .now) (s .args .costs .now) (s .pre .0) (s .args .flow .now) (s .pre .1), s .pre .0 .well-formed .costs-len)
 
 returns : tie.Need-returns
-returns c = let s = c .before .before .before .before .before .before .before .before .before .before .before in no-first (whole s) (s .pre .0 .well-formed) (λ g. c .before .before .before .starting-flow .ensures .none (not-true _ (c .if1 .taken)) (s .args .costs .now) (s .pre .0 .well-formed .costs-len) g)
+returns c = let s = c .before .before .before .before .before .before .before .before .before .before .before in let b = c .before .before .before .starting-flow .ensures .bounds in (no-first (whole s) (s .pre .0 .well-formed) (λ g. c .before .before .before .starting-flow .ensures .none (not-true _ (c .if1 .taken)) (s .args .costs .now) (s .pre .0 .well-formed .costs-len) g), record { all-arcs = b .all-arcs; above = b .above; below = b .below }, refl)
 
 -- a flow was found
 flow-of : (c : tie.Else1) → IsFlow (whole (c .before .before .before .before .before .before .before .before .before .before .before)) (c .before .before .before .starting-flow .last .1 .1 .1 .1 .1 .1 .0)
@@ -47,7 +48,7 @@ module _ (k : tie.After-cheapen) where
   least : LeastCost (whole start) flow
   least =
       cheapest (start .args .balances .now) (start .args .tails .now) (start .args .heads .now) (start .args .lows .now) (start .args .ups .now) (start .args .costs .now) (k .before .before .before .before .before .before .starting-flow .last .1 .1 .1 .1 .1 .1 .0) flow (start .pre .0 .well-formed) (flow-of (k .before .before .before)) (k .cheapen .ensures .0)
-      (λ v. getD labels v (pos 0)) (k .cheapen .ensures .1 .quiet)
+      (λ v. getD labels v (pos 0)) (k .cheapen .ensures .1 .feasible)
 
 slice-aggregate-mark : tie.Need-slice-aggregate-mark
 slice-aggregate-mark c = sym (c .before .before .before .before .before .cheapen .ensures .1 .len)

@@ -5,9 +5,10 @@ use borrow.Author.Needs.{needs}
 use borrow.Author.Tests.{not-true, not-false}
 use Rattle.network.specs.Network.{IsFlow}
 use Rattle.certificates.specs.Push.{flow-bounds}
-use Rattle.certificates.specs.Graph.{netWith}
-use Rattle.relaxation.specs.Labels.{costGraph, Relaxable}
-use Rattle.least_cost.proofs.Premises.{given, relaxable}
+use Rattle.certificates.specs.Graph.{netWith, costGraph}
+use Rattle.relaxation.specs.Labels.{Relaxable}
+use Rattle.relaxation.proofs.Accepted.{relaxable}
+use Rattle.least_cost.proofs.Premises.{given}
 use Rattle.least_cost.proofs.Question8.{tested}
 use Rattle.least_cost.proofs.is_least_cost.Statement.{statement}
 use Rattle.least_cost.proofs.is_least_cost.Tie as tie
@@ -30,7 +31,7 @@ find-cycle-requires c κs = let e = c .before .before in (can-relax e, omega ari
 
 returns-2 : tie.Need-returns-2
 returns-2 c = let k = c .before .before .find-cycle in let e = c .before .before .before .before .before in let s = e .before .before .before .before .before .before .before in
-    tested (s .args .balances .now) (s .args .tails .now) (s .args .heads .now) (s .args .lows .now) (s .args .ups .now) (s .args .costs .now) (s .args .flow .now) (s .pre .0 .well-formed) (can-relax e) (flow-of e) (k .last .1 .1 .1 .1 .1 .1 .1 .0) (k .last .1 .1 .1 .1 .1 .1 .1 .1 .0) (k .result) (k .ensures)
+    tested (s .args .balances .now) (s .args .tails .now) (s .args .heads .now) (s .args .lows .now) (s .args .ups .now) (s .args .costs .now) (s .args .flow .now) (s .pre .0 .well-formed) (can-relax e) (flow-of e) (k .last .1 .1 .1 .1 .1 .1 .1 .0) _ (k .last .1 .1 .1 .1 .1 .1 .1 .1 .0) (k .result) (k .ensures)
 
 pub is-least-cost-spec : {M : Type 1} → statement M
 is-least-cost-spec =

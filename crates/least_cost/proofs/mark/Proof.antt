@@ -1,7 +1,7 @@
 use mathlib.Core.Path.{_∙_}
 use native.Mathlib.Omega.{arith}
 use borrow.Author.Needs.{needs}
-use Rattle.least_cost.proofs.Premises.{cost-small}
+use Rattle.relaxation.proofs.Accepted.{cost-small}
 use Rattle.least_cost.proofs.Marked.{marked-by}
 use Rattle.least_cost.proofs.mark.Statement.{statement}
 use Rattle.least_cost.proofs.mark.Tie as tie
@@ -18,7 +18,7 @@ mark-tight-requires c κs =
       tail-in = λ a h. omega (arith, ok .well-formed .tail-in a h, ok .few-nodes, q .len);
       head-in = λ a h. omega (arith, ok .well-formed .head-in a h, ok .few-nodes, q .len);
       cost-small = cost-small (s .args .balances .now) (s .args .tails .now) (s .args .heads .now) (s .args .lows .now) (s .args .ups .now) (s .args .costs .now) ok;
-      price-small = λ v h. q .small v (omega (arith, q .len));
+      label-small = λ v h. q .small v (omega (arith, q .len));
     }
 
 returns : tie.Need-returns

@@ -1,4 +1,4 @@
-use mathlib.Core.Path.{sym}
+use mathlib.Core.Path.{refl, sym}
 use mathlib.Core.List.{List}
 use lib.IntN.{ℤ, pos}
 use lib.ListN.{length-replicate}
@@ -27,7 +27,7 @@ is-least-cost-requires c κs = let s = c .before .before .before .before .before
 
 returns : tie.Need-returns
 returns c = let k = c .before .before in
-    tested-no (whole (start k)) (start k .args .flow .now) (labels k) (k .is-least-cost .result) (k .is-least-cost .ensures) (not-true (k .is-least-cost .result) (c .if1 .taken))
+    (tested-no (whole (start k)) (start k .args .flow .now) (labels k) (k .is-least-cost .result) (k .is-least-cost .ensures) (not-true (k .is-least-cost .result) (c .if1 .taken)), refl)
 
 -- a least-cost flow
 yes-of : (c : tie.Else1) → let k = c .before .before in LeastCost (whole (start k)) (start k .args .flow .now) × QuietLabels (whole (start k)) (start k .args .flow .now) 1 (labels k)

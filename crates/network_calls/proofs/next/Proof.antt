@@ -1,14 +1,13 @@
 use mathlib.Core.Path.{_≡_, refl, sym, ap, _∙_}
-use mathlib.Core.Bool.{true, cond}
-use mathlib.Core.Option.{none, some}
+use mathlib.Core.Bool.{true}
 use lib.ListN.{length}
 use borrow.Author.Tests.{not-true, not-false}
 use Rattle.laws.specs.Run.{next}
 use Rattle.bytes32.specs.Words.{words}
-use Rattle.network.specs.FullList.{fullList, nextFlow}
+use Rattle.network.specs.FullList.{nextFlow}
 use Rattle.network.specs.Struct.{netIn}
-use Rattle.calls.specs.ByteLists.{room, listed}
-use Rattle.flow_bytes.specs.NetworkBytes.{net, Ready}
+use Rattle.calls.specs.ByteLists.{room}
+use Rattle.flow_bytes.specs.NetworkBytes.{net, Ready, givenFlow}
 use Rattle.enumerator.specs.Enumerator.{lineOf, flowIn, following}
 use Rattle.calls.proofs.Places.{no-line, a-line}
 use Rattle.calls.proofs.Given.{on-none, on-some}
@@ -29,13 +28,12 @@ past c =
     passes (a .balances .now) (a .arcs .now) (b .begin .result) (length (a .flows .now)) (b .begin .ensures) (c .if1 .left)
 
 -- what question 8 found
-found : (c : tie.After-find) → lineOf (c .find .result) ≡ cond (listed (entry (c .before .before .before) .args .given .now)
-    (fullList (net (entry (c .before .before .before) .args .balances .now) (entry (c .before .before .before) .args .arcs .now))))
-    (some (words (entry (c .before .before .before) .args .given .now))) none
+found : (c : tie.After-find) → lineOf (c .find .result)
+    ≡ givenFlow (net (entry (c .before .before .before) .args .balances .now) (entry (c .before .before .before) .args .arcs .now)) (entry (c .before .before .before) .args .given .now)
 found c =
     let e = c .before .before in
     let g = entry (e .before) .args .given .now in
-    c .find .ensures .2 ∙ ap (λ N. cond (listed g (fullList N)) (some (words g)) none) (past e .0 .is)
+    c .find .ensures .line-is ∙ ap (λ N. givenFlow N g) (past e .0 .is)
 
 returns : tie.Need-returns
 returns c =
@@ -64,7 +62,7 @@ hand-out-requires c κs =
     let f = n .before .before .before in
     let e = f .before .before in
     let a = entry (e .before) .args in
-    (n .next .ensures .stands, ap (λ m. room (m .arcs) (length (a .flows .now))) (n .next .ensures .net-is ∙ f .find .ensures .1) ∙ past e .1)
+    (n .next .ensures .stands, ap (λ m. room (m .arcs) (length (a .flows .now))) (n .next .ensures .net-is ∙ f .find .ensures .net-is) ∙ past e .1)
 
 returns-3 : tie.Need-returns-3
 returns-3 c =
@@ -78,7 +76,7 @@ returns-3 c =
     let s = f .find .result in
     let g = a .given .now in
     let (given, on-it) = on-some _ (words g) (flowIn s) (lineOf s) (found f) (a-line (s .place) (flowIn s) (sym (l .on-line .ensures) ∙ not-false (l .on-line .result) (n .before .if2 .left))) in
-    let same : netIn (s .net) ≡ net (a .balances .now) (a .arcs .now) = ap netIn (f .find .ensures .1) ∙ ready .is in
+    let same : netIn (s .net) ≡ net (a .balances .now) (a .arcs .now) = ap netIn (f .find .ensures .net-is) ∙ ready .is in
     answers-next (a .balances .now) (a .arcs .now) (e .before .begin .result .net) ready (a .flows .now) fits g
     (netIn (n .next .result .net)) (lineOf (n .next .result)) (ap netIn (n .next .ensures .net-is) ∙ same) given
     (n .next .ensures .line-is ∙ ap (following (netIn (s .net))) on-it ∙ ap (λ N. nextFlow N (words g)) same)

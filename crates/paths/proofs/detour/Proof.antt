@@ -1,4 +1,4 @@
-use mathlib.Core.Path.{_≡_, sym, subst}
+use mathlib.Core.Path.{_≡_, refl, sym, subst}
 use mathlib.Core.List.{List}
 use Prim.Native.Nat.{ℕ, _+_}
 use native.Mathlib.Omega.{arith}
@@ -22,7 +22,7 @@ abbrev via-of : tie.After-reach → List ℕ
 via-of d = d .reach .last .1 .1 .1 .1 .1 .1 .1 .1 .1 .1 .0
 
 returns : tie.Need-returns
-returns c = let s = c .before .before .before .before .before .before .before .before .before .before .before .before .before in let k = c .before .before .before .reach in reach-blocked (net s) (s .args .flow .now) (s .args .free .now) (s .args .s) (s .args .t) (s .args .from) _ _ (k .result) (k .ensures) (c .if1 .taken)
+returns c = let s = c .before .before .before .before .before .before .before .before .before .before .before .before .before in let k = c .before .before .before .reach in (reach-blocked (net s) (s .args .flow .now) (s .args .free .now) (s .args .s) (s .args .t) (s .args .from) _ _ (k .result) (k .ensures) (c .if1 .taken), refl)
 
 trace-requires : tie.Need-trace-requires
 trace-requires c κs = let s = c .before .before .before .before .before .before .before .before .before .before .before .before .before .before .before .before in let d = c .before .before .before .before .before .before in let e : length (rank-of d) ≡ 64 = d .reach .ensures .tree .rank-len in (
@@ -39,6 +39,7 @@ returns-2 c = let s = c .before .before .before .before .before .before .before 
       k .ensures .0,
       reach-path (net s) (s .args .flow .now) (s .args .free .now) (s .args .s) (s .args .t) (s .args .from) (rank-of d) (via-of d) (d .reach .result) (d .reach .ensures) (take (k .result) (k .last .1 .1 .1 .1 .1 .0))
           (subst (λ (n : ℕ). TracedAny n (length (s .args .tails .now) + length (s .args .tails .now)) (src (net s)) (dst (net s)) (rank-of d) (via-of d) (s .args .t) (λ s. s) (take (k .result) (k .last .1 .1 .1 .1 .1 .0))) e (k .ensures .1)),
+      k .ensures .2,
     )
 
 pub detour-spec : {M : Type 1} → statement M

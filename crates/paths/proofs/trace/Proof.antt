@@ -1,8 +1,9 @@
 use mathlib.Core.Path.{_≡_, refl, ap}
 use Prim.Native.Nat.{ℕ, _+_, _≤_, _<_}
 use native.Mathlib.Omega.{arith}
-use lib.ListN.{length, getD, take, length-set}
+use lib.ListN.{length, getD, take, drop, length-set}
 use borrow.Author.Needs.{needs}
+use Rattle.laws.specs.Store.{drop-set-next}
 use Rattle.network.specs.Network.{Net}
 use Rattle.network.specs.Residual.{src, dst}
 use Rattle.certificates.specs.Reach.{TracedAny, any-start, any-done}
@@ -12,7 +13,7 @@ use Rattle.paths.proofs.trace.Statement.{statement}
 use Rattle.paths.proofs.trace.Tie as tie
 
 abbrev Inv-loop : tie.InvT-loop
-Inv-loop tails heads rank via t codes₀ v₀ len₀ p₀ codes v len p = (v < length rank) × (0 < p) × (p ≡ getD rank v 0) × (length codes ≡ length codes₀) × (len + p ≤ getD rank t 0) × TracedAny (length rank) (length tails + length tails) (src (graph tails heads tails tails)) (dst (graph tails heads tails tails)) rank via t (λ _. v) (take len codes)
+Inv-loop tails heads rank via t codes₀ v₀ len₀ p₀ codes v len p = (v < length rank) × (0 < p) × (p ≡ getD rank v 0) × (length codes ≡ length codes₀) × (len + p ≤ getD rank t 0) × TracedAny (length rank) (length tails + length tails) (src (graph tails heads tails tails)) (dst (graph tails heads tails tails)) rank via t (λ _. v) (take len codes) × (drop len codes ≡ drop len codes₀)
 
 abbrev μ-loop : tie.MeasureT-loop
 μ-loop tails heads rank via t codes₀ v₀ len₀ p₀ codes v len p = p
@@ -50,7 +51,7 @@ next-less : (c : Here) → getD (start c .args .rank .now) (src (net (start c)) 
 next-less c = start c .pre .4 .next-less (c .before .before .loop .v) (c .before .before .loop .inv .0) (more c)
 
 loop-holds : tie.Need-loop-holds Inv-loop μ-loop
-loop-holds c = let s = c .before .before .before .before .before .before in (s .pre .1, s .pre .2, refl, refl, omega arith, any-start (length (s .args .rank .now)) (length (s .args .tails .now) + length (s .args .tails .now)) (src (net s)) (dst (net s)) (s .args .rank .now) (s .args .via .now) (s .args .t))
+loop-holds c = let s = c .before .before .before .before .before .before in (s .pre .1, s .pre .2, refl, refl, omega arith, any-start (length (s .args .rank .now)) (length (s .args .tails .now) + length (s .args .tails .now)) (src (net s)) (dst (net s)) (s .args .rank .now) (s .args .via .now) (s .args .t), refl)
 
 mul-c : tie.Need-mul-c Inv-loop μ-loop
 mul-c c = let s = c .before .before .before .before .before .before .before .before in let h : c .before .loop .v < length (s .args .via .now) = omega (arith, c .before .loop .inv .0, s .pre .4 .via-len) in search needs
@@ -88,6 +89,7 @@ loop-again c = let b = c .before .before in let a = b .before .before in let s =
       simp length-set (a .loop .inv .3),
       omega (arith, next-less b, a .loop .inv .2, a .loop .inv .4),
       trace-more (length (s .args .rank .now)) (length (s .args .tails .now) + length (s .args .tails .now)) (src (net s)) (dst (net s)) (s .args .rank .now) (s .args .via .now) (a .loop .codes) (s .args .t) (a .loop .v) (a .loop .len) _ (room-left b) (a .loop .inv .0) (more b) (c .before .source .ensures) (a .loop .inv .5),
+      drop-set-next (a .loop .codes) (s .args .codes .now) (a .loop .len) _ (a .loop .inv .6),
     )
 
 same-length : tie.Need-same-length Inv-loop μ-loop
@@ -97,6 +99,7 @@ returns : tie.Need-returns Inv-loop μ-loop
 returns c = let a = c .before in let s = c .before .before .before .before .before .before .before .before in (
   omega (arith, a .loop .inv .4, a .loop .inv .3, s .pre .3, s .pre .4 .small (s .args .t) (s .pre .1)),
   any-done (length (s .args .rank .now)) (length (s .args .tails .now) + length (s .args .tails .now)) (src (net s)) (dst (net s)) (s .args .rank .now) (s .args .via .now) (s .args .t) (a .loop .v) _ (a .loop .inv .0) (omega (arith, a .loop .inv .1, a .loop .inv .2)) (omega (arith, c .loop-test .left, a .loop .inv .2)) (a .loop .inv .5),
+  a .loop .inv .6,
 )
 
 pub trace-spec : {M : Type 1} → statement M

@@ -2,9 +2,9 @@ use mathlib.Core.Path.{_≡_, refl, sym, subst}
 use Prim.Native.Nat.{_-_}
 use native.Mathlib.Omega.{arith}
 use Rattle.network.specs.Network.{Net}
-use Rattle.relaxation.specs.Labels.{costGraph}
-use Rattle.relaxation.proofs.Rounds.{sized-more}
-use Rattle.prices.proofs.Pricing.{zero-at, Pricing, pricing-start, pricing-more, prices-quiet, prices-all}
+use Rattle.certificates.specs.Graph.{costGraph}
+use Rattle.relaxation.proofs.Rounds.{zero-at, sized-more}
+use Rattle.prices.proofs.Pricing.{Pricing, pricing-start, pricing-more, prices-quiet, prices-all}
 use Rattle.prices.proofs.prices.Statement.{statement}
 use Rattle.prices.proofs.prices.Tie as tie
 

@@ -13,7 +13,8 @@ use mir.Facts.{toZ-ofZ}
 use Rattle.laws.specs.Linear.{lin}
 use Rattle.laws.specs.Range.{Bounded, bounded-add, bounded-neg, bounded-fits}
 use Rattle.network.specs.Network.{Net}
-use Rattle.relaxation.specs.Labels.{costGraph, Relaxable, State, state, label, setIf, relaxed, Sized}
+use Rattle.certificates.specs.Graph.{costGraph}
+use Rattle.relaxation.specs.Labels.{Relaxable, State, state, label, setIf, relaxed, Sized}
 use Rattle.relaxation.proofs.Rounds.{one-sized}
 use Rattle.relaxation.proofs.Arcs.{forward, backward}
 use Rattle.relaxation.proofs.relax_arc.Statement.{statement}
@@ -74,10 +75,10 @@ module _ (r : tie.After-relax) where
   forth : state (r .relax .last .0) (r .relax .last .1 .0) (r .relax .result) ≡ relaxed (net entry) (entry .args .flow .now) (entry .args .need) (entry .args .a + entry .args .a) begun
   forth = r .relax .ensures ∙ forward (net entry) (entry .args .flow .now) (entry .args .need) (entry .args .a) begun _ (cost-read (r .before .before .before .before .before))
 
-  sized : Sized 90001000000 (r .relax .last .0) (r .relax .last .1 .0)
+  sized : Sized 65537000000 (r .relax .last .0) (r .relax .last .1 .0)
   sized =
-      subst (λ (S : State). Sized 90001000000 (S .labels) (S .preds)) (sym forth)
-      (one-sized (net entry) (entry .args .flow .now) (ok entry) (entry .args .need) 90000000000 begun (entry .args .a + entry .args .a) (omega (arith, inside entry)) (entry .pre .1))
+      subst (λ (S : State). Sized 65537000000 (S .labels) (S .preds)) (sym forth)
+      (one-sized (net entry) (entry .args .flow .now) (ok entry) (entry .args .need) 65536000000 begun (entry .args .a + entry .args .a) (omega (arith, inside entry)) (entry .pre .1))
 
   in-labels : {v : ℕ} → v < 64 → v < length (r .relax .last .0)
   in-labels h = omega (arith, sized .labels-len)
@@ -92,7 +93,7 @@ cast-h : tie.Need-cast-h
 cast-h c = omega (arith, head-in (c .before .before .before .before .before .before .before .before))
 
 add-forward : tie.Need-add-forward
-add-forward c = omega (arith, ok (c .before .before .before .before .before .before .before .before .before .before .before) .flow-up (c .before .before .before .before .before .before .before .before .before .before .before .args .a) (inside (c .before .before .before .before .before .before .before .before .before .before .before)), ok (c .before .before .before .before .before .before .before .before .before .before .before) .up-small (c .before .before .before .before .before .before .before .before .before .before .before .args .a) (inside (c .before .before .before .before .before .before .before .before .before .before .before)), c .before .before .before .before .before .before .before .before .before .before .before .pre .3)
+add-forward c = omega (arith, ok (c .before .before .before .before .before .before .before .before .before .before .before) .bounds .below (c .before .before .before .before .before .before .before .before .before .before .before .args .a) (inside (c .before .before .before .before .before .before .before .before .before .before .before)), ok (c .before .before .before .before .before .before .before .before .before .before .before) .small .ups-small (c .before .before .before .before .before .before .before .before .before .before .before .args .a) (inside (c .before .before .before .before .before .before .before .before .before .before .before)), c .before .before .before .before .before .before .before .before .before .before .before .pre .3)
 
 relax-requires : tie.Need-relax-requires
 relax-requires c κs =
@@ -101,7 +102,7 @@ relax-requires c κs =
     (at-label s (tail-in s), at-label s (head-in s), at-pred s (head-in s), rw (cost-read w) (fits (omega arith) (s .pre .1 .small _ (tail-in s)) (cost-small s)))
 
 add-backward : tie.Need-add-backward
-add-backward c = omega (arith, ok (c .before .before .before .before .before .before .before .before .before .before .before .before .before .before .before .before .before .before .before) .low-flow (c .before .before .before .before .before .before .before .before .before .before .before .before .before .before .before .before .before .before .before .args .a) (inside (c .before .before .before .before .before .before .before .before .before .before .before .before .before .before .before .before .before .before .before)), ok (c .before .before .before .before .before .before .before .before .before .before .before .before .before .before .before .before .before .before .before) .flow-up (c .before .before .before .before .before .before .before .before .before .before .before .before .before .before .before .before .before .before .before .args .a) (inside (c .before .before .before .before .before .before .before .before .before .before .before .before .before .before .before .before .before .before .before)), ok (c .before .before .before .before .before .before .before .before .before .before .before .before .before .before .before .before .before .before .before) .up-small (c .before .before .before .before .before .before .before .before .before .before .before .before .before .before .before .before .before .before .before .args .a) (inside (c .before .before .before .before .before .before .before .before .before .before .before .before .before .before .before .before .before .before .before)), c .before .before .before .before .before .before .before .before .before .before .before .before .before .before .before .before .before .before .before .pre .3)
+add-backward c = omega (arith, ok (c .before .before .before .before .before .before .before .before .before .before .before .before .before .before .before .before .before .before .before) .bounds .above (c .before .before .before .before .before .before .before .before .before .before .before .before .before .before .before .before .before .before .before .args .a) (inside (c .before .before .before .before .before .before .before .before .before .before .before .before .before .before .before .before .before .before .before)), ok (c .before .before .before .before .before .before .before .before .before .before .before .before .before .before .before .before .before .before .before) .bounds .below (c .before .before .before .before .before .before .before .before .before .before .before .before .before .before .before .before .before .before .before .args .a) (inside (c .before .before .before .before .before .before .before .before .before .before .before .before .before .before .before .before .before .before .before)), ok (c .before .before .before .before .before .before .before .before .before .before .before .before .before .before .before .before .before .before .before) .small .ups-small (c .before .before .before .before .before .before .before .before .before .before .before .before .before .before .before .before .before .before .before .args .a) (inside (c .before .before .before .before .before .before .before .before .before .before .before .before .before .before .before .before .before .before .before)), c .before .before .before .before .before .before .before .before .before .before .before .before .before .before .before .before .before .before .before .pre .3)
 
 sub-relax : tie.Need-sub-relax
 sub-relax c = rw (cost-read (c .before .before .before .before .before .before .before .before .before .before .before)) (bounded-fits w64 1000000 _ (minus-small (cost-small (c .before .before .before .before .before .before .before .before .before .before .before .before .before .before .before .before .before .before .before .before .before))) (omega arith))

@@ -3,7 +3,8 @@ use Prim.Native.Nat.{suc, _+_, _-_, _≤_}
 use native.Mathlib.Omega.{arith}
 use lib.ListN.{length}
 use Rattle.network.specs.Network.{Net}
-use Rattle.relaxation.specs.Labels.{costGraph, State, state, relaxed, relaxedAll, Sized}
+use Rattle.certificates.specs.Graph.{costGraph}
+use Rattle.relaxation.specs.Labels.{State, state, relaxed, relaxedAll, Sized}
 use Rattle.relaxation.proofs.Rounds.{all-sized, sized-more}
 use Rattle.relaxation.proofs.round.Statement.{statement}
 use Rattle.relaxation.proofs.round.Tie as tie
@@ -21,11 +22,11 @@ module _ (l : tie.At-loop Inv-loop μ-loop) where
   abbrev entry : tie.Start Inv-loop μ-loop
   entry = l .before .before .before .before .before .before .before
 
-  sized : Sized 90000000000 (l .loop .labels) (l .loop .preds)
+  sized : Sized 65536000000 (l .loop .labels) (l .loop .preds)
   sized =
-      subst (λ (S : State). Sized 90000000000 (S .labels) (S .preds)) (sym (l .loop .inv .1))
+      subst (λ (S : State). Sized 65536000000 (S .labels) (S .preds)) (sym (l .loop .inv .1))
       (sized-more (omega (arith, entry .pre .0 .graph .few, l .loop .inv .0))
-      (all-sized (net entry) (entry .args .flow .now) (entry .pre .0) (entry .args .need) 80000000000 (state (entry .args .labels .now) (entry .args .preds .now) 64) (l .loop .a + l .loop .a) (omega (arith, l .loop .inv .0)) (entry .pre .1)))
+      (all-sized (net entry) (entry .args .flow .now) (entry .pre .0) (entry .args .need) 64512000000 (state (entry .args .labels .now) (entry .args .preds .now) 64) (l .loop .a + l .loop .a) (omega (arith, l .loop .inv .0)) (entry .pre .1)))
 
 loop-holds : tie.Need-loop-holds Inv-loop μ-loop
 unfolding relaxedAll

@@ -5,14 +5,14 @@ use native.Mathlib.Omega.{arith}
 use lib.ListN.{length-set}
 use Rattle.network.specs.Network.{Net}
 use Rattle.network.specs.Residual.{codes}
-use Rattle.relaxation.specs.Labels.{costGraph}
+use Rattle.certificates.specs.Graph.{costGraph}
 use Rattle.search.specs.Predecessors.{pred}
 use Rattle.search.proofs.Ways.{Collecting, arc-of, collecting-none, here, node, room, collecting-more, collecting-done}
 use Rattle.search.proofs.collect.Statement.{statement}
 use Rattle.search.proofs.collect.Tie as tie
 
 abbrev Inv-loop : tie.InvT-loop
-Inv-loop tails heads preds x out₀ w₀ len₀ out w len = Collecting (costGraph tails heads [] [] []) preds x out w len
+Inv-loop tails heads preds x out₀ w₀ len₀ out w len = Collecting (costGraph tails heads [] [] []) preds x out₀ out w len
 
 abbrev μ-loop : tie.MeasureT-loop
 μ-loop tails heads preds x out₀ w₀ len₀ out w len = 64 - len
@@ -28,13 +28,13 @@ module _ (l : tie.At-loop Inv-loop μ-loop) where
   entry = entry₀ (l .before)
 
   node-of : l .loop .w < 64
-  node-of = node (net entry) (entry .pre .0) (entry .args .preds .now) (entry .args .x) (l .loop .out) (l .loop .w) (l .loop .len) (l .loop .inv)
+  node-of = node (net entry) (entry .pre .0) (entry .args .preds .now) (entry .args .x) (entry .args .out .now) (l .loop .out) (l .loop .w) (l .loop .len) (l .loop .inv)
 
   room-of : l .loop .len < 64
-  room-of = room (net entry) (entry .pre .0) (entry .args .preds .now) (entry .args .x) (l .loop .out) (l .loop .w) (l .loop .len) (l .loop .inv)
+  room-of = room (net entry) (entry .pre .0) (entry .args .preds .now) (entry .args .x) (entry .args .out .now) (l .loop .out) (l .loop .w) (l .loop .len) (l .loop .inv)
 
   here-of : pred (entry .args .preds .now) (l .loop .w) < codes (net entry)
-  here-of = here (net entry) (entry .pre .0) (entry .args .preds .now) (entry .args .x) (l .loop .out) (l .loop .w) (l .loop .len) (l .loop .inv)
+  here-of = here (net entry) (entry .pre .0) (entry .args .preds .now) (entry .args .x) (entry .args .out .now) (l .loop .out) (l .loop .w) (l .loop .len) (l .loop .inv)
 
 loop-holds : tie.Need-loop-holds Inv-loop μ-loop
 loop-holds c = let s = entry₀ c in collecting-none (net s) (s .pre .0) (s .args .preds .now) (s .args .x) (s .args .out .now) (s .pre .2) (s .pre .3)
@@ -67,7 +67,7 @@ returns : tie.Need-returns Inv-loop μ-loop
 returns c =
     let l = c .before .before .before in
     let s = entry l in
-    collecting-done (net s) (s .pre .0) (s .args .preds .now) (s .args .x) (l .loop .out) (l .loop .w) (l .loop .len) (l .loop .inv) (c .before .source .result) (c .before .source .ensures) (c .if1 .taken)
+    collecting-done (net s) (s .pre .0) (s .args .preds .now) (s .args .x) (s .args .out .now) (l .loop .out) (l .loop .w) (l .loop .len) (l .loop .inv) (c .before .source .result) (c .before .source .ensures) (c .if1 .taken)
 
 loop-less : tie.Need-loop-less Inv-loop μ-loop
 loop-less c = omega (arith, room-of (c .before .before .before))
@@ -76,7 +76,7 @@ loop-again : tie.Need-loop-again Inv-loop μ-loop
 loop-again c =
     let l = c .before .before .before in
     let s = entry l in
-    collecting-more (net s) (s .pre .0) (s .args .preds .now) (s .args .x) (l .loop .out) (l .loop .w) (l .loop .len) (l .loop .inv) (c .before .source .result) (c .before .source .ensures) (c .if1 .left)
+    collecting-more (net s) (s .pre .0) (s .args .preds .now) (s .args .x) (s .args .out .now) (l .loop .out) (l .loop .w) (l .loop .len) (l .loop .inv) (c .before .source .result) (c .before .source .ensures) (c .if1 .left)
 
 pub collect-spec : {M : Type 1} → statement M
 collect-spec =

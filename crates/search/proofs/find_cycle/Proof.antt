@@ -7,11 +7,12 @@ use lib.ListN.{getD-replicate}
 use lib.IntN.{ℤ}
 use borrow.Author.Needs.{needs}
 use Rattle.network.specs.Network.{Net}
-use Rattle.relaxation.specs.Labels.{costGraph, SmallGraph}
+use Rattle.certificates.specs.Graph.{costGraph}
+use Rattle.relaxation.specs.Labels.{SmallGraph}
 use Rattle.relaxation.proofs.Rounds.{sized-more}
 use Rattle.search.specs.Predecessors.{Returns, WentBack, Labelled}
-use Rattle.search.specs.Search.{Searched, none}
-use Rattle.search.proofs.Searching.{Searching, searching-start, labelled′, quiet-of, fell, returns-of, searching-more, searched-found, went-any, returns-any, collected-any, graph-any}
+use Rattle.search.specs.Search.{Searched}
+use Rattle.search.proofs.Searching.{Searching, searched-none, searching-start, labelled′, quiet-of, fell, returns-of, searching-more, searched-found, went-any, returns-any, collected-any, graph-any}
 use Rattle.search.proofs.find_cycle.Statement.{statement}
 use Rattle.search.proofs.find_cycle.Tie as tie
 
@@ -44,8 +45,8 @@ module _ (r : tie.After-round Inv-rounds μ-rounds) where
   labelled : Labelled (net start) (start .args .flow .now) (start .args .need) labels preds
   labelled = labelled′ (net start) (start .args .flow .now) (start .pre .0) (start .args .need) (before .rounds .labels) (before .rounds .preds) (before .rounds .k) (before .rounds .inv) labels preds (r .round .result) (r .round .ensures)
 
-  quiet-here : r .round .result ≡ 64 → Searched (net start) (start .args .flow .now) (start .args .need) labels (start .args .out .now) 0
-  quiet-here e = none refl (quiet-of (net start) (start .args .flow .now) (start .pre .0) (start .args .need) (before .rounds .labels) (before .rounds .preds) (before .rounds .k) (before .rounds .inv) labels preds (r .round .result) (r .round .ensures) e)
+  quiet-here : r .round .result ≡ 64 → Searched (net start) (start .args .flow .now) (start .args .need) labels (start .args .out .now) (start .args .out .now) 0
+  quiet-here e = searched-none (net start) (start .args .flow .now) (start .args .need) labels (start .args .out .now) (quiet-of (net start) (start .args .flow .now) (start .pre .0) (start .args .need) (before .rounds .labels) (before .rounds .preds) (before .rounds .k) (before .rounds .inv) labels preds (r .round .result) (r .round .ensures) e)
 
   fell-in : ¬ (r .round .result ≡ 64) → r .round .result < 64
   fell-in n = fell (net start) (start .args .flow .now) (start .pre .0) (start .args .need) (before .rounds .labels) (before .rounds .preds) (before .rounds .k) (before .rounds .inv) labels preds (r .round .result) (r .round .ensures) n .0
@@ -71,7 +72,7 @@ module _ (c : tie.Joined1 Inv-rounds μ-rounds) where
   abbrev ran : tie.After-round Inv-rounds μ-rounds
   ran = c .before .before .before
 
-  out-quiet : c .if1 .node ≡ 64 → Searched (net (start ran)) (start ran .args .flow .now) (start ran .args .need) (labels ran) (start ran .args .out .now) 0
+  out-quiet : c .if1 .node ≡ 64 → Searched (net (start ran)) (start ran .args .flow .now) (start ran .args .need) (labels ran) (start ran .args .out .now) (start ran .args .out .now) 0
   out-quiet e = ⊎-elim (λ w. quiet-here ran (w .0 .taken)) (λ w. absurd (w .3 .taken (sym (w .4) ∙ e))) (c .if1 .came)
 
   out-cycle : ¬ (c .if1 .node ≡ 64) → Returns (costGraph (start ran .args .tails .now) (start ran .args .heads .now) [] [] []) (preds ran) (c .if1 .node)
@@ -126,8 +127,8 @@ returns-2 : tie.Need-returns-2 Inv-rounds μ-rounds
 returns-2 c =
     let j = c .before .before .before .before .before .before in
     let s = start (ran j) in
-    searched-found (net s) (s .args .flow .now) (s .pre .0) (s .args .need) (s .pre .1) (labels (ran j)) (preds (ran j)) (labelled (ran j)) (j .if1 .node) _ _
-    (collected-any (s .args .tails .now) (s .args .heads .now) [] [] (s .args .lows .now) (s .args .ups .now) [] (s .args .costs .now) (preds (ran j)) (j .if1 .node) _ _ (c .before .before .collect .ensures))
+    searched-found (net s) (s .args .flow .now) (s .pre .0) (s .args .need) (s .pre .1) (labels (ran j)) (preds (ran j)) (labelled (ran j)) (j .if1 .node) _ _ _
+    (collected-any (s .args .tails .now) (s .args .heads .now) [] [] (s .args .lows .now) (s .args .ups .now) [] (s .args .costs .now) (preds (ran j)) (j .if1 .node) _ _ _ (c .before .before .collect .ensures))
 
 pub find-cycle-spec : {M : Type 1} → statement M
 find-cycle-spec =

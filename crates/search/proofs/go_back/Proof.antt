@@ -3,7 +3,7 @@ use mathlib.Core.List.{[]}
 use Prim.Native.Nat.{_-_}
 use native.Mathlib.Omega.{arith}
 use Rattle.network.specs.Network.{Net}
-use Rattle.relaxation.specs.Labels.{costGraph}
+use Rattle.certificates.specs.Graph.{costGraph}
 use Rattle.search.specs.Predecessors.{back, ended, went}
 use Rattle.search.proofs.Ways.{Going, arc-of, going-none, going-more, going-ends}
 use Rattle.search.proofs.go_back.Statement.{statement}

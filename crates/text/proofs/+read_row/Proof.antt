@@ -1,4 +1,4 @@
--- `text::read_row` meets its contract: the numbers left fall by one at each call. Assumes nothing.
+-- `text::read_row` meets its contract: the numbers left fall by one at each call.
 use Prim.Native.Nat.{ℕ, _+_, _-_, _<_}
 use mathlib.Core.Path.{_≡_}
 use mathlib.Core.List.{List, _∷_}
@@ -8,9 +8,8 @@ use borrow.Fn.Kinds.{In}
 use borrow.Fn.PlainCycle.{Measures, is, falls, and}
 use lib.ListN.{length, drop}
 use Rattle.text.specs.Reader.{Parsed, _>>=_, give, bytes, text, number, row}
-use Rattle.text.proofs.Runs.{absent}
 use Rattle.text.proofs.Sequence.{From, first, first-stops, next-right, stops, ends}
-use Rattle.text.proofs.Rows.{row-none, row-more, put-first}
+use Rattle.text.proofs.Rows.{row-none, row-absent, row-more, put-first, put-before}
 use Rattle.text.proofs.read_row.Reads as read-row
 use Rattle.text.proofs.read_row.Kinds as kinds
 use Rattle.text.proofs.+read_row.Lts-read_row as lts
@@ -68,7 +67,7 @@ module _ (t : ℕ) where
   numbered c = next-right _ _ (headed (c .before .before .before)) (c .before .read-number .ensures) (c .if3 .left)
 
   returns-2 : lts.Need-returns-2 (claims t) (at t) read-row.Post
-  returns-2 c = absent (first-stops _ _ (opened (c .before .before)) (c .before .read-text2 .ensures) (c .if2 .taken))
+  returns-2 c = row-absent _ _ _ (first-stops _ _ (opened (c .before .before)) (c .before .read-text2 .ensures) (c .if2 .taken))
 
   sub-read-number : lts.Need-sub-read-number (claims t) (at t) read-row.Post
   sub-read-number c = headed c .within
@@ -83,7 +82,7 @@ module _ (t : ℕ) where
   read-number-requires c κs = search needs
 
   returns-3 : lts.Need-returns-3 (claims t) (at t) read-row.Post
-  returns-3 c = absent (stops _ _ (headed (c .before .before .before)) (c .before .read-number .ensures) (c .if3 .taken))
+  returns-3 c = row-absent _ _ _ (stops _ _ (headed (c .before .before .before)) (c .before .read-number .ensures) (c .if3 .taken))
 
   add-at : lts.Need-add-at (claims t) (at t) read-row.Post
   add-at c = omega (arith, numbered c)
@@ -111,7 +110,7 @@ module _ (t : ℕ) where
 
   returns-4 : lts.Need-returns-4 (claims t) (at t) read-row.Post
   unfolding bytes
-  returns-4 c = absent (stops _ _ (numbered (c .before .before .before .before)) (c .before .read-row .ensures) (c .if4 .taken))
+  returns-4 c = row-absent _ _ _ (stops _ _ (numbered (c .before .before .before .before)) (c .before .read-row .ensures .right) (c .if4 .taken))
 
   sub-numbers : lts.Need-sub-numbers (claims t) (at t) read-row.Post
   sub-numbers c = omega (arith, c .before .before .before .before .before .before .before .before .before .before .before .before .before .pre .1)
@@ -128,7 +127,7 @@ module _ (t : ℕ) where
       From (P start) (give (c .before .before .before .before .before .before .read-number .result .value ∷ drop (4 - (start .args .n - 1)) (r .numbers))) (S start)
       (c .before .before .before .before .before .before .before .before .before .read-text2 .result + c .before .before .before .before .before .before .read-number .result .used + r .used)
   unfolding bytes
-  ended c = next-right _ _ (numbered (c .before .before .before .before .before)) (c .before .before .read-row .ensures) (c .before .if4 .left)
+  ended c = next-right _ _ (numbered (c .before .before .before .before .before)) (c .before .before .read-row .ensures .right) (c .before .if4 .left)
 
   add-t29 : lts.Need-add-t29 (claims t) (at t) read-row.Post
   add-t29 c = omega (arith, ended c)
@@ -137,8 +136,12 @@ module _ (t : ℕ) where
   returns-5 c =
       let start = c .before .before .before .before .before .before .before .before .before .before .before .before .before in
       let four : length (c .before .before .read-row .result .numbers) ≡ 4 = search needs in
-      rw (put-first _ (start .args .n) _ four (start .pre .1 .0) (c .before .before .before .before .before .before .before .before .before .before .if1 .left))
-      (ends (ended c) (omega (arith, c .before .if4 .left)))
+      let some = c .before .before .before .before .before .before .before .before .before .before .if1 .left in
+      record {
+        right = rw (put-first _ (start .args .n) _ four (start .pre .1 .0) some) (ends (ended c) (omega (arith, c .before .if4 .left)));
+        before = put-before (c .before .before .read-row .result .numbers) (start .args .n) (c .before .before .before .before .before .before .read-number .result .value) some (c .before .before .read-row .ensures .before);
+        none = λ z. absurd (omega (arith, c .before .if4 .left));
+      }
 
 pub +read-row-spec : {M : Type 1} → statement M
 +read-row-spec =

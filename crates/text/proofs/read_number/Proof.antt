@@ -1,4 +1,4 @@
--- `text::read_number` meets its contract. The invariant: the bytes passed are digits of that value. Assumes nothing.
+-- `text::read_number` meets its contract. The invariant: the bytes passed are digits of that value.
 use Prim.Native.Nat.{ℕ, _-_, _<_}
 use mathlib.Core.Path.{_≡_, sym, _∙_}
 use mathlib.Core.Bool.{true}

@@ -1,4 +1,4 @@
--- `text::read_text` meets its contract. The invariant: what is passed of the text is equal. Assumes nothing.
+-- `text::read_text` meets its contract. The invariant: what is passed of the text is equal.
 use Prim.Native.Nat.{_≤_, _-_}
 use mathlib.Core.Path.{_≡_, refl, _∙_}
 use native.Mathlib.Omega.{arith}

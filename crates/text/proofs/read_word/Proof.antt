@@ -1,4 +1,4 @@
--- `text::read_word` meets its contract. The invariant: the bytes passed may stand in a word. Assumes nothing.
+-- `text::read_word` meets its contract. The invariant: the bytes passed may stand in a word.
 use Prim.Native.Nat.{_-_, _≤_}
 use mathlib.Core.Path.{_≡_, sym, _∙_}
 use mathlib.Core.Bool.{true}

@@ -18,13 +18,13 @@ sub-j : tie.Need-sub-j
 sub-j c = let s = c .before .before .before .before .before in let x = s .args in omega (arith, head-at (x .e) (x .tails .now) (x .heads .now) (s .pre .0 .book) (s .pre .0 .ends) (x .k) (c .before .if1 .taken))
 
 cast-j : tie.Need-cast-j
-cast-j c = let s = c .before .before .before .before .before in let x = s .args in omega (arith, head-at (x .e) (x .tails .now) (x .heads .now) (s .pre .0 .book) (s .pre .0 .ends) (x .k) (c .before .if1 .taken), s .pre .0 .ends .accepted .few, s .pre .0 .ends .entries-are)
+cast-j c = let s = c .before .before .before .before .before in let x = s .args in omega (arith, head-at (x .e) (x .tails .now) (x .heads .now) (s .pre .0 .book) (s .pre .0 .ends) (x .k) (c .before .if1 .taken), s .pre .0 .ends .limits .few, s .pre .0 .ends .entries-are)
 
 cast-hit : tie.Need-cast-hit
 cast-hit c = let s = c .before .before .before .before .before .before in let x = s .args in omega (arith, tail-at (x .e) (x .tails .now) (x .heads .now) (s .pre .0 .book) (s .pre .0 .ends) (x .k) (s .pre .2))
 
 mul-hit : tie.Need-mul-hit
-mul-hit c = let s = c .before .before .before .before .before .before in let x = s .args in omega (arith, head-at (x .e) (x .tails .now) (x .heads .now) (s .pre .0 .book) (s .pre .0 .ends) (x .k) (c .before .before .if1 .taken), s .pre .0 .ends .accepted .few, s .pre .0 .ends .entries-are)
+mul-hit c = let s = c .before .before .before .before .before .before in let x = s .args in omega (arith, head-at (x .e) (x .tails .now) (x .heads .now) (s .pre .0 .book) (s .pre .0 .ends) (x .k) (c .before .before .if1 .taken), s .pre .0 .ends .limits .few, s .pre .0 .ends .entries-are)
 
 shared-slice-read-hit-2 : tie.Need-shared-slice-read-hit-2
 shared-slice-read-hit-2 c = let s = c .before .before .before .before .before .before .before in let x = s .args in omega (arith, head-at (x .e) (x .tails .now) (x .heads .now) (s .pre .0 .book) (s .pre .0 .ends) (x .k) (c .before .before .before .if1 .taken), s .pre .1)

@@ -1,11 +1,12 @@
 use Rattle.way_flow.proofs.way_of.Statement.{statement}
 use Rattle.way_flow.proofs.way_of.Tie as tie
-use mathlib.Core.Path.{_≡_, refl}
+use mathlib.Core.Path.{_≡_, refl, sym, ap, _∙_}
 use Prim.Native.Nat.{_+_, _*_, _-_, _≤_}
 use native.Mathlib.Omega.{arith}
 use lib.ListN.{length}
 use borrow.Author.Needs.{needs}
 use Rattle.way_flow.proofs.Reading.{Noting, noting-start, noting-on, noting-done, joins-count, heads-count, head-at, reads-way}
+use Rattle.way_flow.proofs.Laying.{flow-long}
 
 abbrev Inv-loop : tie.InvT-loop
 Inv-loop e tails heads flow way₀ joins k₀ way k = Noting tails heads flow joins way k
@@ -14,13 +15,13 @@ abbrev μ-loop : tie.MeasureT-loop
 μ-loop e tails heads flow way₀ joins k₀ way k = joins - k
 
 few : (c : tie.Start Inv-loop μ-loop) → c .args .e ≤ 28
-few c = omega (arith, c .pre .0 .ends .entries-are, c .pre .0 .ends .accepted .few)
+few c = omega (arith, c .pre .ends .entries-are, c .pre .ends .limits .few)
 
 -- as many heads and flows as tails, and as many as there are arcs behind the joins
 long : (c : tie.Start Inv-loop μ-loop) → (2 * c .args .e + 1 ≤ length (c .args .tails .now)) × (length (c .args .heads .now) ≡ length (c .args .tails .now)) × (length (c .args .flow .now) ≡ length (c .args .tails .now))
 long c =
-    let n = joins-count (c .args .e) (c .args .tails .now) (c .args .heads .now) (c .pre .0 .book) (c .pre .0 .ends) in
-    (omega arith, heads-count (c .args .e) (c .args .tails .now) (c .args .heads .now) (c .pre .0 .book) (c .pre .0 .ends), c .pre .1)
+    let n = joins-count (c .args .e) (c .args .tails .now) (c .args .heads .now) (c .pre .book) (c .pre .ends) in
+    (omega arith, heads-count (c .args .e) (c .args .tails .now) (c .args .heads .now) (c .pre .book) (c .pre .ends), ap length (c .pre .flow-is) ∙ flow-long (c .args .e) (c .args .tails .now) (c .args .heads .now) (c .pre .book) (c .pre .ends) (c .pre .way) (c .pre .is-way .all-entries ∙ sym (c .pre .ends .entries-are)))
 
 mul-joins : tie.Need-mul-joins Inv-loop μ-loop
 mul-joins c = omega (arith, few (c .before .before .before))
@@ -49,7 +50,7 @@ shared-slice-read-note-3 c = omega (arith, long (c .before .before .before .befo
 note-requires : tie.Need-note-requires Inv-loop μ-loop
 note-requires c κs =
     let s = c .before .before .before .before .before .before .before .before .before in
-    let h = head-at (s .args .e) (s .args .tails .now) (s .args .heads .now) (s .pre .0 .book) (s .pre .0 .ends) (c .before .before .before .before .before .loop .k) (omega arith) in
+    let h = head-at (s .args .e) (s .args .tails .now) (s .args .heads .now) (s .pre .book) (s .pre .ends) (c .before .before .before .before .before .loop .k) (omega arith) in
     (h .0, omega (arith, few s, c .before .before .before .before .before .loop .inv .long))
 
 add-k : tie.Need-add-k Inv-loop μ-loop

@@ -5,7 +5,7 @@ use Rattle.ways.proofs.print.Statement.{statement}
 use Rattle.ways.proofs.print.Tie as tie
 
 slice-aggregate-write-all : tie.Need-slice-aggregate-write-all
-slice-aggregate-write-all c = let l = c .before .before .before .before .list in sym (length-take-le (l .result) (l .last .1 .0) (c .before .if1 .taken))
+slice-aggregate-write-all c = let l = c .before .before .before .before .printed in sym (length-take-le (l .result) (l .last .1 .0) (c .before .if1 .taken))
 
 pub print-spec : {M : Type 1} → statement M
 print-spec =

@@ -35,7 +35,7 @@ returns c =
     let m = s .ensures .stands .marked on in
     let n = c .before .count in (
       n .ensures .0,
-      counts-line (c .before .before .before .before .before .before .before .before .before .before .before .before .before .before .before .before .before .before .args .self) (s .result) None (s .ensures) on (c .before .before .before .before .before .before .before .before .before .before .before .before .before .before .before .before .before .before .args .cap) (n .result) (n .ensures .1 (netOf (s .result) .balances) (netOf (s .result) .costs) (m .potential) (m .marks)),
+      counts-line (c .before .before .before .before .before .before .before .before .before .before .before .before .before .before .before .before .before .before .args .self) (s .result) None (s .ensures) on (c .before .before .before .before .before .before .before .before .before .before .before .before .before .before .before .before .before .before .args .cap) (n .result) (λ e. n .ensures .1 (netOf (s .result) .balances) (netOf (s .result) .costs) (m .potential) (m .marks) e .counts),
     )
 
 returns-2 : tie.Need-returns-2

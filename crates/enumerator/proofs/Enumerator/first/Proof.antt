@@ -38,12 +38,12 @@ first-flow-requires c κs = let s = c .before .before .before .before .before .b
 
 returns : tie.Need-returns
 returns c = let s = c .before .before .before .before .before .before .before .before .before .before .before .before .before .before .before .before .before .before .before .before .before in let f = c .before .before .before .first-flow in
-    step-off (s .args .self) (s .pre .sound) _ _ None (λ _. refl) _ (not-found (netIn (s .args .self .net)) (f .last .1 .1 .1 .1 .1 .1 .0) (f .last .1 .1 .1 .1 .1 .1 .1 .0) (f .result) (f .ensures) (not-true (f .result) (c .if1 .taken)))
+    step-off (s .args .self) (s .pre .sound) _ _ None (λ _. refl) _ (not-found (netIn (s .args .self .net)) (f .last .1 .1 .1 .1 .1 .1 .0) _ (f .last .1 .1 .1 .1 .1 .1 .1 .0) (f .result) (f .ensures) (not-true (f .result) (c .if1 .taken)))
 
 -- the first flow was found
-told : (c : tie.Else1) → FirstFlow (netIn (c .before .before .before .before .before .before .before .before .before .before .before .before .before .before .before .before .before .before .before .before .before .args .self .net)) (c .before .before .before .first-flow .last .1 .1 .1 .1 .1 .1 .0) (c .before .before .before .first-flow .last .1 .1 .1 .1 .1 .1 .1 .0) true
+told : (c : tie.Else1) → let s = c .before .before .before .before .before .before .before .before .before .before .before .before .before .before .before .before .before .before .before .before .before .args .self in let f = c .before .before .before .first-flow in FirstFlow (netIn (s .net)) (f .last .1 .1 .1 .1 .1 .1 .0) (take (s .net .arcs) (s .tight)) (f .last .1 .1 .1 .1 .1 .1 .1 .0) true
 told c = let s = c .before .before .before .before .before .before .before .before .before .before .before .before .before .before .before .before .before .before .before .before .before in let f = c .before .before .before .first-flow in
-    found (netIn (s .args .self .net)) (f .last .1 .1 .1 .1 .1 .1 .0) (f .last .1 .1 .1 .1 .1 .1 .1 .0) (f .result) (f .ensures) (not-false (f .result) (c .if1 .left))
+    found (netIn (s .args .self .net)) (f .last .1 .1 .1 .1 .1 .1 .0) _ (f .last .1 .1 .1 .1 .1 .1 .1 .0) (f .result) (f .ensures) (not-false (f .result) (c .if1 .left))
 
 -- it stands in the first places of the array
 flow-kept : (c : tie.Else1) → length (c .before .before .before .first-flow .last .1 .1 .1 .1 .1 .1 .0) ≡ c .before .before .before .before .before .before .before .before .before .before .before .before .before .before .before .before .before .before .before .before .before .args .self .net .arcs

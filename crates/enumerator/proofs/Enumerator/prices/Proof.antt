@@ -1,15 +1,11 @@
 use borrow.Author.Needs.{needs}
 use mathlib.Core.Path.{_≡_, sym, subst}
-use mathlib.Core.List.{List}
-use Prim.Native.Nat.{ℕ, _≤_, _<_}
+use Prim.Native.Nat.{_≤_}
 use native.Mathlib.Omega.{arith}
-use lib.ListN.{length, getD}
+use lib.ListN.{length}
 use lib.Seq.{length-take-le}
-use lib.IntN.{ℤ, pos}
-use Rattle.network.specs.Network.{nodes}
-use Rattle.network.specs.Residual.{Price}
 use Rattle.prices.proofs.Potentials.{labels-small}
-use Rattle.enumerator.specs.Enumerator.{netOf, flowIn}
+use Rattle.enumerator.specs.Enumerator.{netOf, flowIn, PriceArray}
 use Rattle.enumerator.proofs.Held.{few, in-tails, in-heads, in-lows, in-ups, in-costs}
 use Rattle.enumerator.proofs.Standing.{bareOf, relaxable-on, settled-on, prices-on}
 use Rattle.enumerator.proofs.Enumerator.prices.Statement.{statement}
@@ -29,7 +25,7 @@ narrow-requires c κs = let s = c .before .before .before .before .before .befor
 
 returns : tie.Need-returns
 returns c = let s = c .before .before .before .before .before .before .before .before .before .before .before .before .before .before .before in
-    subst (λ (d : List ℤ). (v : ℕ) → v < nodes (netOf (s .args .self)) → Price (netOf (s .args .self)) (flowIn (s .args .self)) v (getD d v (pos 0))) (sym (c .narrow .ensures))
+    subst (PriceArray (netOf (s .args .self)) (flowIn (s .args .self))) (sym (c .narrow .ensures))
     (prices-on (s .args .self) (s .pre .0) (c .before .prices .result) (c .before .prices .ensures))
 
 pub prices-spec : {M : Type 1} → statement M

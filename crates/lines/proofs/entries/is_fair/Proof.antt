@@ -1,4 +1,4 @@
--- `lines::entries::is_fair` meets its contract. Assumes nothing.
+-- `lines::entries::is_fair` meets its contract.
 use mathlib.Core.Path.{refl}
 use Rattle.lines.proofs.entries.is_fair.Statement.{statement}
 use Rattle.lines.proofs.entries.is_fair.Tie as tie

@@ -1,5 +1,5 @@
--- `lines::entries::read_entries` meets its contract: after each line the columns are those of the lines read. Assumes nothing.
-use Prim.Native.Nat.{_<_}
+-- `lines::entries::read_entries` meets its contract: after each line the columns are those of the first 28 of the lines read.
+use Prim.Native.Nat.{_<_, _≤_}
 use mathlib.Core.Path.{_≡_, _∙_}
 use mathlib.Core.List.{List, [], _∷_, _++_}
 use mathlib.Core.Logic.{⊎-elim}
@@ -62,6 +62,9 @@ stored : (c : tie.Joined2 Inv-loop μ-loop)
     loop .count < 28 → c .if2 .columns ≡ putIn (loop .columns) (loop .count) (c .before .before .before .before .before .args .total) (c .before .before .read-entry .result)
 stored c h = ⊎-elim (λ w. w .2 ∙ w .1 .ensures) (λ w. absurd (omega (arith, h, w .0 .left))) (c .if2 .came)
 
+passed-over : (c : tie.Joined2 Inv-loop μ-loop) → 28 ≤ c .before .before .before .loop .count → c .if2 .columns ≡ c .before .before .before .loop .columns
+passed-over c h = ⊎-elim (λ w. absurd (omega (arith, h, w .0 .taken))) (λ w. w .1) (c .if2 .came)
+
 loop-again : tie.Need-loop-again Inv-loop μ-loop
 loop-again c =
     let v = c .before .before .before .before .before .before .loop .inv in
@@ -71,7 +74,7 @@ loop-again c =
       v .0 ++ (entryOf t r ∷ []),
       lines-more (v .1) (e .right) (c .before .before .before .before .if1 .left),
       rw (c .before .first-bad .ensures, c .before .before .is-fair .ensures)
-          (known-more _ _ _ (v .0) _ _ _ _ _ t r (v .2) (c .before .before .before .before .before .before .before .before .pre .0) (stored (c .before .before .before)) e (c .before .before .before .before .if1 .left) (v .1 .part-is)),
+          (known-more _ _ _ (v .0) _ _ _ _ _ t r (v .2) (c .before .before .before .before .before .before .before .before .pre .0) (stored (c .before .before .before)) (passed-over (c .before .before .before)) e (c .before .before .before .before .if1 .left) (v .1 .part-is)),
     )
 
 pub read-entries-spec : {M : Type 1} → statement M

@@ -1,4 +1,4 @@
--- `lines::entries::read_entry` meets its contract: each part is read where the one before it ended. Assumes nothing.
+-- `lines::entries::read_entry` meets its contract: each part is read where the one before it ended.
 use Prim.Native.Nat.{ℕ, _+_, _-_}
 use mathlib.Core.List.{List}
 use native.Mathlib.Omega.{arith}
@@ -40,7 +40,7 @@ ended : (c : tie.After-n)
     s
     (n + c .before .before .before .before .before .before .read-word .result + c .before .before .read-row .result .used)
 unfolding bytes
-ended c = next-right _ _ (worded (c .before .before .before .before .before)) (c .before .before .read-row .ensures) (c .before .if3 .left)
+ended c = next-right _ _ (worded (c .before .before .before .before .before)) (c .before .before .read-row .ensures .right) (c .before .if3 .left)
 
 sub-read-word : tie.Need-sub-read-word
 sub-read-word c = headed c .within
@@ -62,7 +62,7 @@ part-read-row-start c = worded c .within
 
 returns-3 : tie.Need-returns-3
 unfolding bytes
-returns-3 c = entry-absent _ _ (stops _ _ (worded (c .before .before .before .before .before)) (c .before .before .read-row .ensures) (c .before .if3 .taken)) (c .no-entry3 .ensures)
+returns-3 c = entry-absent _ _ (stops _ _ (worded (c .before .before .before .before .before)) (c .before .before .read-row .ensures .right) (c .before .if3 .taken)) (c .no-entry3 .ensures)
 
 sub-t22 : tie.Need-sub-t22
 sub-t22 c = headed (c .before .before .before .before .before .before .before .before) .within

@@ -1,4 +1,4 @@
--- `lines::moves::is_fair` meets its contract. Assumes nothing.
+-- `lines::moves::is_fair` meets its contract.
 use mathlib.Core.Path.{refl}
 use Rattle.lines.proofs.moves.is_fair.Statement.{statement}
 use Rattle.lines.proofs.moves.is_fair.Tie as tie

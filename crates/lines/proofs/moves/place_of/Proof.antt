@@ -1,4 +1,4 @@
--- `lines::moves::place_of` meets its contract: the instruments of a fair move are 1 to 16. Assumes nothing.
+-- `lines::moves::place_of` meets its contract: the instruments of a fair move are 1 to 16.
 use mathlib.Core.Path.{refl}
 use native.Mathlib.Omega.{arith}
 use borrow.Author.Needs.{needs}

@@ -1,4 +1,4 @@
--- `lines::moves::put_move` meets its contract. Assumes nothing.
+-- `lines::moves::put_move` meets its contract.
 use mathlib.Core.Path.{_≡_, sym, _∙_}
 use mathlib.Core.Bool.{true}
 use native.Mathlib.Omega.{arith}

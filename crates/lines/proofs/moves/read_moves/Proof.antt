@@ -1,4 +1,4 @@
--- `lines::moves::read_moves` meets its contract: after each line the tables are those of the lines read. Assumes nothing.
+-- `lines::moves::read_moves` meets its contract: after each line the tables are those of the moves taken.
 use mathlib.Core.List.{List, [], _∷_, _++_}
 use native.Mathlib.Omega.{arith}
 use borrow.Author.Needs.{needs}
@@ -25,7 +25,7 @@ loop-holds c = ([], lines-none move _, known-none)
 got : (c : tie.After-read-row Inv-loop μ-loop)
     → Right (c .before .before .loop .rest .now) (move (c .before .before .loop .rest .now)) (c .read-row .result .used) (moveFrom (c .read-row .result .numbers))
 unfolding move bytes
-got c = mapped (row (bytes "(move ") 4) moveFrom _ (c .read-row .ensures)
+got c = mapped (row (bytes "(move ") 4) moveFrom _ (c .read-row .ensures .right)
 
 sub-t20 : tie.Need-sub-t20 Inv-loop μ-loop
 sub-t20 c = omega (arith, c .before .before .before .loop .inv .1 .shorter)

@@ -1,4 +1,4 @@
--- `lines::verdict::first_bad` meets its contract. Assumes nothing.
+-- `lines::verdict::first_bad` meets its contract.
 use borrow.Author.Tests.{eq-eqb, ne-eqb}
 use Rattle.lines.proofs.verdict.first_bad.Statement.{statement}
 use Rattle.lines.proofs.verdict.first_bad.Tie as tie

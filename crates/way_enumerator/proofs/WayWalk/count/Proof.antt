@@ -1,6 +1,7 @@
 use mathlib.Core.Path.{ap, _∙_}
 use Rattle.network.specs.FullList.{countFlows}
 use Rattle.allocation.proofs.LineByLine.{count-matched}
+use Rattle.way_enumerator.proofs.Walking.{walked}
 use Rattle.way_enumerator.proofs.WayWalk.count.Statement.{statement}
 use Rattle.way_enumerator.proofs.WayWalk.count.Tie as tie
 
@@ -10,7 +11,7 @@ count-requires c κs = c .before .pre .walks .stands
 returns : tie.Need-returns
 returns c =
     let cap = c .before .before .args .cap in
-    (c .count .ensures .0, record { each = λ b h. c .count .ensures .1 ∙ ap (λ N. countFlows N cap) (h .net-is) ∙ count-matched b cap })
+    (c .count .ensures .0, record { each = λ b h. c .count .ensures .1 ∙ ap (λ N. countFlows N cap) (walked b (c .before .before .args .self) h) ∙ count-matched b cap })
 
 pub count-spec : {M : Type 1} → statement M
 count-spec = tie.close (tie.spec count-requires returns)

@@ -4,7 +4,7 @@ use Rattle.network.specs.FullList.{firstFlow}
 use Rattle.allocation.specs.FullWays.{firstWay}
 use Rattle.allocation.specs.WayFlow.{wayOf}
 use Rattle.way_enumerator.proofs.Reading.{first-read}
-use Rattle.way_enumerator.proofs.Walking.{steps-to}
+use Rattle.way_enumerator.proofs.Walking.{walked, steps-to}
 use Rattle.way_enumerator.proofs.WayWalk.first.Statement.{statement}
 use Rattle.way_enumerator.proofs.WayWalk.first.Tie as tie
 
@@ -14,7 +14,7 @@ first-requires c κs = c .before .pre .walks .stands
 returns : tie.Need-returns
 returns c =
     let s = c .before .before .args .self in
-    record { each = λ b h. steps-to b s _ h refl _ _ (c .first .ensures) (firstWay b) (ap (λ N. mapOption (wayOf b) (firstFlow N)) (h .net-is) ∙ first-read b) }
+    record { each = λ b h. steps-to b s _ h refl _ _ (c .first .ensures) (firstWay b) (ap (λ N. mapOption (wayOf b) (firstFlow N)) (walked b s h) ∙ first-read b) }
 
 pub first-spec : {M : Type 1} → statement M
 first-spec = tie.close (tie.spec first-requires returns)

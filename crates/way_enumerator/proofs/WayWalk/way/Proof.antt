@@ -1,9 +1,9 @@
-use mathlib.Core.Path.{_≡_, sym, _∙_}
+use mathlib.Core.Path.{_≡_, sym}
 use Prim.Native.Nat.{_≤_}
 use native.Mathlib.Omega.{arith}
 use lib.ListN.{length}
 use lib.Seq.{length-take-le}
-use Rattle.way_enumerator.proofs.Walking.{few-arcs, in-tails, in-heads, has-ends, tells}
+use Rattle.way_enumerator.proofs.Walking.{few-arcs, in-tails, in-heads, has-flow, tells}
 use borrow.Author.Needs.{needs}
 use Rattle.way_enumerator.proofs.WayWalk.way.Statement.{statement}
 use Rattle.way_enumerator.proofs.WayWalk.way.Tie as tie
@@ -30,7 +30,7 @@ way-of-requires : tie.Need-way-of-requires
 way-of-requires c κs =
     let s = entry (c .before .before .before) in
     let w = s .args .self in
-    (has-ends w (s .pre .0), length-take-le (w .walk .net .arcs) (w .walk .flow) (in-flow s) ∙ s .pre .0 .walks .stands .sound .arcs-held)
+    has-flow w (s .pre .0) (s .pre .1)
 
 returns : tie.Need-returns
 returns c = let s = entry (c .before .before .before .before) in tells (s .args .self) (c .way-of .result) (s .pre .1) (c .way-of .ensures)

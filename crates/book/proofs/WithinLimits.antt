@@ -1,5 +1,5 @@
--- What a book that is accepted keeps, for the crates that use one. Assumes nothing.
-use Prim.Native.Nat.{ℕ, zero, suc, _≤_, _<_}
+-- A book that is accepted is within the limits.
+use Prim.Native.Nat.{ℕ, zero, suc, _<_}
 use mathlib.Core.Path.{_≡_, refl}
 use mathlib.Core.Bool.{Bool, true, false, _&&_}
 use mathlib.Core.Option.{some}
@@ -13,20 +13,13 @@ use Rattle.lines.specs.declared.moves.Move.{Move}
 use Rattle.lines.specs.Lines.{Entry}
 use Rattle.book.specs.Book.{Book, parse}
 use Rattle.book.specs.Questions.{header, askBook, askForm, refusal}
+use Rattle.book.specs.WithinLimits.{WithinLimits}
 use Rattle.lines.specs.Questions.{moveOf, fairMove, none?, stands, moves, fairEntry, entries, all}
 use Rattle.lines.specs.Columns.{nobody}
 
 asked : (t : Bool) (n next : ℕ) → ask t (suc n) next ≡ 0 → (t ≡ true) × (next ≡ 0)
 asked true n next e = (refl, e)
 asked false n next e = absurd (omega arith)
-
-pub record Accepted (b : Book) : Type 0 where
-  pub players-low : 1 ≤ b .players
-  pub players-high : b .players ≤ 8
-  pub fee-high : b .fee ≤ 1000000
-  pub fair-moves : (p q : ℕ) (m : Move) → moveOf (b .moves) p q ≡ some m → fairMove m ≡ true
-  pub fair-entries : (n : ℕ) → n < length (b .entries) → fairEntry (getD (b .entries) n nobody) ≡ true
-  pub few : length (b .entries) ≤ 28
 
 found-fair : (ds ms : List Move) → all (moves ds ms) ≡ true → (p q : ℕ) (m : Move) → moveOf ms p q ≡ some m → fairMove m ≡ true
 unfolding all moves
@@ -52,9 +45,9 @@ all-fair [] a n h = absurd (omega arith)
 all-fair (e ∷ es) a zero h = and-true (fairEntry e) (all (entries es)) a .0
 all-fair (e ∷ es) a (suc n) h = all-fair es (and-true (fairEntry e) (all (entries es)) a .1) n (omega arith)
 
-pub accepted : (s : List ℕ) (b : Book) → refusal s ≡ 0 → parse s ≡ some b → Accepted b
+pub within-limits : (s : List ℕ) (b : Book) → refusal s ≡ 0 → parse s ≡ some b → WithinLimits b
 unfolding all
-accepted s b e p =
+within-limits s b e p =
     let q0 = asked (leb (length s) 16384) 10 (askForm (parse s)) e in
     let q : askBook b ≡ 0 = rw p at (q0 .1) in
     let q1 = asked (all (header b)) 12 _ q in

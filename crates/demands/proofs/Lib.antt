@@ -1,0 +1,6 @@
+pub mod Refusals
+pub mod Runs
+pub mod Matched
+pub mod Listings
+pub mod Names
+pub mod Walks
