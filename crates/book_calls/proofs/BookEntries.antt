@@ -12,7 +12,7 @@ use Rattle.laws.specs.Members.{first?}
 use Rattle.laws.specs.Equality.{same-list}
 use Rattle.laws.specs.After.{after}
 use Rattle.laws.specs.Run.{first, next, shown}
-use Rattle.laws.specs.Count.{Count, exactly, more, counted}
+use Rattle.laws.specs.Count.{counted}
 use Rattle.bytes32.specs.Words.{words, encodeWords}
 use Rattle.book.specs.Book.{Book, parse}
 use Rattle.book.specs.Questions.{refusal, questionOf, lineOf}
@@ -37,7 +37,7 @@ use Rattle.allocation.specs.BookBytes.{waysIn, ways, size, costIn, costOf}
 use Rattle.book.specs.Told.{Told}
 use Rattle.book_calls.specs.BookRun.{RightBook, AnswersBook}
 use Rattle.way_bytes.specs.Steps.{Admits}
-use Rattle.calls.proofs.Turns.{wordOf, first-passed, all-passed}
+use Rattle.calls.proofs.Turns.{wordOf, first-passed, all-passed, count-line}
 use Rattle.calls.proofs.Lines.{after-given}
 use Rattle.book.proofs.Told.{untold}
 use Rattle.book_calls.proofs.BookRun.{full}
@@ -49,11 +49,6 @@ pub record Past (s : List ℕ) (bytes : ℕ) (c : CheckedBook) : Type 0 where
   pub book : Book
   pub is : parse s ≡ some book
   pub holds : Holds book c
-
--- a count tells no line
-count-line : (n : Count) → countReply n .line ≡ 0
-count-line (exactly n) = refl
-count-line more = refl
 
 module _ (s : List ℕ) where
   -- what was handed out is right for the way, or for the word
@@ -134,5 +129,5 @@ module _ (s : List ℕ) where
       record {
         code-is = rw ok (ap (λ (x : Reply). x .code) e);
         value-is = rw ok (ap (λ (x : Reply). x .value) e);
-        told = rw (ok, e, count-line (countWays s cap)) (untold 0 (λ e. omega arith) (λ e. omega arith) (λ e. omega arith) s);
+        told = rw (ok, e, count-line 0 (countWays s cap)) (untold 0 (λ e. omega arith) (λ e. omega arith) (λ e. omega arith) s);
       }

@@ -9,8 +9,9 @@ use native.Mathlib.Omega.{arith}
 use Rattle.laws.specs.Tests.{ask}
 use Rattle.laws.specs.Equality.{same-list}
 use Rattle.laws.specs.Run.{Call, first, next, Answer, nothing, end, Strange}
+use Rattle.laws.specs.Count.{Count, exactly, more}
 use Rattle.bytes32.specs.Words.{encodeWords}
-use Rattle.calls.specs.Replies.{failed, orElse}
+use Rattle.calls.specs.Replies.{failed, orElse, countUnless}
 use Rattle.calls.specs.ByteLists.{fairGiven}
 use Rattle.calls.proofs.Lines.{not-listed}
 
@@ -35,6 +36,12 @@ all-passed (suc n) q b e = absurd (omega arith)
 pub fails-first : (n k r : ℕ) → r ≡ n → ¬ (r ≡ 0) → r ≡ orElse n k
 fails-first zero k r e h = absurd (h e)
 fails-first (suc n) k r e h = e
+
+-- a count tells no line
+pub count-line : (n : ℕ) (k : Count) → countUnless n k .line ≡ 0
+count-line zero (exactly m) = refl
+count-line zero more = refl
+count-line (suc n) k = refl
 
 -- the word where there is no line
 abbrev pub wordOf : {F G N : Type 0} → Call F G N → Answer (List ℕ)

@@ -2,18 +2,18 @@
 use mathlib.Core.Path.{_≡_, refl, sym, ap, _∙_}
 use mathlib.Core.List.{List, [], _∷_, _++_}
 use mathlib.Core.Option.{Option, none, some}
-use Prim.Native.Nat.{ℕ, zero, suc}
+use Prim.Native.Nat.{ℕ}
 use native.Mathlib.Omega.{arith}
 use Rattle.laws.specs.Equality.{same-list}
 use Rattle.laws.specs.Run.{Call, first, next, Answer, respond, Kept}
 use Rattle.laws.specs.Seen.{Seen}
-use Rattle.laws.specs.Count.{Count, exactly, more}
 use Rattle.bytes32.specs.Words.{encodeWords}
 use Rattle.network.specs.Network.{costOf}
 use Rattle.network.specs.FullList.{fullList, countFlows}
 use Rattle.network_questions.specs.Questions.{refusal}
 use Rattle.calls.specs.declared.Reply.{Reply}
 use Rattle.calls.specs.Replies.{failed, countReply, countUnless}
+use Rattle.calls.proofs.Turns.{count-line}
 use Rattle.flow_bytes.specs.NetworkBytes.{net}
 use Rattle.network_calls.specs.NetworkCalls.{Lent, NetCall, lent, number, refuses, Wrote}
 use Rattle.network_calls.specs.NetworkRun.{NoLine, RightNetwork, Answers}
@@ -39,12 +39,7 @@ module _ {Line F G N S : Type 0} (same : Discrete G) (copy : Line → G) (L : Li
   one-more [] k = (h, tt)
   one-more (a ∷ r) k = (k .0, one-more r (k .1))
 
--- a count tells no line, and its reply is what its fields are
-count-line : (n : ℕ) (k : Count) → countUnless n k .line ≡ 0
-count-line zero (exactly m) = refl
-count-line zero more = refl
-count-line (suc n) k = refl
-
+-- a reply is what its fields are
 reply-is : (r q : Reply) → r .code ≡ q .code → r .line ≡ q .line → r .value ≡ q .value → r ≡ q
 reply-is r q c l v = rw (← c, ← l, ← v) refl
 

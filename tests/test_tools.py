@@ -1,13 +1,20 @@
-"""tools/contracts on functions whose contracts say too little, one fault each, and on one that says enough."""
+"""The tools that ./test runs over the sources, on what they must find: contracts that say too little, names in a document that the project does not have."""
 import importlib.machinery
 import importlib.util
 import pathlib
 import unittest
 
-TOOL = pathlib.Path(__file__).parent.parent / "tools/contracts"
-LOADER = importlib.machinery.SourceFileLoader("contracts", str(TOOL))
-contracts = importlib.util.module_from_spec(importlib.util.spec_from_loader("contracts", LOADER))
-LOADER.exec_module(contracts)
+TOOLS = pathlib.Path(__file__).parent.parent / "tools"
+
+
+def tool(name):
+    loader = importlib.machinery.SourceFileLoader(name, str(TOOLS / name))
+    module = importlib.util.module_from_spec(importlib.util.spec_from_loader(name, loader))
+    loader.exec_module(module)
+    return module
+
+
+contracts, names = tool("contracts"), tool("names")
 
 ENTRY = """
 #[no_mangle]
@@ -39,12 +46,21 @@ class Contracts(unittest.TestCase):
         ):
             self.assertEqual(told(contract), fault, contract)
 
-    def test_result_of_a_method(self):
-        """A function that hands back nothing, and one with a result in a struct."""
+    def test_result(self):
+        """A function that hands back nothing, and a method whose contract leaves its result out."""
         head = "pub fn clear(list: &mut [u8])\n    ensures { λ _. ⌜ now (list .exit) ≡ zeros ⌝ }\n{"
         self.assertEqual(list(contracts.faults(head, False)), [])
         head = "    pub fn cost(self) -> u32\n        ensures { λ r. ⌜ self .cost ≡ 3 ⌝ }\n    {"
         self.assertEqual(list(contracts.faults(head, False)), ["does not name its result"])
+
+
+class Names(unittest.TestCase):
+    def test_missing(self):
+        known = names.words()
+        text = "`run-is-read`, `desk_first`, crates/laws/specs/Run.antt, flows/end_untried, crates/calls/must-fail/ (says_end, cost_zero: a word)"
+        self.assertEqual(list(names.missing(text, known)), [])
+        wrong = "`run-is-" + "written`, crates/laws/specs/Runs.antt, flows/end_tried, crates/calls/must-fail/ (says_nothing, cost_zero)"
+        self.assertEqual(list(names.missing(wrong, known)), ["`run-is-" + "written`: run-is-" + "written", "crates/laws/specs/Runs.antt", "crates/calls/must-fail/says_nothing", "flows/end_tried"])
 
 
 if __name__ == "__main__":
