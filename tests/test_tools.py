@@ -57,10 +57,10 @@ class Contracts(unittest.TestCase):
 class Names(unittest.TestCase):
     def test_missing(self):
         known = names.words()
-        text = "`run-is-read`, `desk_first`, crates/laws/specs/Run.antt, flows/end_untried, crates/calls/must-fail/ (says_end, cost_zero: a word)"
+        text = "`run-is-read`, `desk_first`, crates/laws/specs/Run.antt, flow_order/end_untried, crates/call_reply/must-fail/ (says_end, cost_zero: a word)"
         self.assertEqual(list(names.missing(text, known)), [])
-        wrong = "`run-is-" + "written`, crates/laws/specs/Runs.antt, flows/end_tried, crates/calls/must-fail/ (says_nothing, cost_zero)"
-        self.assertEqual(list(names.missing(wrong, known)), ["`run-is-" + "written`: run-is-" + "written", "crates/laws/specs/Runs.antt", "crates/calls/must-fail/says_nothing", "flows/end_tried"])
+        wrong = "`run-is-" + "written`, crates/laws/specs/Runs.antt, flows/end_tried, crates/call_reply/must-fail/ (says_nothing, cost_zero)"
+        self.assertEqual(list(names.missing(wrong, known)), ["`run-is-" + "written`: run-is-" + "written", "crates/laws/specs/Runs.antt", "crates/call_reply/must-fail/says_nothing", "flows/end_tried"])
 
 
 if __name__ == "__main__":

@@ -9,28 +9,28 @@ use lib.ListN.{length, take, getD}
 use lib.Seq.{take-all}
 use lib.Dec.{leb, eqb, eqb·suc-zero}
 use borrow.Author.Tests.{le-leb, lt-leb, leb-true, eqb-true, eqb-false}
-use Rattle.lines.specs.declared.moves.Move.{Move}
-use Rattle.lines.specs.declared.moves.Moves.{Moves}
-use Rattle.lines.specs.declared.entries.Columns.{Columns}
-use Rattle.lines.specs.declared.entries.Entries.{Entries}
-use Rattle.book.specs.declared.Opening.{Opening}
-use Rattle.book.specs.declared.CheckedBook.{CheckedBook}
-use Rattle.book.specs.declared.Checked.{Checked}
-use Rattle.book.specs.declared.Answer.{Answer}
-use Rattle.book.specs.declared.Answer.the-variants.{Accepted, TooLong, Malformed, BadHeader, BadMove, BadEntry, TooMany}
-use Rattle.lines.specs.Lines.{Entry}
-use Rattle.book.specs.Book.{Book, parse}
-use Rattle.book.specs.Questions.{header, askBook, refusal, questionOf, lineOf}
-use Rattle.book.specs.Told.{ToldOf, Told}
-use Rattle.lines.specs.Questions.{moves, entries, all}
-use Rattle.lines.specs.Columns.{table, nobody}
-use Rattle.book.specs.Checked.{filled, empty, unlessRefused, checkedBook}
-use Rattle.lines.specs.Passes.{Verdict, kept, columnsOf, Placed}
-use Rattle.book.specs.Steps.{answerOf, headerBad, heldOf, judgedOf}
-use Rattle.lines.proofs.Verdicts.{verdict-none, verdict-more}
-use Rattle.lines.proofs.MovePass.{kept-all}
-use Rattle.book.proofs.Judging.{column-at}
-use Rattle.book.proofs.Told.{told-header, told-move, told-entry, none-told, untold}
+use Rattle.book_lines.specs.declared.moves.Move.{Move}
+use Rattle.book_lines.specs.declared.moves.Moves.{Moves}
+use Rattle.book_lines.specs.declared.entries.Columns.{Columns}
+use Rattle.book_lines.specs.declared.entries.Entries.{Entries}
+use Rattle.book_form.specs.declared.Opening.{Opening}
+use Rattle.book_form.specs.declared.CheckedBook.{CheckedBook}
+use Rattle.book_form.specs.declared.Checked.{Checked}
+use Rattle.book_form.specs.declared.Answer.{Answer}
+use Rattle.book_form.specs.declared.Answer.the-variants.{Accepted, TooLong, Malformed, BadHeader, BadMove, BadEntry, TooMany}
+use Rattle.book_lines.specs.Lines.{Entry}
+use Rattle.book_form.specs.Book.{Book, parse}
+use Rattle.book_form.specs.Questions.{header, askBook, refusal, questionOf, lineOf}
+use Rattle.book_form.specs.Told.{ToldOf, Told}
+use Rattle.book_lines.specs.Questions.{moves, entries, all}
+use Rattle.book_lines.specs.Columns.{table, nobody}
+use Rattle.book_form.specs.Checked.{filled, empty, unlessRefused, checkedBook}
+use Rattle.book_lines.specs.Passes.{Verdict, kept, columnsOf, Placed}
+use Rattle.book_form.specs.Steps.{answerOf, headerBad, heldOf, judgedOf}
+use Rattle.book_lines.proofs.Verdicts.{verdict-none, verdict-more}
+use Rattle.book_lines.proofs.MovePass.{kept-all}
+use Rattle.book_form.proofs.Judging.{column-at}
+use Rattle.book_form.proofs.Told.{told-header, told-move, told-entry, none-told, untold}
 use Rattle.book_check.specs.Judged.{Lies, Judged}
 
 -- some line fails

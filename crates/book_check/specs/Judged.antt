@@ -3,12 +3,12 @@ use Prim.Native.Nat.{ℕ, _+_, _≤_, _<_}
 use mathlib.Core.Path.{_≡_}
 use mathlib.Core.List.{List}
 use lib.ListN.{length, take, drop, getD}
-use Rattle.lines.specs.Columns.{nobody}
-use Rattle.book.specs.declared.Checked.{Checked}
-use Rattle.book.specs.Book.{parse}
-use Rattle.book.specs.Questions.{refusal, questionOf, lineOf}
-use Rattle.book.specs.Told.{Told}
-use Rattle.book.specs.Checked.{checkedBook, entriesOf}
+use Rattle.book_lines.specs.Columns.{nobody}
+use Rattle.book_form.specs.declared.Checked.{Checked}
+use Rattle.book_form.specs.Book.{parse}
+use Rattle.book_form.specs.Questions.{refusal, questionOf, lineOf}
+use Rattle.book_form.specs.Told.{Told}
+use Rattle.book_form.specs.Checked.{checkedBook, entriesOf}
 
 -- the part of s of that length, from `start` on, is the name, which is not empty
 pub record Lies (s : List ℕ) (start len : ℕ) (name : List ℕ) : Type 0 where

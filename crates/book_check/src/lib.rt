@@ -1,15 +1,15 @@
 // The check of a book: its form, read from the bytes, and then its questions.
-use book::Answer;
-use book::Checked;
-use book::Opening;
-use book::judge;
-use book::refused;
-use lines::entries::read_entries;
-use lines::moves::read_moves;
-use text::read_row;
-use text::read_text;
-ghost use Rattle.text.specs.Reader.{Right};
-ghost use Rattle.book.specs.Book.{opening};
+use book_form::Answer;
+use book_form::Checked;
+use book_form::Opening;
+use book_form::judge;
+use book_form::refused;
+use book_lines::entries::read_entries;
+use book_lines::moves::read_moves;
+use text_read::read_row;
+use text_read::read_text;
+ghost use Rattle.text_read.specs.Reader.{Right};
+ghost use Rattle.book_form.specs.Book.{opening};
 ghost use Rattle.book_check.specs.Closing.{Closing};
 ghost use Rattle.book_check.specs.Judged.{Judged};
 

@@ -9,11 +9,11 @@ use lib.ListN.{length}
 use lib.Dec.{leb}
 use borrow.Author.Tests.{leb-true}
 use Rattle.laws.specs.Tests.{and-true, ask}
-use Rattle.book.specs.declared.CheckedBook.{CheckedBook}
-use Rattle.book.specs.declared.Checked.{Checked}
-use Rattle.book.specs.Book.{Book, parse}
-use Rattle.book.specs.Questions.{refusal}
-use Rattle.book.specs.Checked.{unlessRefused, entriesOf}
+use Rattle.book_form.specs.declared.CheckedBook.{CheckedBook}
+use Rattle.book_form.specs.declared.Checked.{Checked}
+use Rattle.book_form.specs.Book.{Book, parse}
+use Rattle.book_form.specs.Questions.{refusal}
+use Rattle.book_form.specs.Checked.{unlessRefused, entriesOf}
 use Rattle.book_check.specs.Judged.{Judged}
 use Rattle.book_names.specs.Name.{askEntry, nameRefusal}
 

@@ -8,15 +8,15 @@ use native.Mathlib.Omega.{arith}
 use lib.ListN.{length, length-drop, drop, getD}
 use lib.Seq.{length-take-le}
 use lib.Dec.{leb}
-use Rattle.lines.specs.Columns.{nobody}
-use Rattle.book.specs.declared.CheckedBook.{CheckedBook}
-use Rattle.book.specs.declared.Checked.{Checked}
-use Rattle.book.specs.Book.{Book, parse}
-use Rattle.book.specs.Questions.{refusal}
-use Rattle.book.specs.Checked.{unlessRefused, checkedBook, entriesOf}
+use Rattle.book_lines.specs.Columns.{nobody}
+use Rattle.book_form.specs.declared.CheckedBook.{CheckedBook}
+use Rattle.book_form.specs.declared.Checked.{Checked}
+use Rattle.book_form.specs.Book.{Book, parse}
+use Rattle.book_form.specs.Questions.{refusal}
+use Rattle.book_form.specs.Checked.{unlessRefused, checkedBook, entriesOf}
 use Rattle.book_check.specs.Judged.{Lies, Judged}
-use Rattle.book.proofs.Judging.{column-at}
-use Rattle.book.proofs.WithinLimits.{within-limits}
+use Rattle.book_form.proofs.Judging.{column-at}
+use Rattle.book_form.proofs.WithinLimits.{within-limits}
 use Rattle.book_names.specs.Name.{unlessRefused as nameUnless}
 use Rattle.book_names.specs.BookNames.{BookName}
 use Rattle.book_names.proofs.Naming.{from-one, not-refused, refused}

@@ -5,12 +5,12 @@ use mathlib.Core.Bool.{_&&_}
 use mathlib.Core.List.{List, []}
 use lib.ListN.{length, getD}
 use lib.Dec.{leb}
-use Rattle.lines.specs.Lines.{Entry}
-use Rattle.book.specs.Book.{parse}
+use Rattle.book_lines.specs.Lines.{Entry}
+use Rattle.book_form.specs.Book.{parse}
 use Rattle.laws.specs.Tests.{ask}
-use Rattle.book.specs.Questions.{refusal}
-use Rattle.book.specs.Checked.{entriesOf}
-use Rattle.lines.specs.Columns.{nobody}
+use Rattle.book_form.specs.Questions.{refusal}
+use Rattle.book_form.specs.Checked.{entriesOf}
+use Rattle.book_lines.specs.Columns.{nobody}
 
 -- "For a name, put straight after 16: is the entry from 1 to E? If not, 19."
 abbrev pub askEntry : ℕ → List Entry → ℕ → ℕ

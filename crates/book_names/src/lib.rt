@@ -44,7 +44,7 @@ pub fn name_refusal(book: &[u8], entry: u32) -> u32
 {
     let checked = book_check::check(book);
     let answer = checked.answer;
-    let q = book::question(answer);
+    let q = book_form::question(answer);
     if q != 0 {
         return q;
     }

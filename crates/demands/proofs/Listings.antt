@@ -6,14 +6,14 @@ use Prim.Native.Nat.{ℕ, zero, suc, _≤_}
 use native.Mathlib.Omega.{arith}
 use lib.IntN.{pos}
 use lib.ListN.{length}
-use Rattle.book.specs.Book.{parse}
-use Rattle.book.specs.Questions.{refusal}
-use Rattle.allocation.specs.BookBytes.{ways, costIn}
-use Rattle.calls.specs.declared.Reply.{Reply}
-use Rattle.calls.specs.Replies.{orElse}
-use Rattle.listing.specs.Fit.{fit}
-use Rattle.way_listing.specs.WayListing.{listWays}
-use Rattle.book_listing.specs.Listing.{unlessRefused, listing, noneCode, listingCode, ifListed, BookListing}
+use Rattle.book_form.specs.Book.{parse}
+use Rattle.book_form.specs.Questions.{refusal}
+use Rattle.way_theory.specs.BookBytes.{ways, costIn}
+use Rattle.call_reply.specs.declared.Reply.{Reply}
+use Rattle.call_reply.specs.Replies.{orElse}
+use Rattle.text_write.specs.Fit.{fit}
+use Rattle.way_list.specs.WayListing.{listWays}
+use Rattle.call_listing.specs.Listing.{unlessRefused, listing, noneCode, listingCode, ifListed, BookListing}
 use Rattle.demands.specs.Demands.{ListingDemands}
 use Rattle.demands.proofs.Runs.{no-line-told}
 

@@ -6,15 +6,15 @@ use lib.ListN.{getElem?}
 use lib.IntN.{pos}
 use Rattle.laws.specs.Members.{at-member}
 use Rattle.laws.specs.Image.{mapOption}
-use Rattle.book.specs.Questions.{refusal}
-use Rattle.book_network.proofs.Made.{held}
-use Rattle.allocation.specs.WayFlow.{flowOf}
-use Rattle.allocation.specs.FullWays.{fullWays}
-use Rattle.allocation.specs.BookBytes.{waysIn, costIn}
-use Rattle.allocation.proofs.Accepted.{accepted-net}
-use Rattle.allocation.proofs.FullWays.{full-way}
-use Rattle.allocation.proofs.Matched.{way-cost}
-use Rattle.allocation.proofs.LineByLine.{line-matched}
+use Rattle.book_form.specs.Questions.{refusal}
+use Rattle.way_network.proofs.Made.{held}
+use Rattle.way_theory.specs.WayFlow.{flowOf}
+use Rattle.way_theory.specs.FullWays.{fullWays}
+use Rattle.way_theory.specs.BookBytes.{waysIn, costIn}
+use Rattle.way_theory.proofs.Accepted.{accepted-net}
+use Rattle.way_theory.proofs.FullWays.{full-way}
+use Rattle.way_theory.proofs.Matched.{way-cost}
+use Rattle.way_theory.proofs.LineByLine.{line-matched}
 use Rattle.demands.specs.Demands.{MatchedLines}
 
 pub book-matched : (s : List ℕ) → refusal s ≡ 0 → MatchedLines s

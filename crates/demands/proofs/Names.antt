@@ -3,9 +3,9 @@ use mathlib.Core.Path.{_≡_, sym, ap, _∙_}
 use mathlib.Core.List.{List}
 use Prim.Native.Nat.{ℕ, _-_}
 use lib.ListN.{getD}
-use Rattle.lines.specs.Columns.{nobody}
-use Rattle.book.specs.Book.{parse}
-use Rattle.book.specs.Checked.{entriesOf}
+use Rattle.book_lines.specs.Columns.{nobody}
+use Rattle.book_form.specs.Book.{parse}
+use Rattle.book_form.specs.Checked.{entriesOf}
 use Rattle.book_names.specs.declared.Span.{Span}
 use Rattle.book_names.specs.Name.{unlessRefused, nameRefusal}
 use Rattle.book_names.specs.BookNames.{BookName, BookNameRefusal}

@@ -12,9 +12,9 @@ use Rattle.laws.specs.After.{after}
 use Rattle.laws.specs.Run.{Call, first, next, Answer, refused, nothing, end, line, shown, respond, respondUnless}
 use Rattle.laws.specs.Seen.{Seen, Right}
 use Rattle.laws.specs.Count.{Count, exactly, more}
-use Rattle.bytes32.specs.Words.{encodeWords}
-use Rattle.calls.specs.declared.Reply.{Reply}
-use Rattle.calls.specs.Replies.{failed, codeOf, sees, countUnless}
+use Rattle.bytes_read.specs.Words.{encodeWords}
+use Rattle.call_reply.specs.declared.Reply.{Reply}
+use Rattle.call_reply.specs.Replies.{failed, codeOf, sees, countUnless}
 use Rattle.demands.specs.Demands.{Demand1}
 
 -- a call of a run: what is seen of it is right for its answer

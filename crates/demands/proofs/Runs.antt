@@ -7,28 +7,28 @@ use native.Mathlib.Omega.{arith}
 use Rattle.laws.specs.Equality.{same-list}
 use Rattle.laws.specs.Run.{Call, first, next, Answer, respond, Kept}
 use Rattle.laws.specs.Seen.{Seen}
-use Rattle.bytes32.specs.Words.{encodeWords}
-use Rattle.network.specs.Network.{costOf}
-use Rattle.network.specs.FullList.{fullList, countFlows}
-use Rattle.network_questions.specs.Questions.{refusal}
-use Rattle.calls.specs.declared.Reply.{Reply}
-use Rattle.calls.specs.Replies.{failed, countReply, countUnless}
-use Rattle.calls.proofs.Turns.{count-line}
-use Rattle.flow_bytes.specs.NetworkBytes.{net}
-use Rattle.network_calls.specs.NetworkCalls.{Lent, NetCall, lent, number, refuses, Wrote}
-use Rattle.network_calls.specs.NetworkRun.{NoLine, RightNetwork, Answers}
-use Rattle.network_calls.specs.NetworkEntries.{NetworkCount}
-use Rattle.network_calls.proofs.NetworkRun.{network-run, network-lists, network-count}
-use Rattle.network_calls.proofs.FirstFlow.{first-finds}
-use Rattle.book.specs.Questions.{refusal as bookRefusal}
-use Rattle.book.specs.Book.{Book, parse}
-use Rattle.book.specs.Told.{ToldIn, Told}
-use Rattle.allocation.specs.BookBytes.{ways, costOf as bookCost}
-use Rattle.book_calls.specs.BookCalls.{BookCall, countWays, lent as bookLent, number as bookNumber, refuses as bookRefuses, Wrote as BookWrote}
-use Rattle.book_calls.specs.BookRun.{RightBook, AnswersBook}
-use Rattle.book_calls.specs.BookEntries.{BookCount}
-use Rattle.book_calls.proofs.BookRun.{book-run, book-lists, book-count}
-use Rattle.book_calls.proofs.FirstWay.{first-finds-way}
+use Rattle.bytes_read.specs.Words.{encodeWords}
+use Rattle.net_model.specs.Network.{costOf}
+use Rattle.net_model.specs.FullList.{fullList, countFlows}
+use Rattle.net_questions.specs.Questions.{refusal}
+use Rattle.call_reply.specs.declared.Reply.{Reply}
+use Rattle.call_reply.specs.Replies.{failed, countReply, countUnless}
+use Rattle.call_reply.proofs.Turns.{count-line}
+use Rattle.call_flow_bytes.specs.NetworkBytes.{net}
+use Rattle.call_network.specs.NetworkCalls.{Lent, NetCall, lent, number, refuses, Wrote}
+use Rattle.call_network.specs.NetworkRun.{NoLine, RightNetwork, Answers}
+use Rattle.call_network.specs.NetworkEntries.{NetworkCount}
+use Rattle.call_network.proofs.NetworkRun.{network-run, network-lists, network-count}
+use Rattle.call_network.proofs.FirstFlow.{first-finds}
+use Rattle.book_form.specs.Questions.{refusal as bookRefusal}
+use Rattle.book_form.specs.Book.{Book, parse}
+use Rattle.book_form.specs.Told.{ToldIn, Told}
+use Rattle.way_theory.specs.BookBytes.{ways, costOf as bookCost}
+use Rattle.call_book.specs.BookCalls.{BookCall, countWays, lent as bookLent, number as bookNumber, refuses as bookRefuses, Wrote as BookWrote}
+use Rattle.call_book.specs.BookRun.{RightBook, AnswersBook}
+use Rattle.call_book.specs.BookEntries.{BookCount}
+use Rattle.call_book.proofs.BookRun.{book-run, book-lists, book-count}
+use Rattle.call_book.proofs.FirstWay.{first-finds-way}
 use Rattle.demands.specs.Demands.{Demand3Network, FirstFlowDemands, NextFlowDemands, CountFlowsDemands, Demand3Book, FirstWayDemands, NextWayDemands, CountWaysDemands}
 use Rattle.demands.proofs.Refusals.{demand-1, count-1}
 

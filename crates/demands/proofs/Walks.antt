@@ -12,24 +12,24 @@ use Rattle.laws.specs.Members.{_∈_, first?, first-member}
 use Rattle.laws.specs.Equality.{same-list}
 use Rattle.laws.specs.Run.{Call, first, next, Answer, nothing, line, off, shown, written, respond, respondUnless, Strange, ConsistentRun, Kept, AsRead}
 use Rattle.laws.specs.Seen.{Seen, Right}
-use Rattle.bytes32.specs.Words.{encodeWords, over, ints}
-use Rattle.bytes32.proofs.Words.{length-ints, length-encode}
-use Rattle.network.specs.declared.Arc.{Arc}
-use Rattle.network.specs.Network.{arcs, costOf}
-use Rattle.network.specs.Input.{rows}
-use Rattle.network.specs.FullList.{fullList}
-use Rattle.network_questions.proofs.Accepted.{accepted-net}
-use Rattle.calls.specs.Replies.{failed, codeOf}
-use Rattle.flow_bytes.specs.NetworkBytes.{net}
-use Rattle.flow_bytes.proofs.NetworkLines.{full-flows}
-use Rattle.network_calls.specs.NetworkCalls.{Lent, NetCall, lent, number, Wrote}
-use Rattle.network_calls.specs.NetworkRun.{NoLine, Answers}
-use Rattle.network_calls.proofs.NetworkRun.{accepts, network-run, flow-copied}
-use Rattle.book.specs.Told.{Told}
-use Rattle.allocation.specs.BookBytes.{ways, size, costOf as bookCost}
-use Rattle.book_calls.specs.BookCalls.{BookCall, lent as bookLent, number as bookNumber, Wrote as BookWrote}
-use Rattle.book_calls.specs.BookRun.{AnswersBook}
-use Rattle.book_calls.proofs.BookRun.{book-run, full as full-ways, accepts as accepts-book}
+use Rattle.bytes_read.specs.Words.{encodeWords, over, ints}
+use Rattle.bytes_read.proofs.Words.{length-ints, length-encode}
+use Rattle.net_model.specs.declared.Arc.{Arc}
+use Rattle.net_model.specs.Network.{arcs, costOf}
+use Rattle.net_model.specs.Input.{rows}
+use Rattle.net_model.specs.FullList.{fullList}
+use Rattle.net_questions.proofs.Accepted.{accepted-net}
+use Rattle.call_reply.specs.Replies.{failed, codeOf}
+use Rattle.call_flow_bytes.specs.NetworkBytes.{net}
+use Rattle.call_flow_bytes.proofs.NetworkLines.{full-flows}
+use Rattle.call_network.specs.NetworkCalls.{Lent, NetCall, lent, number, Wrote}
+use Rattle.call_network.specs.NetworkRun.{NoLine, Answers}
+use Rattle.call_network.proofs.NetworkRun.{accepts, network-run, flow-copied}
+use Rattle.book_form.specs.Told.{Told}
+use Rattle.way_theory.specs.BookBytes.{ways, size, costOf as bookCost}
+use Rattle.call_book.specs.BookCalls.{BookCall, lent as bookLent, number as bookNumber, Wrote as BookWrote}
+use Rattle.call_book.specs.BookRun.{AnswersBook}
+use Rattle.call_book.proofs.BookRun.{book-run, full as full-ways, accepts as accepts-book}
 use Rattle.demands.specs.Demands.{WalkFlowsDemands, WalkWaysDemands, madeOf}
 
 module _ {F N Lists : Type 0} (Tells : ℕ → ℕ → Type 0) (cost : List ℕ → ℤ) (lent : Call F (List ℕ) N → Lists)

@@ -12,34 +12,34 @@ use Rattle.laws.specs.Equality.{same-list}
 use Rattle.laws.specs.Run.{first, next, off, Strange}
 use Rattle.laws.specs.Seen.{Seen}
 use Rattle.laws.specs.Count.{counted, count}
-use Rattle.bytes32.specs.Words.{encodeWords}
-use Rattle.network.specs.Network.{costOf}
-use Rattle.network.specs.Accepted.{AcceptedNet}
-use Rattle.network.specs.FullList.{fullList}
-use Rattle.network_questions.specs.Questions.{refusal}
-use Rattle.calls.specs.declared.Reply.{Reply}
-use Rattle.calls.specs.Replies.{sees, countReply}
-use Rattle.flow_bytes.specs.NetworkBytes.{net}
-use Rattle.network_calls.specs.NetworkCalls.{Lent, NetCall, lends, number, refuses}
-use Rattle.network_calls.specs.NetworkRun.{NoLine, ConsistentNetwork, KeptNetwork, ReadNetwork, WalksNetwork, ListsNetwork}
-use Rattle.network_calls.specs.FirstFlow.{Finds, FindsNone}
-use Rattle.lines.specs.Columns.{nobody}
-use Rattle.book.specs.Book.{Book, parse}
-use Rattle.book.specs.Questions.{refusal as bookRefusal}
-use Rattle.book.specs.Checked.{entriesOf}
+use Rattle.bytes_read.specs.Words.{encodeWords}
+use Rattle.net_model.specs.Network.{costOf}
+use Rattle.net_model.specs.Accepted.{AcceptedNet}
+use Rattle.net_model.specs.FullList.{fullList}
+use Rattle.net_questions.specs.Questions.{refusal}
+use Rattle.call_reply.specs.declared.Reply.{Reply}
+use Rattle.call_reply.specs.Replies.{sees, countReply}
+use Rattle.call_flow_bytes.specs.NetworkBytes.{net}
+use Rattle.call_network.specs.NetworkCalls.{Lent, NetCall, lends, number, refuses}
+use Rattle.call_network.specs.NetworkRun.{NoLine, ConsistentNetwork, KeptNetwork, ReadNetwork, WalksNetwork, ListsNetwork}
+use Rattle.call_network.specs.FirstFlow.{Finds, FindsNone}
+use Rattle.book_lines.specs.Columns.{nobody}
+use Rattle.book_form.specs.Book.{Book, parse}
+use Rattle.book_form.specs.Questions.{refusal as bookRefusal}
+use Rattle.book_form.specs.Checked.{entriesOf}
 use Rattle.book_names.specs.declared.Span.{Span}
 use Rattle.book_names.specs.Name.{nameRefusal}
 use Rattle.book_names.specs.BookNames.{part, placeOf}
-use Rattle.book.specs.Told.{Told}
-use Rattle.allocation.specs.BookNet.{bookNet}
-use Rattle.allocation.specs.WayFlow.{flowOf}
-use Rattle.allocation.specs.BookBytes.{ways, size, costIn, costOf as wayCost}
-use Rattle.book_calls.specs.BookCalls.{BookCall, number as bookNumber, refuses as bookRefuses}
-use Rattle.book_calls.specs.BookRun.{ConsistentBook, KeptBook, ReadBook, WalksBook, ListsBook}
-use Rattle.book_calls.specs.FirstWay.{FindsWay, FindsNoWay}
-use Rattle.listing.specs.Fit.{fit}
-use Rattle.way_listing.specs.WayListing.{listWays}
-use Rattle.book_listing.specs.Listing.{listing}
+use Rattle.book_form.specs.Told.{Told}
+use Rattle.way_theory.specs.BookNet.{bookNet}
+use Rattle.way_theory.specs.WayFlow.{flowOf}
+use Rattle.way_theory.specs.BookBytes.{ways, size, costIn, costOf as wayCost}
+use Rattle.call_book.specs.BookCalls.{BookCall, number as bookNumber, refuses as bookRefuses}
+use Rattle.call_book.specs.BookRun.{ConsistentBook, KeptBook, ReadBook, WalksBook, ListsBook}
+use Rattle.call_book.specs.FirstWay.{FindsWay, FindsNoWay}
+use Rattle.text_write.specs.Fit.{fit}
+use Rattle.way_list.specs.WayListing.{listWays}
+use Rattle.call_listing.specs.Listing.{listing}
 
 -- Demand 1. That every call ends and keeps to the memory lent to it is what the prover shows of every function. It "answers each bad book or network
 -- with the number of the first question it fails and changes nothing, and refuses nothing else". s is what is seen of a call that is lent l.

@@ -3,11 +3,11 @@ ghost use mathlib.Core.Option.{none, some};
 ghost use Prim.Native.Nat.{_*_, _/_};
 ghost use lib.ListN.{length, take};
 ghost use Rattle.laws.specs.Run.{first, next};
-ghost use Rattle.calls.specs.Replies.{sees};
-ghost use Rattle.network_calls.specs.NetworkCalls.{lends};
+ghost use Rattle.call_reply.specs.Replies.{sees};
+ghost use Rattle.call_network.specs.NetworkCalls.{lends};
 ghost use Rattle.demands.specs.Demands.{FirstFlowDemands, NextFlowDemands, CountFlowsDemands, WalkFlowsDemands, FirstWayDemands, NextWayDemands, CountWaysDemands, ListingDemands, NameDemands, WalkWaysDemands, madeOf};
 use book_names::Span;
-use calls::Reply;
+use call_reply::Reply;
 
 pub fn first_flow(balances: &[u8], arcs: &[u8], flows: &mut [u8]) -> Reply
     ensures { λ r. ⌜ FirstFlowDemands (now (balances .entry)) (now (arcs .entry)) (lends (now (flows .entry)) none) (sees r (lends (now (flows .exit)) none)) ⌝ }

@@ -13,8 +13,8 @@ use Rattle.laws.specs.Divergence.{at, at-same, at-other, div}
 use Rattle.laws.specs.Linear.{lin, given, given4}
 use Rattle.laws.specs.Range.{Bounded, bounded-add, bounded-neg, bounded-zero, bounded-more, bounded-fits}
 use Rattle.laws.specs.Sum.{sum}
-use Rattle.network.specs.Network.{on}
-use Rattle.certificates.specs.Push.{at-neg}
+use Rattle.net_model.specs.Network.{on}
+use Rattle.net_theory.specs.Push.{at-neg}
 use Rattle.flow_test.specs.Excess.{SmallNumbers, Excesses}
 
 at-bounded : (u v B : ℕ) (x : ℤ) → Bounded B x → Bounded B (at u v x)

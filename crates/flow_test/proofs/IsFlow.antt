@@ -8,9 +8,9 @@ use native.Mathlib.Decide.{ℕ-discrete}
 use lib.ListN.{length, getD}
 use lib.IntN.{ℤ, pos, _-ℤ_}
 use Rattle.laws.specs.Linear.{lin, given}
-use Rattle.network.specs.Network.{netOut, balance, IsFlow}
-use Rattle.certificates.specs.Push.{InBounds}
-use Rattle.certificates.specs.Graph.{graph, netWith}
+use Rattle.net_model.specs.Network.{netOut, balance, IsFlow}
+use Rattle.net_theory.specs.Push.{InBounds}
+use Rattle.net_theory.specs.Graph.{graph, netWith}
 use Rattle.flow_test.specs.Excess.{supplies, SmallNumbers, Excesses}
 use Rattle.flow_test.specs.FlowTest.{Given, Decides, IsFlowTest}
 

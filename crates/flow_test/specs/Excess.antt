@@ -5,9 +5,9 @@ use Prim.Native.Nat.{ℕ, _≤_, _<_}
 use lib.ListN.{length, getD}
 use lib.IntN.{ℤ, pos}
 use Rattle.laws.specs.Range.{Bounded}
-use Rattle.network.specs.Network.{Net}
-use Rattle.certificates.specs.Feasible.{excess}
-use Rattle.certificates.specs.Graph.{netWith}
+use Rattle.net_model.specs.Network.{Net}
+use Rattle.net_theory.specs.Feasible.{excess}
+use Rattle.net_theory.specs.Graph.{netWith}
 
 -- balances and the ends of arcs, which is all that the excess depends on
 abbrev pub supplies : List ℤ → List ℕ → List ℕ → Net

@@ -6,9 +6,9 @@ use Prim.Native.Nat.{ℕ, _≤_, _<_}
 use lib.ListN.{length, getD}
 use lib.IntN.{ℤ, pos}
 use Rattle.laws.specs.Range.{Bounded}
-use Rattle.network.specs.Network.{IsFlow}
-use Rattle.certificates.specs.Graph.{graph, netWith}
-use Rattle.certificates.specs.Ready.{SmallBounds}
+use Rattle.net_model.specs.Network.{IsFlow}
+use Rattle.net_theory.specs.Graph.{graph, netWith}
+use Rattle.net_theory.specs.Ready.{SmallBounds}
 
 pub record Given (b : List ℤ) (t h l u : List ℕ) (f : List ℕ) : Type 0 where
   pub small : SmallBounds (graph t h l u)

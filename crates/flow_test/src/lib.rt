@@ -5,9 +5,9 @@ ghost use lib.ListN.{length, getD, set};
 ghost use lib.IntN.{pos, negℤ, _+ℤ_};
 ghost use mir.Syntax.{w64};
 ghost use mir.Val.{SFits};
-ghost use Rattle.network.specs.Network.{netOut, balance};
-ghost use Rattle.certificates.specs.Push.{InBounds};
-ghost use Rattle.certificates.specs.Graph.{graph};
+ghost use Rattle.net_model.specs.Network.{netOut, balance};
+ghost use Rattle.net_theory.specs.Push.{InBounds};
+ghost use Rattle.net_theory.specs.Graph.{graph};
 ghost use Rattle.flow_test.specs.Excess.{supplies, SmallNumbers, Excesses};
 ghost use Rattle.flow_test.specs.FlowTest.{Given, Decides, IsFlowTest};
 
@@ -41,7 +41,7 @@ fn copy_balances(balances: &[i32], excess: &mut [i64])
 {
     let mut i = 0;
     while i < balances.len() {
-        let x = bytes32::to_i64(balances[i]);
+        let x = bytes_read::to_i64(balances[i]);
         excess[i] = x;
         i += 1;
     }

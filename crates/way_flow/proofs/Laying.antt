@@ -11,16 +11,16 @@ use Rattle.laws.specs.Padded.{padded, filled, filled-more, filled-all}
 use Rattle.laws.specs.Members.{map-at}
 use Rattle.laws.specs.Suffix.{drop-front}
 use Rattle.laws.specs.Equality.{cons-same}
-use Rattle.book.specs.Book.{Book}
-use Rattle.allocation.specs.Follow.{size}
-use Rattle.allocation.specs.Ways.{times}
-use Rattle.allocation.specs.BookNet.{Arc, sources, joinArc, joinArcs, bookArcs}
-use Rattle.allocation.specs.WayFlow.{hit, marked, joinFlow, flowOf}
-use Rattle.allocation.proofs.Hits.{hit-small}
-use Rattle.allocation.proofs.Blocks.{joinFlow-length}
-use Rattle.allocation.proofs.Rows.{rows, rows-length, in-first, in-second, in-last}
-use Rattle.allocation.proofs.Nodes.{noArc, count-arcs}
-use Rattle.allocation.proofs.Size.{arcs-few}
+use Rattle.book_form.specs.Book.{Book}
+use Rattle.way_theory.specs.Follow.{size}
+use Rattle.way_theory.specs.Ways.{times}
+use Rattle.way_theory.specs.BookNet.{Arc, sources, joinArc, joinArcs, bookArcs}
+use Rattle.way_theory.specs.WayFlow.{hit, marked, joinFlow, flowOf}
+use Rattle.way_theory.proofs.Hits.{hit-small}
+use Rattle.way_theory.proofs.Blocks.{joinFlow-length}
+use Rattle.way_theory.proofs.Rows.{rows, rows-length, in-first, in-second, in-last}
+use Rattle.way_theory.proofs.Nodes.{noArc, count-arcs}
+use Rattle.way_theory.proofs.Size.{arcs-few}
 use Rattle.way_flow.specs.Arcs.{Ends, HasEnds, FlowAt, LaysFlow}
 use Rattle.way_flow.proofs.Reading.{joins-count}
 

@@ -5,17 +5,17 @@ use mathlib.Core.List.{List}
 use Prim.Native.Nat.{ℕ}
 use lib.ListN.{length, take}
 use Rattle.laws.specs.Padded.{padded, take-padded}
-use Rattle.network.specs.declared.Network.{Network}
-use Rattle.network.specs.Network.{Net, IsFlow, LeastCost}
-use Rattle.network.specs.Struct.{netIn}
-use Rattle.book.specs.Book.{Book}
-use Rattle.book.specs.WithinLimits.{WithinLimits}
-use Rattle.allocation.specs.Follow.{size}
-use Rattle.allocation.specs.Ways.{LeastCostWay}
-use Rattle.allocation.specs.BookNet.{bookNet}
-use Rattle.allocation.specs.WayFlow.{flowOf, wayOf}
-use Rattle.allocation.proofs.Matched.{flow-back}
-use Rattle.allocation.proofs.Given.{given-least}
+use Rattle.net_model.specs.declared.Network.{Network}
+use Rattle.net_model.specs.Network.{Net, IsFlow, LeastCost}
+use Rattle.net_model.specs.Struct.{netIn}
+use Rattle.book_form.specs.Book.{Book}
+use Rattle.book_form.specs.WithinLimits.{WithinLimits}
+use Rattle.way_theory.specs.Follow.{size}
+use Rattle.way_theory.specs.Ways.{LeastCostWay}
+use Rattle.way_theory.specs.BookNet.{bookNet}
+use Rattle.way_theory.specs.WayFlow.{flowOf, wayOf}
+use Rattle.way_theory.proofs.Matched.{flow-back}
+use Rattle.way_theory.proofs.Given.{given-least}
 use Rattle.way_flow.specs.Arcs.{Ends, ReadsWay, LaysFlow}
 use Rattle.way_flow.proofs.Laying.{flow-long}
 

@@ -12,17 +12,17 @@ use lib.ListN.{length, getD, set, drop, replicate, length-map, List·getD-map, L
 use lib.Seq.{drop-cons, sets, sets-eq}
 use Rattle.laws.specs.Members.{_∈_, every-member, getD-member}
 use Rattle.laws.specs.Ascending.{Ascending}
-use Rattle.network.specs.Network.{tail}
-use Rattle.book.specs.Book.{Book}
-use Rattle.allocation.specs.Follow.{size}
-use Rattle.allocation.specs.Ways.{Joined}
-use Rattle.allocation.specs.BookNet.{Arc, sources, joinArc, joinArcs, bookArcs, bookNet}
-use Rattle.allocation.specs.WayFlow.{hit, marked, joinFlow}
-use Rattle.allocation.proofs.Hits.{hit-same, hit-other, Above}
-use Rattle.allocation.proofs.Blocks.{sources-fall, source, joinFlow-length, joins-member}
-use Rattle.allocation.proofs.Nodes.{noArc, arcs-parts}
-use Rattle.allocation.proofs.Arcs.{well-formed}
-use Rattle.allocation.proofs.Size.{nodes-few}
+use Rattle.net_model.specs.Network.{tail}
+use Rattle.book_form.specs.Book.{Book}
+use Rattle.way_theory.specs.Follow.{size}
+use Rattle.way_theory.specs.Ways.{Joined}
+use Rattle.way_theory.specs.BookNet.{Arc, sources, joinArc, joinArcs, bookArcs, bookNet}
+use Rattle.way_theory.specs.WayFlow.{hit, marked, joinFlow}
+use Rattle.way_theory.proofs.Hits.{hit-same, hit-other, Above}
+use Rattle.way_theory.proofs.Blocks.{sources-fall, source, joinFlow-length, joins-member}
+use Rattle.way_theory.proofs.Nodes.{noArc, arcs-parts}
+use Rattle.way_theory.proofs.Arcs.{well-formed}
+use Rattle.way_theory.proofs.Size.{nodes-few}
 use Rattle.way_flow.specs.Arcs.{Ends, ReadsWay}
 
 -- an arc from t to h with x, noted in y

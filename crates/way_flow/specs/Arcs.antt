@@ -4,12 +4,12 @@ use mathlib.Core.List.{List, map}
 use Prim.Native.Nat.{ℕ}
 use lib.ListN.{getD}
 use Rattle.laws.specs.Padded.{padded}
-use Rattle.book.specs.Book.{Book}
-use Rattle.book.specs.WithinLimits.{WithinLimits}
-use Rattle.allocation.specs.Follow.{size}
-use Rattle.allocation.specs.Ways.{IsWay}
-use Rattle.allocation.specs.BookNet.{bookArcs}
-use Rattle.allocation.specs.WayFlow.{flowOf}
+use Rattle.book_form.specs.Book.{Book}
+use Rattle.book_form.specs.WithinLimits.{WithinLimits}
+use Rattle.way_theory.specs.Follow.{size}
+use Rattle.way_theory.specs.Ways.{IsWay}
+use Rattle.way_theory.specs.BookNet.{bookArcs}
+use Rattle.way_theory.specs.WayFlow.{flowOf}
 
 -- they are those of the book b, of e entries
 pub record Ends (b : Book) (e : ℕ) (tails heads : List ℕ) : Type 0 where

@@ -4,8 +4,8 @@ ghost use mathlib.Core.Bool.{cond};
 ghost use Prim.Native.Nat.{_-_, _/_, _≤_, _<_};
 ghost use lib.Dec.{eqb};
 ghost use lib.ListN.{length, set};
-ghost use Rattle.allocation.specs.Ways.{times};
-ghost use Rattle.allocation.specs.WayFlow.{hit};
+ghost use Rattle.way_theory.specs.Ways.{times};
+ghost use Rattle.way_theory.specs.WayFlow.{hit};
 ghost use Rattle.way_flow.specs.Arcs.{HasEnds, HasFlow, ReadsWay, FlowAt, LaysFlow};
 
 // An arc that carries 1 from node t to node h, noted in the way: entry (h + 1) / 2 has predecessor t / 2.

@@ -2,10 +2,10 @@
 use Prim.Native.Nat.{_+_}
 use borrow.Author.Needs.{needs}
 use borrow.Author.Tests.{not-true, not-false}
-use Rattle.text.specs.Reader.{Reader, _>>=_, _>>_, give, bytes, text, many}
-use Rattle.lines.specs.Lines.{move, entry}
-use Rattle.book.specs.Book.{Book, book}
-use Rattle.text.proofs.Sequence.{From, part, part-part, begin, first, first-stops, next}
+use Rattle.text_read.specs.Reader.{Reader, _>>=_, _>>_, give, bytes, text, many}
+use Rattle.book_lines.specs.Lines.{move, entry}
+use Rattle.book_form.specs.Book.{Book, book}
+use Rattle.text_read.proofs.Sequence.{From, part, part-part, begin, first, first-stops, next}
 use Rattle.book_check.specs.Closing.{Closing}
 use Rattle.book_check.proofs.Form.{parse-fails, parse-closed, parse-open, closing-part, placed-part}
 use Rattle.book_check.proofs.Judged.{long-right, form-right, Found, judged-right}

@@ -3,10 +3,10 @@ use Prim.Native.Nat.{_+_}
 use native.Mathlib.Omega.{arith}
 use borrow.Author.Needs.{needs}
 use lib.ListN.{drop, getD}
-use Rattle.text.specs.Reader.{_>>=_, _>>_, give, bytes, row}
-use Rattle.book.specs.Book.{opening}
-use Rattle.text.proofs.Runs.{absent}
-use Rattle.text.proofs.Sequence.{From, begin, first, first-stops, next-right, stops}
+use Rattle.text_read.specs.Reader.{_>>=_, _>>_, give, bytes, row}
+use Rattle.book_form.specs.Book.{opening}
+use Rattle.text_read.proofs.Runs.{absent}
+use Rattle.text_read.proofs.Sequence.{From, begin, first, first-stops, next-right, stops}
 use Rattle.book_check.proofs.Form.{opening-present}
 use Rattle.book_check.proofs.read_opening.Statement.{statement}
 use Rattle.book_check.proofs.read_opening.Tie as tie

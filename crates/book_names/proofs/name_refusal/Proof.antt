@@ -1,7 +1,7 @@
 -- `name_refusal` meets its contract.
 use mathlib.Core.Path.{_≡_, sym, _∙_}
 use borrow.Author.Needs.{needs}
-use Rattle.book.specs.Questions.{refusal}
+use Rattle.book_form.specs.Questions.{refusal}
 use Rattle.book_names.proofs.Naming.{refused-first, refused-outside, not-refused}
 use Rattle.book_names.proofs.name_refusal.Statement.{statement}
 use Rattle.book_names.proofs.name_refusal.Tie as tie

@@ -2,8 +2,8 @@ use mathlib.Core.Path.{refl}
 use mathlib.Core.Bool.{true, false}
 use borrow.Author.Needs.{needs}
 use borrow.Author.Tests.{not-true, not-false}
-use Rattle.certificates.specs.Push.{InBounds}
-use Rattle.certificates.specs.Graph.{graph}
+use Rattle.net_theory.specs.Push.{InBounds}
+use Rattle.net_theory.specs.Graph.{graph}
 use Rattle.flow_test.proofs.IsFlow.{decided, small-numbers, out-of-bounds, in-bounds}
 use Rattle.flow_test.proofs.is_flow.Statement.{statement}
 use Rattle.flow_test.proofs.is_flow.Tie as tie

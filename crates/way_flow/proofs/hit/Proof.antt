@@ -1,7 +1,7 @@
 use Rattle.way_flow.proofs.hit.Statement.{statement}
 use Rattle.way_flow.proofs.hit.Tie as tie
 use mathlib.Core.Path.{sym}
-use Rattle.allocation.proofs.Hits.{hit-same, hit-other}
+use Rattle.way_theory.proofs.Hits.{hit-same, hit-other}
 
 returns : tie.Need-returns
 returns c = sym (hit-same (c .before .args .a) (c .before .args .b) (c .if1 .taken))

@@ -4,7 +4,7 @@ use Prim.Native.Nat.{_-_}
 use native.Mathlib.Omega.{arith}
 use lib.ListN.{getD}
 use borrow.Author.Needs.{needs}
-use Rattle.allocation.proofs.Hits.{hit-small}
+use Rattle.way_theory.proofs.Hits.{hit-small}
 use Rattle.way_flow.proofs.Laying.{Counting, counting-start, counting-on, counting-done}
 
 abbrev Inv-loop : tie.InvT-loop

@@ -1,0 +1,68 @@
+// The calls of a network, as `desk` hands them to C: each ensures what a caller sees of it, refused calls included.
+ghost use Rattle.call_network.specs.NetworkEntries.{NetworkFirst, NetworkFirstPriced, NetworkNext, NetworkCount};
+use call_reply::Reply;
+
+// The first least-cost flow, or "none". Questions 1 to 7.
+pub fn first(balances: &[u8], arcs: &[u8], flows: &mut [u8]) -> Reply
+    ensures { λ r. ⌜ NetworkFirst (now (balances .entry)) (now (arcs .entry)) (now (flows .entry)) r (now (flows .exit)) ⌝ }
+{
+    let begun = call_flow_bytes::begin(balances, arcs, flows.len());
+    let number = begun.number;
+    if number != 0 {
+        return call_reply::word(number);
+    }
+    let net = begun.net;
+    let walk = flow_enumerate::start(net).first();
+    call_flow_bytes::hand_out(walk, flows, 100)
+}
+
+// The same, with its prices.
+pub fn first_priced(balances: &[u8], arcs: &[u8], flows: &mut [u8], prices: &mut [u8]) -> Reply
+    ensures { λ r. ⌜ NetworkFirstPriced (now (balances .entry)) (now (arcs .entry)) (now (flows .entry)) (now (prices .entry)) r (now (flows .exit)) (now (prices .exit)) ⌝ }
+{
+    let begun = call_flow_bytes::begin(balances, arcs, flows.len());
+    let number = begun.number;
+    if number != 0 {
+        return call_reply::word(number);
+    }
+    let net = begun.net;
+    if !call_reply::has_room(net.nodes, prices.len()) {
+        return call_reply::word(7);
+    }
+    let walk = flow_enumerate::start(net).first();
+    call_flow_bytes::hand_prices(walk, prices);
+    call_flow_bytes::hand_out(walk, flows, 100)
+}
+
+// The least-cost flow after the one given, or "end". Questions 1 to 8.
+pub fn next(balances: &[u8], arcs: &[u8], given: &[u8], flows: &mut [u8]) -> Reply
+    ensures { λ r. ⌜ NetworkNext (now (balances .entry)) (now (arcs .entry)) (now (given .entry)) (now (flows .entry)) r (now (flows .exit)) ⌝ }
+{
+    let begun = call_flow_bytes::begin(balances, arcs, flows.len());
+    let number = begun.number;
+    if number != 0 {
+        return call_reply::word(number);
+    }
+    let net = begun.net;
+    let walk = call_flow_bytes::find(net, given);
+    let place = walk.place;
+    if !call_reply::on_line(place) {
+        return call_reply::word(8);
+    }
+    call_flow_bytes::hand_out(walk.next(), flows, 101)
+}
+
+// How many least-cost flows there are, up to the cap. Questions 1 to 6.
+pub fn count(balances: &[u8], arcs: &[u8], cap: u16) -> Reply
+    ensures { λ r. ⌜ NetworkCount (now (balances .entry)) (now (arcs .entry)) cap r ⌝ }
+{
+    let checked = net_check::check(balances, arcs);
+    let verdict = checked.verdict;
+    let number = call_flow_bytes::number_of(verdict);
+    if number != 0 {
+        return call_reply::word(number);
+    }
+    let net = checked.net;
+    let count = flow_enumerate::start(net).count(cap);
+    call_reply::count_reply(count, cap)
+}

@@ -1,0 +1,61 @@
+use mathlib.Core.Path.{_≡_, refl, ap, _∙_}
+use mathlib.Core.List.{[]}
+use Prim.Native.Nat.{_-_}
+use native.Mathlib.Omega.{arith}
+use Rattle.net_model.specs.Network.{Net}
+use Rattle.net_theory.specs.Graph.{costGraph}
+use Rattle.flow_negative_cycle.specs.Predecessors.{back, ended, went}
+use Rattle.flow_negative_cycle.proofs.Ways.{Going, arc-of, going-none, going-more, going-ends}
+use Rattle.flow_negative_cycle.proofs.go_back.Statement.{statement}
+use Rattle.flow_negative_cycle.proofs.go_back.Tie as tie
+
+abbrev Inv-loop : tie.InvT-loop
+Inv-loop tails heads preds v m w₀ -i₀ w -i = Going (costGraph tails heads [] [] []) preds v -i w
+
+abbrev μ-loop : tie.MeasureT-loop
+μ-loop tails heads preds v m w₀ -i₀ w -i = 64 - -i
+
+abbrev net : tie.Start Inv-loop μ-loop → Net
+net s = costGraph (s .args .tails .now) (s .args .heads .now) [] [] []
+
+add-m : tie.Need-add-m Inv-loop μ-loop
+add-m c = omega (arith, c .before .before .before .pre .0 .few)
+
+loop-holds : tie.Need-loop-holds Inv-loop μ-loop
+loop-holds c = let s = c .before .before .before in going-none (net s) (s .pre .0) (s .args .preds .now) (s .args .v) (s .pre .2)
+
+mul-c : tie.Need-mul-c Inv-loop μ-loop
+mul-c c = omega (arith, c .before .loop .inv .node)
+
+shared-slice-read-c : tie.Need-shared-slice-read-c Inv-loop μ-loop
+shared-slice-read-c c = omega (arith, c .before .before .before .before .before .before .pre .1, c .before .before .loop .inv .node)
+
+cast-c : tie.Need-cast-c Inv-loop μ-loop
+cast-c c = omega (arith, c .shared-slice-known4 .given (c .before .before .loop .w))
+
+returns : tie.Need-returns Inv-loop μ-loop
+returns c =
+    let l = c .before .before .before .loop in
+    let s = c .before .before .before .before .before .before .before in
+    ended refl (l .-i) (going-ends (net s) (s .pre .0) (s .args .preds .now) (s .args .v) (l .-i) (l .w) (l .inv) (omega arith) (omega arith))
+
+source-requires : tie.Need-source-requires Inv-loop μ-loop
+source-requires c κs = let s = c .before .before .before .before .before .before .before in arc-of (net s) (s .pre .0) (s .args .preds .now) _ (omega arith)
+
+loop-again : tie.Need-loop-again Inv-loop μ-loop
+loop-again c =
+    let l = c .before .before .before .before .loop in
+    let s = c .before .before .before .before .before .before .before .before in
+    going-more (net s) (s .pre .0) (s .args .preds .now) (s .args .v) (l .-i) (l .w) (c .source .result) (l .inv) (omega arith) (omega arith) (c .source .ensures)
+
+returns-2 : tie.Need-returns-2 Inv-loop μ-loop
+returns-2 c =
+    let s = c .before .before .before .before .before in
+    let e : c .before .loop .-i ≡ 64 = omega (arith, c .before .loop .inv .few) in
+    went (c .before .loop .inv .is ∙ ap (λ i. back (net s) (s .args .preds .now) i (s .args .v)) e) (λ i l. c .before .loop .inv .steps i (omega arith))
+
+pub go-back-spec : {M : Type 1} → statement M
+go-back-spec =
+    tie.close
+    (tie.spec Inv-loop μ-loop add-m loop-holds mul-c shared-slice-read-c cast-c returns source-requires (λ c. omega arith) (λ c. omega arith)
+    loop-again returns-2)

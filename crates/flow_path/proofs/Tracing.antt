@@ -1,0 +1,41 @@
+-- From a search to a path, or to a set of nodes that no code leaves.
+use mathlib.Core.Path.{_≡_}
+use mathlib.Core.List.{List}
+use mathlib.Core.Bool.{Bool}
+use Prim.Native.Nat.{ℕ, _+_, _<_}
+use native.Mathlib.Omega.{arith}
+use native.Mathlib.Numerals.{add-one}
+use lib.Dec.{ltb}
+use lib.ListN.{length, getD, set, take}
+use lib.Seq.{take-suc-set}
+use borrow.Author.Tests.{ltb-true, lt-ltb, le-ltb}
+use Rattle.net_model.specs.Network.{Net}
+use Rattle.net_model.specs.Residual.{codes, src, dst}
+use Rattle.net_theory.specs.Reach.{Falls, TracedAny, any-step, tree-falls}
+use Rattle.net_theory.specs.FreeArcs.{goes, Path, Blocked}
+use Rattle.net_theory.specs.Ready.{Searchable}
+use Rattle.flow_path.specs.Reaching.{ReachedOf}
+use Rattle.flow_path.proofs.Codes.{src-in}
+
+pub trace-more : (n hi : ℕ) (sr ds : ℕ → ℕ) (rank via codes : List ℕ) (t v len w : ℕ) → len < length codes → v < n → 1 < getD rank v 0 → w ≡ sr (getD via v 0)
+    → TracedAny n hi sr ds rank via t (λ _. v) (take len codes)
+    → TracedAny n hi sr ds rank via t (λ _. w) (take (len + 1) (set codes len (getD via v 0)))
+trace-more n hi sr ds rank via codes t v len w l k h e tr =
+    rw (e, add-one len, take-suc-set codes len (getD via v 0) l) (any-step n hi sr ds rank via t v (take len codes) k h tr)
+
+module _ (N : Net) (f : List ℕ) (free : List Bool) (s t from : ℕ) (rank via : List ℕ) (count : ℕ) (r : ReachedOf 64 N f free s from t rank via count) where
+  pub reach-blocked : getD rank t 0 ≡ 0 → Blocked N f free s t from
+  reach-blocked e = record {
+    inside = λ v. ltb 0 (getD rank v 0);
+    has = lt-ltb 0 (getD rank s 0) (omega (arith, r .tree .root));
+    lacks = le-ltb 0 (getD rank t 0) (omega arith);
+    shut = λ c l h g i. lt-ltb 0 (getD rank (dst N c) 0) (r .shut e c l h g (ltb-true 0 (getD rank (src N c) 0) i));
+  }
+
+  pub reach-falls : Searchable 64 N f free → Falls 64 (codes N) (src N) rank via
+  reach-falls ok = tree-falls 64 (from + from) (codes N) (src N) (dst N) (goes N f free) s rank via count (r .tree) (λ c h. src-in 64 N f free ok c h)
+
+  pub reach-path : (cs : List ℕ) → TracedAny 64 (codes N) (src N) (dst N) rank via t (λ s. s) cs → Path N f free s t from cs
+  reach-path cs tr =
+      let d = tr (from + from) (goes N f free) s count (r .tree) in
+      record { trail = d .way; distinct = d .distinct; low = d .low; passes = d .goes }

@@ -1,0 +1,34 @@
+use mathlib.Core.Path.{_≡_, refl}
+use Prim.Native.Nat.{ℕ, _-_, _≤_, _<_}
+use native.Mathlib.Omega.{arith}
+use lib.ListN.{length, getD, length-set}
+use borrow.Author.Needs.{needs}
+use Rattle.laws.specs.Padded.{set-more}
+use Rattle.flow_path.proofs.clear.Statement.{statement}
+use Rattle.flow_path.proofs.clear.Tie as tie
+
+abbrev Inv-loop : tie.InvT-loop
+Inv-loop rank₀ i₀ rank i = (length rank ≡ length rank₀) × (i ≤ length rank) × ((v : ℕ) → v < i → getD rank v 0 ≡ 0)
+
+abbrev μ-loop : tie.MeasureT-loop
+μ-loop rank₀ i₀ rank i = length rank - i
+
+loop-holds : tie.Need-loop-holds Inv-loop μ-loop
+loop-holds c = (refl, omega arith, λ v h. absurd (omega arith))
+
+loop-less : tie.Need-loop-less Inv-loop μ-loop
+loop-less c = simp length-set (omega arith)
+
+loop-again : tie.Need-loop-again Inv-loop μ-loop
+loop-again c = let a = c .before .loop in (simp length-set (a .inv .0), simp length-set (omega arith), set-more (λ v x. x ≡ 0) (a .rank) (a .i) 0 0 (c .loop-test .taken) (a .inv .2) refl)
+
+same-length : tie.Need-same-length Inv-loop μ-loop
+same-length c = c .before .loop .inv .0
+
+returns : tie.Need-returns Inv-loop μ-loop
+returns c = λ v h. c .before .loop .inv .2 v (omega (arith, c .loop-test .left))
+
+pub clear-spec : {M : Type 1} → statement M
+clear-spec =
+    tie.close
+    (tie.spec Inv-loop μ-loop loop-holds (λ c. search needs) (λ c. search needs) (λ c. search needs) loop-less loop-again same-length returns)
