@@ -5,6 +5,7 @@ pub mod Optimality
 pub mod Cuts
 pub mod Push
 pub mod FreeArcs
+pub mod Limits
 pub mod Ready
 pub mod Reach
 pub mod Order
