@@ -20,12 +20,12 @@ use Rattle.book_form.specs.declared.Answer.{Answer}
 use Rattle.book_form.specs.declared.Answer.the-variants.{Accepted, TooLong, Malformed, BadHeader, BadMove, BadEntry, TooMany}
 use Rattle.book_lines.specs.Lines.{Entry}
 use Rattle.book_form.specs.Book.{Book, parse}
-use Rattle.book_form.specs.Questions.{header, askBook, refusal, questionOf, lineOf}
+use Rattle.book_form.specs.Questions.{header, askBook, bookRefusal, questionOf, lineTold}
 use Rattle.book_form.specs.Told.{ToldOf, Told}
-use Rattle.book_lines.specs.Questions.{moves, entries, all}
+use Rattle.book_lines.specs.Questions.{moves, entries, allPass}
 use Rattle.book_lines.specs.Columns.{table, nobody}
-use Rattle.book_form.specs.Checked.{filled, empty, unlessRefused, checkedBook}
-use Rattle.book_lines.specs.Passes.{Verdict, kept, columnsOf, Placed}
+use Rattle.book_form.specs.Checked.{checkedOf, noBook, checkedUnless, checkedBook}
+use Rattle.book_lines.specs.Passes.{LinesVerdict, kept, columnsOf, Placed}
 use Rattle.book_form.specs.Steps.{answerOf, headerBad, heldOf, judgedOf}
 use Rattle.book_lines.proofs.Verdicts.{verdict-none, verdict-more}
 use Rattle.book_lines.proofs.MovePass.{kept-all}
@@ -34,17 +34,17 @@ use Rattle.book_form.proofs.Told.{told-header, told-move, told-entry, none-told
 use Rattle.book_check.specs.Judged.{Lies, Judged}
 
 -- some line fails
-not-all : (l : List Bool) (n : ℕ) → getD l n true ≡ false → all l ≡ false
-unfolding all
+not-all : (l : List Bool) (n : ℕ) → getD l n true ≡ false → allPass l ≡ false
+unfolding allPass
 not-all [] n e = absurd (mathlib.Core.Bool.true≢false e)
 not-all (a ∷ l) zero e = rw e
 not-all (true ∷ l) (suc n) e = not-all l n e
 not-all (false ∷ l) (suc n) e = refl
 
-asked : (s : List ℕ) (b : Book) → length s ≤ 16384 → parse s ≡ some b → refusal s ≡ askBook b
+asked : (s : List ℕ) (b : Book) → length s ≤ 16384 → parse s ≡ some b → bookRefusal s ≡ askBook b
 asked s b h e = rw (le-leb (length s) 16384 h, e)
 
-refused-right : (s : List ℕ) (r : Checked) (a : Answer) (q : ℕ) → r ≡ record { answer = a; book = empty } → refusal s ≡ suc q → questionOf a ≡ suc q → Told s (questionOf a) (lineOf a) → Judged s r
+refused-right : (s : List ℕ) (r : Checked) (a : Answer) (q : ℕ) → r ≡ record { answer = a; book = noBook } → bookRefusal s ≡ suc q → questionOf a ≡ suc q → Told s (questionOf a) (lineTold a) → Judged s r
 refused-right s r a q e f g told =
     rw e
     (record {
@@ -55,10 +55,10 @@ refused-right s r a q e f g told =
     })
 
 -- a refusal by 11, and by 12
-pub long-right : (s : List ℕ) (r : Checked) → r ≡ record { answer = TooLong; book = empty } → 16384 < length s → Judged s r
+pub long-right : (s : List ℕ) (r : Checked) → r ≡ record { answer = TooLong; book = noBook } → 16384 < length s → Judged s r
 long-right s r e h = refused-right s r TooLong 10 e (rw (lt-leb (length s) 16384 h)) refl (untold 11 (λ e. omega arith) (λ e. omega arith) (λ e. omega arith) s)
 
-pub form-right : (s : List ℕ) (r : Checked) → r ≡ record { answer = Malformed; book = empty } → length s ≤ 16384 → parse s ≡ none → Judged s r
+pub form-right : (s : List ℕ) (r : Checked) → r ≡ record { answer = Malformed; book = noBook } → length s ≤ 16384 → parse s ≡ none → Judged s r
 form-right s r e h p = refused-right s r Malformed 11 e (rw (le-leb (length s) 16384 h, p)) refl (untold 12 (λ e. omega arith) (λ e. omega arith) (λ e. omega arith) s)
 
 -- What the passes found of a book that keeps the form.
@@ -66,17 +66,17 @@ pub record Found (s : List ℕ) (o : Opening) (m : Moves) (e : Entries) : Type 0
   pub move-list : List Move
   pub entry-list : List Entry
   pub parsed : parse s ≡ some (record { players = o .players; fee = o .fee; moves = move-list; entries = entry-list })
-  pub moves-judged : Verdict 4 (moves [] move-list) (m .bad)
+  pub moves-judged : LinesVerdict 4 (moves [] move-list) (m .bad)
   pub ticks : m .ticks ≡ table (λ m. m .ticks + 1) (kept [] move-list)
   pub costs : m .costs ≡ table (λ m. m .cost) (kept [] move-list)
   pub count : e .count ≡ length entry-list
-  pub entries-judged : Verdict (4 + length move-list) (entries entry-list) (e .bad)
+  pub entries-judged : LinesVerdict (4 + length move-list) (entries entry-list) (e .bad)
   pub columns : e .columns ≡ columnsOf (length s) (take 28 entry-list)
   pub placed : (n : ℕ) → n < length entry-list → Placed s (getD entry-list n nobody)
 
 held-filled : (o : Opening) (m : Moves) (e : Entries) (total : ℕ) (ms : List Move) (es : List Entry)
     → m .ticks ≡ table (λ m. m .ticks + 1) ms → m .costs ≡ table (λ m. m .cost) ms → e .count ≡ length es → e .columns ≡ columnsOf total es
-    → heldOf o m e ≡ filled total (record { players = o .players; fee = o .fee; moves = ms; entries = es })
+    → heldOf o m e ≡ checkedOf total (record { players = o .players; fee = o .fee; moves = ms; entries = es })
 held-filled o m e total ms es p q r c =
     let c1 = ap (λ (x : Columns). x .instruments) c in
     let c2 = ap (λ (x : Columns). x .starts) c in
@@ -92,13 +92,13 @@ module _ (s : List ℕ) (o : Opening) (m : Moves) (e : Entries) (f : Found s o m
   abbrev A : Answer
   A = answerOf (headerBad o) (m .bad) (e .bad) (e .count)
 
-  header-judged : Verdict 2 (header B) (headerBad o)
+  header-judged : LinesVerdict 2 (header B) (headerBad o)
   header-judged =
       verdict-more (verdict-more (verdict-none 2) (leb 1 (o .players) && leb (o .players) 8) _ 2 (λ _. refl) refl (omega arith)) (leb (o .fee) 1000000) _ 3 (λ _. refl) refl (omega arith)
 
   record Outcome (a : Answer) : Type 0 where
     question : questionOf a ≡ askBook B
-    told : ToldOf B (questionOf a) (lineOf a)
+    told : ToldOf B (questionOf a) (lineTold a)
     passed : questionOf a ≡ 0 → (m .bad ≡ 0) × (length (f .entry-list) ≤ 28)
 
   outcome : Outcome A
@@ -132,18 +132,18 @@ module _ (s : List ℕ) (o : Opening) (m : Moves) (e : Entries) (f : Found s o m
           let t = header-judged .failed (eqb-false (headerBad o) 0 q) in
           record { question = sym (rw (not-all (header B) (t .0) (t .2))); told = told-header B _ t; passed = λ z. absurd (omega arith) }
 
-  fills : questionOf A ≡ 0 → heldOf o m e ≡ filled (length s) B
+  fills : questionOf A ≡ 0 → heldOf o m e ≡ checkedOf (length s) B
   fills q =
       let p = outcome .passed q in
       let taken = kept-all (f .move-list) (f .moves-judged .passed (p .0)) in
       held-filled o m e (length s) (f .move-list) (f .entry-list) (f .ticks ∙ ap (table (λ m. m .ticks + 1)) taken) (f .costs ∙ ap (table (λ m. m .cost)) taken) (f .count)
       (f .columns ∙ ap (columnsOf (length s)) (take-all 28 (f .entry-list) (p .1)))
 
-  book-is : (q : ℕ) → questionOf A ≡ q → cond (eqb q 0) (heldOf o m e) empty ≡ unlessRefused q (length s) (some B)
+  book-is : (q : ℕ) → questionOf A ≡ q → cond (eqb q 0) (heldOf o m e) noBook ≡ checkedUnless q (length s) (some B)
   book-is zero h = fills h
   book-is (suc q) h = rw (eqb·suc-zero q)
 
-  lies-in : (q : ℕ) → questionOf A ≡ q → (x : CheckedBook) → x ≡ unlessRefused q (length s) (some B) → (n : ℕ) → n < x .count
+  lies-in : (q : ℕ) → questionOf A ≡ q → (x : CheckedBook) → x ≡ checkedUnless q (length s) (some B) → (n : ℕ) → n < x .count
       → Lies s (getD (x .names) n 0) (getD (x .lengths) n 0) (getD (f .entry-list) n nobody .name)
   lies-in zero h x e n k =
       let i : n < length (f .entry-list) = omega (arith, ap (λ (y : CheckedBook). y .count) e) in
@@ -161,11 +161,11 @@ module _ (s : List ℕ) (o : Opening) (m : Moves) (e : Entries) (f : Found s o m
         lies = rw (f .parsed) (lies-in (questionOf A) refl _ (book-is (questionOf A) refl));
       }
     where
-      same : refusal s ≡ questionOf A
+      same : bookRefusal s ≡ questionOf A
       same = asked s B h (f .parsed) ∙ sym (outcome .question)
 
-      is : cond (eqb (questionOf A) 0) (heldOf o m e) empty ≡ checkedBook s
+      is : cond (eqb (questionOf A) 0) (heldOf o m e) noBook ≡ checkedBook s
       is =
           book-is (questionOf A) refl
-          ∙ ap (λ (n : ℕ). unlessRefused n (length s) (some B)) (sym same)
-          ∙ ap (λ (x : Option Book). unlessRefused (refusal s) (length s) x) (sym (f .parsed))
+          ∙ ap (λ (n : ℕ). checkedUnless n (length s) (some B)) (sym same)
+          ∙ ap (λ (x : Option Book). checkedUnless (bookRefusal s) (length s) x) (sym (f .parsed))

@@ -6,7 +6,7 @@ use lib.ListN.{length, take, drop, getD}
 use Rattle.book_lines.specs.Columns.{nobody}
 use Rattle.book_form.specs.declared.Checked.{Checked}
 use Rattle.book_form.specs.Book.{parse}
-use Rattle.book_form.specs.Questions.{refusal, questionOf, lineOf}
+use Rattle.book_form.specs.Questions.{bookRefusal, questionOf, lineTold}
 use Rattle.book_form.specs.Told.{Told}
 use Rattle.book_form.specs.Checked.{checkedBook, entriesOf}
 
@@ -18,7 +18,7 @@ pub record Lies (s : List ℕ) (start len : ℕ) (name : List ℕ) : Type 0 wher
 
 -- what a check of the bytes s promises
 pub record Judged (s : List ℕ) (r : Checked) : Type 0 where
-  pub question : questionOf (r .answer) ≡ refusal s
-  pub line : Told s (questionOf (r .answer)) (lineOf (r .answer))
+  pub question : questionOf (r .answer) ≡ bookRefusal s
+  pub line : Told s (questionOf (r .answer)) (lineTold (r .answer))
   pub book : r .book ≡ checkedBook s
   pub lies : (n : ℕ) → n < r .book .count → Lies s (getD (r .book .names) n 0) (getD (r .book .lengths) n 0) (getD (entriesOf (parse s)) n nobody .name)

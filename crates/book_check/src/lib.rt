@@ -8,14 +8,14 @@ use book_lines::entries::read_entries;
 use book_lines::moves::read_moves;
 use text_read::read_row;
 use text_read::read_text;
-ghost use Rattle.text_read.specs.Reader.{Right};
+ghost use Rattle.text_read.specs.Reader.{ReadsFront};
 ghost use Rattle.book_form.specs.Book.{opening};
 ghost use Rattle.book_check.specs.Closing.{Closing};
 ghost use Rattle.book_check.specs.Judged.{Judged};
 
 // Reads the lines `(book`, `(players P)` and `(fee C)`.
 fn read_opening(book: &[u8]) -> Opening
-    ensures { λ r. ⌜ Right (now (book .entry)) (opening (now (book .entry))) (r .used) (r .players, r .fee) ⌝ }
+    ensures { λ r. ⌜ ReadsFront (now (book .entry)) (opening (now (book .entry))) (r .used) (r .players, r .fee) ⌝ }
 {
     let n1 = read_text(book, b"(book\n");
     if n1 == 0 {

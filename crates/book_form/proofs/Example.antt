@@ -3,11 +3,11 @@ use Prim.Native.Nat.{ℕ}
 use mathlib.Core.Path.{_≡_, refl}
 use mathlib.Core.Option.{some}
 use mathlib.Core.List.{List, [], _∷_}
-use Rattle.text_read.specs.Reader.{after, _>>=_, _>>_, give, guard, remaining, bytes, begins, text, front, run, valueFrom, number, word, row, more, upTo, many}
+use Rattle.text_read.specs.Reader.{thenRead, _>>=_, _>>_, give, guard, remaining, bytes, begins, text, front, run, valueFrom, number, word, row, more, upTo, many}
 use Rattle.book_lines.specs.Lines.{move, entry}
-use Rattle.book_lines.specs.Questions.{moves, all}
+use Rattle.book_lines.specs.Questions.{moves, allPass}
 use Rattle.book_form.specs.Book.{opening, book, whole, parse}
-use Rattle.book_form.specs.Questions.{refusal}
+use Rattle.book_form.specs.Questions.{bookRefusal}
 
 abbrev pub sample : List ℕ
 sample =
@@ -23,9 +23,9 @@ sample-read : parse sample ≡ some (record {
       ∷ record { name = bytes "snare2"; left = 21; instrument = 1; start = 240; finish = 300 }
       ∷ [];
 })
-unfolding bytes after _>>=_ _>>_ give guard remaining begins text front run valueFrom number word row more upTo many move entry opening book whole parse
+unfolding bytes thenRead _>>=_ _>>_ give guard remaining begins text front run valueFrom number word row more upTo many move entry opening book whole parse
 sample-read = refl
 
-sample-accepted : refusal sample ≡ 0
-unfolding bytes after _>>=_ _>>_ give guard remaining begins text front run valueFrom number word row more upTo many move entry opening book whole parse moves all
+sample-accepted : bookRefusal sample ≡ 0
+unfolding bytes thenRead _>>=_ _>>_ give guard remaining begins text front run valueFrom number word row more upTo many move entry opening book whole parse moves allPass
 sample-accepted = refl

@@ -13,12 +13,12 @@ use Rattle.book_form.specs.declared.Answer.{Answer}
 use Rattle.book_lines.specs.Lines.{Entry}
 use Rattle.book_form.specs.Questions.{questionOf}
 use Rattle.book_lines.specs.Columns.{column, nobody}
-use Rattle.book_form.specs.Checked.{empty}
+use Rattle.book_form.specs.Checked.{noBook}
 use Rattle.book_form.specs.Steps.{heldOf, judgedOf}
 
 -- the book of a refusal, and of an accepted book
 module _ (a : Answer) (o : Opening) (m : Moves) (e : Entries) where
-  pub judged-refused : (questionOf a ≡ 0 → ⊥) → record { answer = a; book = empty } ≡ judgedOf a o m e
+  pub judged-refused : (questionOf a ≡ 0 → ⊥) → record { answer = a; book = noBook } ≡ judgedOf a o m e
   judged-refused z = rw (ne-eqb (questionOf a) 0 z)
 
   pub judged-held : questionOf a ≡ 0 → (b : CheckedBook) → b ≡ heldOf o m e → record { answer = a; book = b } ≡ judgedOf a o m e

@@ -7,11 +7,11 @@ use Rattle.book_form.specs.declared.CheckedBook.{CheckedBook}
 use Rattle.book_lines.specs.Lines.{Entry}
 use Rattle.book_form.specs.Book.{Book, parse}
 use Rattle.book_lines.specs.Columns.{table, column}
-use Rattle.book_form.specs.Questions.{refusal}
+use Rattle.book_form.specs.Questions.{bookRefusal}
 
 -- `ticks` holds one more than the ticks, so that 0 says that there is no move; `total` is the length of the book
-abbrev pub filled : ℕ → Book → CheckedBook
-filled total b =
+abbrev pub checkedOf : ℕ → Book → CheckedBook
+checkedOf total b =
     record {
       players = b .players;
       fee = b .fee;
@@ -25,8 +25,8 @@ filled total b =
       lengths = column (λ e. length (e .name)) (b .entries);
     }
 
-abbrev pub empty : CheckedBook
-empty =
+abbrev pub noBook : CheckedBook
+noBook =
     record {
       players = 0;
       fee = 0;
@@ -41,13 +41,13 @@ empty =
     }
 
 -- "A "no" gives its number. The rest of the result is then zero"
-abbrev pub unlessRefused : ℕ → ℕ → Option Book → CheckedBook
-unlessRefused zero total (some b) = filled total b
-unlessRefused zero total none = empty
-unlessRefused (suc q) total o = empty
+abbrev pub checkedUnless : ℕ → ℕ → Option Book → CheckedBook
+checkedUnless zero total (some b) = checkedOf total b
+checkedUnless zero total none = noBook
+checkedUnless (suc q) total o = noBook
 
 abbrev pub checkedBook : List ℕ → CheckedBook
-checkedBook s = unlessRefused (refusal s) (length s) (parse s)
+checkedBook s = checkedUnless (bookRefusal s) (length s) (parse s)
 
 -- the entries of a book that keeps the form
 abbrev pub entriesOf : Option Book → List Entry

@@ -6,7 +6,7 @@ use mathlib.Core.List.{List, [], _∷_}
 use lib.ListN.{length}
 use lib.Dec.{leb}
 use Rattle.laws.specs.Tests.{ask}
-use Rattle.book_lines.specs.Questions.{moves, entries, all}
+use Rattle.book_lines.specs.Questions.{moves, entries, allPass}
 use Rattle.book_form.specs.declared.Answer.{Answer}
 use Rattle.book_form.specs.declared.Answer.the-variants.{Accepted, TooLong, Malformed, BadHeader, BadMove, BadEntry, TooMany}
 use Rattle.book_form.specs.Book.{Book, parse}
@@ -17,9 +17,9 @@ header b = (leb 1 (b .players) && leb (b .players) 8) ∷ leb (b .fee) 1000000 �
 
 abbrev pub askBook : Book → ℕ
 askBook b =
-    ask (all (header b)) 13
-    (ask (all (moves [] (b .moves))) 14
-    (ask (all (entries (b .entries))) 15
+    ask (allPass (header b)) 13
+    (ask (allPass (moves [] (b .moves))) 14
+    (ask (allPass (entries (b .entries))) 15
     (ask (leb (length (b .entries)) 28) 16
     0)))
 
@@ -29,8 +29,8 @@ askForm none = 12
 askForm (some b) = askBook b
 
 -- the number of the first question that the bytes s fail, or 0. "Has it at most 16,384 bytes? If not, 11."
-abbrev pub refusal : List ℕ → ℕ
-refusal s = ask (leb (length s) 16384) 11 (askForm (parse s))
+abbrev pub bookRefusal : List ℕ → ℕ
+bookRefusal s = ask (leb (length s) 16384) 11 (askForm (parse s))
 
 -- the number of each answer
 abbrev pub questionOf : Answer → ℕ
@@ -43,11 +43,11 @@ questionOf (BadEntry k) = 15
 questionOf TooMany = 16
 
 -- the line that each answer carries, 0 if none
-abbrev pub lineOf : Answer → ℕ
-lineOf Accepted = 0
-lineOf TooLong = 0
-lineOf Malformed = 0
-lineOf (BadHeader k) = k
-lineOf (BadMove k) = k
-lineOf (BadEntry k) = k
-lineOf TooMany = 0
+abbrev pub lineTold : Answer → ℕ
+lineTold Accepted = 0
+lineTold TooLong = 0
+lineTold Malformed = 0
+lineTold (BadHeader k) = k
+lineTold (BadMove k) = k
+lineTold (BadEntry k) = k
+lineTold TooMany = 0

@@ -11,7 +11,7 @@ use Rattle.book_form.specs.declared.Checked.{Checked}
 use Rattle.book_form.specs.declared.Answer.{Answer}
 use Rattle.book_form.specs.declared.Answer.the-variants.{Accepted, BadHeader, BadMove, BadEntry, TooMany}
 use Rattle.book_form.specs.Questions.{questionOf}
-use Rattle.book_form.specs.Checked.{empty}
+use Rattle.book_form.specs.Checked.{noBook}
 
 -- the answer, by the lines that fail 13, 14 and 15, or 0, and the count of entries
 abbrev pub answerOf : ℕ → ℕ → ℕ → ℕ → Answer
@@ -44,4 +44,4 @@ heldOf o m e =
     }
 
 abbrev pub judgedOf : Answer → Opening → Moves → Entries → Checked
-judgedOf a o m e = record { answer = a; book = cond (eqb (questionOf a) 0) (heldOf o m e) empty }
+judgedOf a o m e = record { answer = a; book = cond (eqb (questionOf a) 0) (heldOf o m e) noBook }

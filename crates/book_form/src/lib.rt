@@ -3,8 +3,8 @@ use book_lines::entries::Entries;
 use book_lines::moves::Moves;
 use book_lines::verdict::first_bad;
 ghost use mathlib.Core.Path.{_≡_};
-ghost use Rattle.book_form.specs.Questions.{questionOf, lineOf};
-ghost use Rattle.book_form.specs.Checked.{empty};
+ghost use Rattle.book_form.specs.Questions.{questionOf, lineTold};
+ghost use Rattle.book_form.specs.Checked.{noBook};
 ghost use Rattle.book_form.specs.Steps.{answerOf, headerBad, heldOf, judgedOf};
 
 // The first question that a book fails, and for 13 to 15 a line that fails it.
@@ -56,7 +56,7 @@ pub fn question(answer: Answer) -> u32
 
 // The line that an answer tells of, 0 if none.
 pub fn line(answer: Answer) -> u32
-    ensures { λ r. ⌜ r ≡ lineOf answer ⌝ }
+    ensures { λ r. ⌜ r ≡ lineTold answer ⌝ }
 {
     match answer {
         Answer::Accepted => 0,
@@ -97,7 +97,7 @@ fn answer_of(header: u32, moves: u32, entries: u32, count: usize) -> Answer
 
 // What is handed back for a book that is refused.
 pub fn refused(answer: Answer) -> Checked
-    ensures { λ r. ⌜ r ≡ record { answer = answer; book = empty } ⌝ }
+    ensures { λ r. ⌜ r ≡ record { answer = answer; book = noBook } ⌝ }
 {
     Checked {
         answer,

@@ -14,7 +14,7 @@ use Rattle.text_read.specs.Reader.{fails, give}
 use Rattle.book_lines.specs.Lines.{Entry, entry}
 use Rattle.book_lines.specs.Questions.{fairEntry, entries}
 use Rattle.book_lines.specs.Columns.{column, nobody}
-use Rattle.book_lines.specs.Passes.{firstBad, Verdict, entryOf, noEntry, EntryRead, fairLine, putIn, columnsOf, Placed}
+use Rattle.book_lines.specs.Passes.{firstBad, LinesVerdict, entryOf, noEntry, EntryRead, fairLine, putIn, columnsOf, Placed}
 use Rattle.laws.specs.Suffix.{take-rest}
 use Rattle.laws.specs.Snoc.{each-more, map-more}
 use Rattle.text_read.proofs.Runs.{absent}
@@ -68,7 +68,7 @@ column-more f es e v h q =
 pub record Known (s : List ℕ) (first total : ℕ) (done : List Entry) (count line bad : ℕ) (columns : Columns) : Type 0 where
   pub count-is : count ≡ length done
   pub line-is : line ≡ first + length done
-  pub verdict : Verdict first (entries done) bad
+  pub verdict : LinesVerdict first (entries done) bad
   pub columns-are : columns ≡ columnsOf total (take 28 done)
   pub placed : (n : ℕ) → n < length done → Placed s (getD done n nobody)
 

@@ -6,11 +6,11 @@ use mathlib.Core.List.{List, [], _∷_, _++_, append-assoc, append-nil}
 use native.Mathlib.Omega.{arith}
 use lib.ListN.{length, length-append, replicate, set}
 use Rattle.book_lines.specs.declared.moves.Move.{Move}
-use Rattle.book_lines.specs.Questions.{fairMove, moveOf, none?, stands, moves, all}
+use Rattle.book_lines.specs.Questions.{fairMove, moveOf, none?, stands, moves, allPass}
 use Rattle.book_lines.specs.Columns.{table}
-use Rattle.book_lines.specs.Passes.{firstBad, Verdict, place, free, Put, kept}
+use Rattle.book_lines.specs.Passes.{firstBad, LinesVerdict, place, mayStand, Put, kept}
 use Rattle.laws.specs.Tests.{and-true}
-use Rattle.book_lines.proofs.Table.{fair-parts, table-none, table-more, free-stands}
+use Rattle.book_lines.proofs.Table.{fair-parts, table-none, table-more, may-stand-stands}
 use Rattle.book_lines.proofs.Verdicts.{verdict-none, verdict-more, moves-more, moves-length}
 
 -- the moves that are taken: of one more line, and of lines that all pass
@@ -19,20 +19,20 @@ unfolding kept
 kept-more ds [] m = refl
 kept-more ds (d ∷ ms) m = kept-more (cond (stands ds d) (ds ++ (d ∷ [])) ds) ms m
 
-all-kept : (ds ms : List Move) → all (moves ds ms) ≡ true → kept ds ms ≡ ds ++ ms
-unfolding kept all moves
+all-kept : (ds ms : List Move) → allPass (moves ds ms) ≡ true → kept ds ms ≡ ds ++ ms
+unfolding kept allPass moves
 all-kept ds [] a = sym (append-nil ds)
 all-kept ds (m ∷ ms) a =
-    let x = and-true (stands ds m) (all (moves (ds ++ (m ∷ [])) ms)) a in
+    let x = and-true (stands ds m) (allPass (moves (ds ++ (m ∷ [])) ms)) a in
     rw (x .0) (all-kept (ds ++ (m ∷ [])) ms (x .1) ∙ append-assoc ds (m ∷ []) ms)
 
-pub kept-all : (ms : List Move) → all (moves [] ms) ≡ true → kept [] ms ≡ ms
+pub kept-all : (ms : List Move) → allPass (moves [] ms) ≡ true → kept [] ms ≡ ms
 kept-all ms a = all-kept [] ms a
 
 -- What the loop of `read_moves` knows after the lines `done`.
 pub record Known (done : List Move) (line bad : ℕ) (ticks costs : List ℕ) : Type 0 where
   pub line-is : line ≡ 4 + length done
-  pub verdict : Verdict 4 (moves [] done) bad
+  pub verdict : LinesVerdict 4 (moves [] done) bad
   pub ticks-are : ticks ≡ table (λ m. m .ticks + 1) (kept [] done)
   pub costs-are : costs ≡ table (λ m. m .cost) (kept [] done)
 
@@ -60,8 +60,8 @@ known-more done m line bad ticks costs ticks′ costs′ r k p =
           ∙ ap (table (λ m. m .cost)) (sym (kept-more [] done m));
     }
   where
-    test : free ticks m ≡ stands (kept [] done) m
-    test = ap (λ (t : List ℕ). free t m) (k .ticks-are) ∙ free-stands (kept [] done) m
+    test : mayStand ticks m ≡ stands (kept [] done) m
+    test = ap (λ (t : List ℕ). mayStand t m) (k .ticks-are) ∙ may-stand-stands (kept [] done) m
 
     asked : bad ≡ 0 → r ≡ stands done m
     asked z = p .is ∙ test ∙ ap (λ l. stands l m) (kept-all done (k .verdict .passed z))

@@ -13,7 +13,7 @@ use Rattle.book_lines.specs.declared.moves.Move.{Move}
 use Rattle.book_lines.specs.Questions.{fairMove, moveOf, none?, stands}
 use Rattle.laws.specs.Tabulate.{tabulate-length, tabulate-at, tabulate-zero}
 use Rattle.book_lines.specs.Columns.{valueOf, cell, table}
-use Rattle.book_lines.specs.Passes.{place, free, Put}
+use Rattle.book_lines.specs.Passes.{place, mayStand, Put}
 use Rattle.laws.specs.Tests.{and-true}
 
 -- what the question leaves of a move
@@ -103,21 +103,21 @@ module _ (m : Move) (p : Fair m) where
       each k h = go k (size k h) (eqb k (place m)) refl ∙ sym (tabulate-at 256 (cell f (ms ++ (m ∷ []))) k (size k h))
 
 -- the test by the table is the question
-free-is : (ms : List Move) (m : Move) → (x : Bool) → fairMove m ≡ x → free (table (λ m. m .ticks + 1) ms) m ≡ stands ms m
-free-is ms m false e = rw e
-free-is ms m true e = rw (e, table-at m (fair-parts m e) (λ m. m .ticks + 1) ms) (go (moveOf ms (m .source) (m .target)))
+may-stand-is : (ms : List Move) (m : Move) → (x : Bool) → fairMove m ≡ x → mayStand (table (λ m. m .ticks + 1) ms) m ≡ stands ms m
+may-stand-is ms m false e = rw e
+may-stand-is ms m true e = rw (e, table-at m (fair-parts m e) (λ m. m .ticks + 1) ms) (go (moveOf ms (m .source) (m .target)))
   where
     go : (o : Option Move) → eqb (valueOf (λ m. m .ticks + 1) o) 0 ≡ none? o
     go none = refl
     go (some d) = ne-eqb (d .ticks + 1) 0 (omega arith)
 
-pub free-stands : (ms : List Move) (m : Move) → free (table (λ m. m .ticks + 1) ms) m ≡ stands ms m
-free-stands ms m = free-is ms m (fairMove m) refl
+pub may-stand-stands : (ms : List Move) (m : Move) → mayStand (table (λ m. m .ticks + 1) ms) m ≡ stands ms m
+may-stand-stands ms m = may-stand-is ms m (fairMove m) refl
 
 -- a move that is put, and one that is not
 module _ (m : Move) (ticks costs : List ℕ) where
-  pub put-yes : free ticks m ≡ true → Put m ticks costs (set ticks (place m) (m .ticks + 1)) (set costs (place m) (m .cost)) true
+  pub put-yes : mayStand ticks m ≡ true → Put m ticks costs (set ticks (place m) (m .ticks + 1)) (set costs (place m) (m .cost)) true
   put-yes e = record { is = sym e; ticks-are = rw e; costs-are = rw e }
 
-  pub put-no : free ticks m ≡ false → Put m ticks costs ticks costs false
+  pub put-no : mayStand ticks m ≡ false → Put m ticks costs ticks costs false
   put-no e = record { is = sym e; ticks-are = rw e; costs-are = rw e }

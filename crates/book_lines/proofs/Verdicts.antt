@@ -9,11 +9,11 @@ use lib.Seq.{getD-append-seam}
 use lib.Dec.{eqb}
 use borrow.Author.Tests.{eqb-true, eqb-false}
 use Rattle.book_lines.specs.declared.moves.Move.{Move}
-use Rattle.book_lines.specs.Questions.{stands, moves, all}
-use Rattle.book_lines.specs.Passes.{firstBad, Verdict}
+use Rattle.book_lines.specs.Questions.{stands, moves, allPass}
+use Rattle.book_lines.specs.Passes.{firstBad, LinesVerdict}
 
-all-more : (l : List Bool) (a : Bool) → all (l ++ (a ∷ [])) ≡ all l && a
-unfolding all
+all-more : (l : List Bool) (a : Bool) → allPass (l ++ (a ∷ [])) ≡ allPass l && a
+unfolding allPass
 all-more [] true = refl
 all-more [] false = refl
 all-more (true ∷ l) a = all-more l a
@@ -24,16 +24,16 @@ fails-more [] a n e = absurd (true≢false e)
 fails-more (b ∷ l) a zero e = e
 fails-more (b ∷ l) a (suc n) e = fails-more l a n e
 
-pub verdict-none : (first : ℕ) → Verdict first [] 0
-unfolding all
+pub verdict-none : (first : ℕ) → LinesVerdict first [] 0
+unfolding allPass
 verdict-none first = record { passed = λ _. refl; failed = λ z. absurd (z refl) }
 
 -- one more line, which passes by the test that the code makes while none failed
-module _ {first : ℕ} {answers : List Bool} {bad : ℕ} (v : Verdict first answers bad) (passes answer : Bool) (line : ℕ) where
-  pub verdict-more : (bad ≡ 0 → passes ≡ answer) → line ≡ first + length answers → 0 < line → Verdict first (answers ++ (answer ∷ [])) (firstBad bad passes line)
+module _ {first : ℕ} {answers : List Bool} {bad : ℕ} (v : LinesVerdict first answers bad) (passes answer : Bool) (line : ℕ) where
+  pub verdict-more : (bad ≡ 0 → passes ≡ answer) → line ≡ first + length answers → 0 < line → LinesVerdict first (answers ++ (answer ∷ [])) (firstBad bad passes line)
   verdict-more e at h = go (eqb bad 0) refl passes refl
     where
-      go : (x : Bool) → eqb bad 0 ≡ x → (y : Bool) → passes ≡ y → Verdict first (answers ++ (answer ∷ [])) (cond x (cond y 0 line) bad)
+      go : (x : Bool) → eqb bad 0 ≡ x → (y : Bool) → passes ≡ y → LinesVerdict first (answers ++ (answer ∷ [])) (cond x (cond y 0 line) bad)
       go true q true r =
           let z = eqb-true bad 0 q in
           record { passed = λ _. all-more answers answer ∙ rw (v .passed z, ← e z, r); failed = λ n. absurd (n refl) }

@@ -5,14 +5,14 @@ use mathlib.Core.Bool.{Bool, true, cond, _&&_}
 use mathlib.Core.List.{List, [], _∷_, _++_}
 use lib.ListN.{length, take, drop, getD, set}
 use lib.Dec.{eqb, leb, ltb}
-use Rattle.text_read.specs.Reader.{reads, many, Right}
+use Rattle.text_read.specs.Reader.{reads, many, ReadsFront}
 use Rattle.book_lines.specs.declared.moves.Move.{Move}
 use Rattle.book_lines.specs.declared.moves.Moves.{Moves}
 use Rattle.book_lines.specs.declared.entries.EntryLine.{EntryLine}
 use Rattle.book_lines.specs.declared.entries.Columns.{Columns}
 use Rattle.book_lines.specs.declared.entries.Entries.{Entries}
 use Rattle.book_lines.specs.Lines.{move, Entry, entry}
-use Rattle.book_lines.specs.Questions.{fairMove, stands, moves, entries, all, FailsAt}
+use Rattle.book_lines.specs.Questions.{fairMove, stands, moves, entries, allPass, FailsAt}
 use Rattle.book_lines.specs.Columns.{table, column, nobody}
 
 -- the first line that failed, or 0
@@ -20,8 +20,8 @@ abbrev pub firstBad : ℕ → Bool → ℕ → ℕ
 firstBad bad passes line = cond (eqb bad 0) (cond passes 0 line) bad
 
 -- every line passes, or `bad` is one that fails
-pub record Verdict (first : ℕ) (answers : List Bool) (bad : ℕ) : Type 0 where
-  pub passed : bad ≡ 0 → all answers ≡ true
+pub record LinesVerdict (first : ℕ) (answers : List Bool) (bad : ℕ) : Type 0 where
+  pub passed : bad ≡ 0 → allPass answers ≡ true
   pub failed : (bad ≡ 0 → ⊥) → FailsAt first answers bad
 
 -- the place of the pair A, B in a table
@@ -29,14 +29,14 @@ abbrev pub place : Move → ℕ
 place m = (m .source - 1) * 16 + (m .target - 1)
 
 -- m may stand, by the table of the lines before it
-abbrev pub free : List ℕ → Move → Bool
-free ticks m = fairMove m && eqb (getD ticks (place m) 0) 0
+abbrev pub mayStand : List ℕ → Move → Bool
+mayStand ticks m = fairMove m && eqb (getD ticks (place m) 0) 0
 
 -- m is put into the tables if it may stand
 pub record Put (m : Move) (ticks costs ticks′ costs′ : List ℕ) (r : Bool) : Type 0 where
-  pub is : r ≡ free ticks m
-  pub ticks-are : ticks′ ≡ cond (free ticks m) (set ticks (place m) (m .ticks + 1)) ticks
-  pub costs-are : costs′ ≡ cond (free ticks m) (set costs (place m) (m .cost)) costs
+  pub is : r ≡ mayStand ticks m
+  pub ticks-are : ticks′ ≡ cond (mayStand ticks m) (set ticks (place m) (m .ticks + 1)) ticks
+  pub costs-are : costs′ ≡ cond (mayStand ticks m) (set costs (place m) (m .cost)) costs
 
 -- the moves that the tables take, after `taken`: each that may stand by those taken before it. Where every line passes 14, that is all.
 unfoldable pub kept : List Move → List Move → List Move
@@ -50,7 +50,7 @@ pub record MovesRead (s : List ℕ) (r : Moves) : Type 0 where
   pub within : r .used ≤ length s
   pub few : length list ≤ r .used
   pub line : r .line ≡ 4 + length list
-  pub verdict : Verdict 4 (moves [] list) (r .bad)
+  pub verdict : LinesVerdict 4 (moves [] list) (r .bad)
   pub ticks : r .ticks ≡ table (λ m. m .ticks + 1) (kept [] list)
   pub costs : r .costs ≡ table (λ m. m .cost) (kept [] list)
 
@@ -63,7 +63,7 @@ abbrev pub noEntry : EntryLine
 noEntry = record { left = 0; length = 0; instrument = 0; start = 0; finish = 0; used = 0 }
 
 pub record EntryRead (s : List ℕ) (r : EntryLine) : Type 0 where
-  pub right : Right s (entry s) (r .used) (entryOf s r)
+  pub right : ReadsFront s (entry s) (r .used) (entryOf s r)
   pub none : r .used ≡ 0 → r ≡ noEntry
   pub begins : r .left ≤ length s
   pub ends : r .length ≤ r .left
@@ -106,6 +106,6 @@ pub record EntriesRead (s : List ℕ) (first total : ℕ) (r : Entries) : Type 0
   pub is : many entry s ≡ reads list (drop (r .used) s)
   pub within : r .used ≤ length s
   pub count : r .count ≡ length list
-  pub verdict : Verdict first (entries list) (r .bad)
+  pub verdict : LinesVerdict first (entries list) (r .bad)
   pub columns : r .columns ≡ columnsOf total (take 28 list)
   pub placed : (n : ℕ) → n < length list → Placed s (getD list n nobody)

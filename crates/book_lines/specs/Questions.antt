@@ -40,9 +40,9 @@ abbrev pub entries : List Entry → List Bool
 entries = map fairEntry
 
 -- every line passes
-unfoldable pub all : List Bool → Bool
-all [] = true
-all (a ∷ l) = a && all l
+unfoldable pub allPass : List Bool → Bool
+allPass [] = true
+allPass (a ∷ l) = a && allPass l
 
 -- "13, 14 and 15 also carry the number of some line that fails": line k is one of those that gave these answers, the first of which is
 -- line `first`, and it fails

@@ -12,7 +12,7 @@ use borrow.Author.Tests.{lt-ltb, le-ltb}
 use mir.Syntax.{w32}
 use mir.Val.{SFits, toZ}
 use Rattle.laws.specs.Members.{Every}
-use Rattle.bytes_read.specs.Words.{word, wordAt, bytesOf, signed, unsigned, words, encodeWords, ints, encodeInts}
+use Rattle.bytes_read.specs.Words.{wordOf, wordAt, bytesOf, signed, unsigned, words, encodeWords, ints, encodeInts}
 
 -- ---- one number
 pub signed-low : (n : ℕ) → n < 2147483648 → signed n ≡ pos n
@@ -38,7 +38,7 @@ unsigned-small (pos n) h = omega (arith, h .sfits)
 unsigned-small (negsuc n) h = omega arith
 
 -- ---- what is written is read again
-word-bytes : (n : ℕ) → n < 4294967296 → word (n % 256) (n / 256 % 256) (n / 256 / 256 % 256) (n / 256 / 256 / 256 % 256) ≡ n
+word-bytes : (n : ℕ) → n < 4294967296 → wordOf (n % 256) (n / 256 % 256) (n / 256 / 256 % 256) (n / 256 / 256 / 256 % 256) ≡ n
 word-bytes n h = omega arith
 
 pub words-encode : (l : List ℕ) → Every (λ n. n < 4294967296) l → words (encodeWords l) ≡ l
@@ -57,9 +57,9 @@ pub ints-encode : (l : List ℤ) → Every (SFits w32) l → ints (encodeInts l)
 ints-encode l h = ap (map signed) (words-encode (map unsigned l) (unsigned-all l h)) ∙ signed-all l h
 
 -- ---- what is read is written again
-bytes-word : (a b c d : ℕ) → a < 256 → b < 256 → c < 256 → d < 256 → bytesOf (word a b c d) ≡ a ∷ b ∷ c ∷ d ∷ []
+bytes-word : (a b c d : ℕ) → a < 256 → b < 256 → c < 256 → d < 256 → bytesOf (wordOf a b c d) ≡ a ∷ b ∷ c ∷ d ∷ []
 bytes-word a b c d ha hb hc hd =
-    let n = word a b c d in
+    let n = wordOf a b c d in
     let e0 : n % 256 ≡ a = omega arith in
     let q1 : n / 256 ≡ b + 256 * c + 65536 * d = omega arith in
     let e1 : n / 256 % 256 ≡ b = rw q1 (omega arith) in

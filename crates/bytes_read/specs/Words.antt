@@ -7,12 +7,12 @@ use lib.IntN.{ℤ, pos, negsuc}
 use lib.ListN.{length, getD, drop}
 
 -- "four a number, ... lowest byte first"
-abbrev pub word : ℕ → ℕ → ℕ → ℕ → ℕ
-word a b c d = a + 256 * b + 65536 * c + 16777216 * d
+abbrev pub wordOf : ℕ → ℕ → ℕ → ℕ → ℕ
+wordOf a b c d = a + 256 * b + 65536 * c + 16777216 * d
 
 -- the number of the four bytes from place k on
 abbrev pub wordAt : List ℕ → ℕ → ℕ
-wordAt l k = word (getD l k 0) (getD l (k + 1) 0) (getD l (k + 2) 0) (getD l (k + 3) 0)
+wordAt l k = wordOf (getD l k 0) (getD l (k + 1) 0) (getD l (k + 2) 0) (getD l (k + 3) 0)
 
 abbrev pub bytesOf : ℕ → List ℕ
 bytesOf n = n % 256 ∷ n / 256 % 256 ∷ n / 256 / 256 % 256 ∷ n / 256 / 256 / 256 % 256 ∷ []
@@ -31,7 +31,7 @@ words [] = []
 words (a ∷ []) = []
 words (a ∷ b ∷ []) = []
 words (a ∷ b ∷ c ∷ []) = []
-words (a ∷ b ∷ c ∷ d ∷ l) = word a b c d ∷ words l
+words (a ∷ b ∷ c ∷ d ∷ l) = wordOf a b c d ∷ words l
 
 abbrev pub ints : List ℕ → List ℤ
 ints l = map signed (words l)

@@ -9,7 +9,7 @@ use lib.ListN.{length, getD, take, drop, length-append, length-drop}
 use lib.Seq.{take-suc, drop-drop, take-at, drop-append-add, length-take-le}
 use Rattle.bytes_read.specs.Words.{bytesOf, encodeWords, over}
 use Rattle.bytes_read.proofs.Words.{length-encode, take-least}
-use Rattle.bytes_write.specs.Writing.{fitting, put}
+use Rattle.bytes_write.specs.Writing.{fitting, putWord}
 
 -- ---- the bytes of numbers
 encode-append : (l r : List ℕ) → encodeWords (l ++ r) ≡ encodeWords l ++ encodeWords r
@@ -28,7 +28,7 @@ module _ (xs out : List ℕ) where
       length-append q (drop (length q) out) ∙ let b = length-drop (length q) out in omega arith
 
   put-next : (i : ℕ) → i < length xs → 4 * i + 4 ≤ length out
-      → put (over (encodeWords (take i xs)) out) i (getD xs i 0) ≡ over (encodeWords (take (suc i) xs)) out
+      → putWord (over (encodeWords (take i xs)) out) i (getD xs i 0) ≡ over (encodeWords (take (suc i) xs)) out
   put-next i h g =
       let q = encodeWords (take i xs) in
       let e : length q ≡ 4 * i = first-length i (omega arith) in
@@ -52,10 +52,10 @@ module _ (xs out₀ : List ℕ) (k : ℕ) (few : k ≤ length xs) (fits : 4 * k 
   written-none = record { upto = omega arith; is = refl; long = refl }
 
   pub written-more : (i : ℕ) (out out′ : List ℕ) (n : ℕ) → Written xs out₀ k i out → i < k
-      → out′ ≡ put out i n → n ≡ getD xs i 0 → Written xs out₀ k (i + 1) out′
+      → out′ ≡ putWord out i n → n ≡ getD xs i 0 → Written xs out₀ k (i + 1) out′
   written-more i out out′ n w h e q =
       let s : out′ ≡ over (encodeWords (take (i + 1) xs)) out₀ =
-      rw (add-one) (e ∙ ap (put out i) q ∙ ap (λ o. put o i (getD xs i 0)) (w .is) ∙ put-next xs out₀ i (omega arith) (omega arith)) in
+      rw (add-one) (e ∙ ap (putWord out i) q ∙ ap (λ o. putWord o i (getD xs i 0)) (w .is) ∙ put-next xs out₀ i (omega arith) (omega arith)) in
       record { upto = omega arith; is = s; long = ap length s ∙ length-over xs out₀ (i + 1) (omega arith) (omega arith) }
 
 -- as many as both lists allow

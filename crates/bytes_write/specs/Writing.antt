@@ -9,5 +9,5 @@ abbrev pub fitting : ℕ → List ℕ → ℕ
 fitting m out = min m (length out / 4)
 
 -- number n written as number i
-abbrev pub put : List ℕ → ℕ → ℕ → List ℕ
-put out i n = take (4 * i) out ++ bytesOf n ++ drop (4 * i + 4) out
+abbrev pub putWord : List ℕ → ℕ → ℕ → List ℕ
+putWord out i n = take (4 * i) out ++ bytesOf n ++ drop (4 * i + 4) out

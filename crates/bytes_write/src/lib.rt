@@ -3,12 +3,12 @@ ghost use mathlib.Core.Path.{_≡_};
 ghost use Prim.Native.Nat.{_+_, _*_, _/_, _≤_, min};
 ghost use lib.ListN.{length, take};
 ghost use Rattle.bytes_read.specs.Words.{encodeWords, encodeInts, over};
-ghost use Rattle.bytes_write.specs.Writing.{fitting, put};
+ghost use Rattle.bytes_write.specs.Writing.{fitting, putWord};
 
 // n as number i: exactly its four bytes change.
 fn put_u32(out: &mut [u8], i: usize, n: u32)
     requires { ⌜ 4 * i + 4 ≤ length (now out) ⌝ }
-    ensures { λ _. ⌜ now (out .exit) ≡ put (now (out .entry)) i n ⌝ }
+    ensures { λ _. ⌜ now (out .exit) ≡ putWord (now (out .entry)) i n ⌝ }
 {
     let k = 4 * i;
     let n1 = n / 256;

@@ -6,8 +6,9 @@ use mathlib.Core.Option.{Option, none, some}
 use Prim.Native.Nat.{ℕ}
 use Rattle.laws.specs.Lexicographic.{_<lex_}
 use Rattle.laws.specs.Members.{first?}
-use Rattle.laws.specs.Run.{first, nothing, shown}
-use Rattle.laws.specs.Seen.{Seen}
+use Rattle.laws.specs.Rules.{first}
+use Rattle.laws.specs.Seen.{nothing, Seen, Shows}
+use Rattle.laws.specs.Run.{shown, Answers}
 use Rattle.book_form.specs.Book.{Book, parse}
 use Rattle.way_network.proofs.Made.{held}
 use Rattle.way_theory.specs.Ways.{IsWay, LeastCostWay}
@@ -20,10 +21,10 @@ use Rattle.way_theory.proofs.Matched.{way-flow}
 use Rattle.way_theory.proofs.LineByLine.{matched}
 use Rattle.net_model.proofs.FullList.{none-iff}
 use Rattle.way_theory.specs.BookBytes.{waysIn, ways}
-use Rattle.call_book.specs.BookCalls.{refuses}
-use Rattle.call_book.specs.BookRun.{RightBook, AnswersBook}
+use Rattle.call_book.specs.BookCalls.{bookQuestion}
+use Rattle.call_book.specs.BookRules.{bookRules}
 use Rattle.call_book.specs.FirstWay.{FindsWay, FindsNoWay}
-use Rattle.call_reply.proofs.Lines.{first-least, first-none}
+use Rattle.call_reply.proofs.Items.{first-least, first-none}
 use Rattle.call_book.proofs.BookRun.{accepts}
 
 module _ (b : Book) where
@@ -43,10 +44,10 @@ module _ (b : Book) where
       empty (w ∷ l) e f = absurd (f w (full-way b w .0 (rw e (inl refl)) .way))
 
 -- of every call of `first` that passes the questions, by what its entry ensures
-pub first-finds-way : (s l : List ℕ) (t : Seen (List ℕ)) → refuses s (first l) ≡ none → AnswersBook s (first l) t → FindsWay s l t ⊎ FindsNoWay s l t
+pub first-finds-way : (s l : List ℕ) (t : Seen (List ℕ)) → bookQuestion s (first l) ≡ 0 → Answers (bookRules s) (first l) t → FindsWay s l t ⊎ FindsNoWay s l t
 first-finds-way s l t e h = let (b, p, k) = held s (accepts s (first l) e) in go b p (firstWay b) refl
   where
-    shown-is : RightBook s (first l) (shown (first? (ways s)) nothing) t
+    shown-is : Shows (bookRules s) (first l) (shown (first? (ways s)) nothing) t
     shown-is = rw e at h
 
     go : (b : Book) → parse s ≡ some b → (o : Option (List ℕ)) → firstWay b ≡ o → FindsWay s l t ⊎ FindsNoWay s l t

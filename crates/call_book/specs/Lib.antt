@@ -1,4 +1,4 @@
 pub mod BookCalls
-pub mod BookRun
+pub mod BookRules
 pub mod BookEntries
 pub mod FirstWay

@@ -6,33 +6,33 @@ use call_reply::Reply;
 pub fn first(book: &[u8], way: &mut [u8]) -> Reply
     ensures { λ r. ⌜ BookFirst (now (book .entry)) (now (way .entry)) r (now (way .exit)) ⌝ }
 {
-    let admitted = call_way_bytes::admit(book, way.len());
+    let admitted = call_way_bytes::admit_book(book, way.len());
     let number = admitted.number;
     if number != 0 {
-        return call_reply::refused(number, admitted.line);
+        return call_reply::refused_at(number, admitted.line);
     }
     let b = admitted.book;
-    let walk = way_enumerate::start(b).first();
-    call_way_bytes::hand_way(walk, way, 100)
+    let ways = way_enumerate::start(b).first();
+    call_way_bytes::hand_way(ways, way, 100)
 }
 
 // The least-cost way after the one given, or "end". Questions 11 to 18.
 pub fn next(book: &[u8], given: &[u8], way: &mut [u8]) -> Reply
     ensures { λ r. ⌜ BookNext (now (book .entry)) (now (given .entry)) (now (way .entry)) r (now (way .exit)) ⌝ }
 {
-    let admitted = call_way_bytes::admit(book, way.len());
+    let admitted = call_way_bytes::admit_book(book, way.len());
     let number = admitted.number;
     if number != 0 {
-        return call_reply::refused(number, admitted.line);
+        return call_reply::refused_at(number, admitted.line);
     }
     let b = admitted.book;
-    let walk = call_way_bytes::find_way(b, given);
-    let flows = walk.walk;
+    let ways = call_way_bytes::resume_way(b, given);
+    let flows = ways.flows;
     let place = flows.place;
-    if !call_reply::on_line(place) {
-        return call_reply::word(18);
+    if !call_reply::on_item(place) {
+        return call_reply::code_alone(18);
     }
-    call_way_bytes::hand_way(walk.next(), way, 101)
+    call_way_bytes::hand_way(ways.next(), way, 101)
 }
 
 // How many least-cost ways there are, up to the cap. Questions 11 to 16.
@@ -43,7 +43,7 @@ pub fn count(book: &[u8], cap: u16) -> Reply
     let answer = checked.answer;
     let number = book_form::question(answer);
     if number != 0 {
-        return call_reply::refused(number, book_form::line(answer));
+        return call_reply::refused_at(number, book_form::line(answer));
     }
     let b = checked.book;
     let count = way_enumerate::start(b).count(cap);

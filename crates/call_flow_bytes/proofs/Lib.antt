@@ -1,3 +1,3 @@
-pub mod NetworkLines
-pub mod NetworkBytes
+pub mod FlowItems
+pub mod Admitting
 mod Prices

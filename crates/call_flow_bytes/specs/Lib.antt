@@ -1,2 +1,3 @@
 pub mod NetworkBytes
 pub mod Prices
+pub mod FlowSteps

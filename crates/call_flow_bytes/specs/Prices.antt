@@ -22,8 +22,3 @@ pub record Prices (N : Net) (f : List ℕ) (ps : List ℤ) : Type 0 where
 abbrev pub PricesAfter : Net → List ℕ → Option (List ℕ) → Option (List ℕ) → Type 0
 PricesAfter N f none after = after ≡ none
 PricesAfter N f (some out) after = (ps : List ℤ) × Prices N f ps × (after ≡ some (over (encodeInts ps) out))
-
--- the same of a walk, where it stands on a line
-abbrev pub PricesOut : Net → Option (List ℕ) → Option (List ℕ) → Option (List ℕ) → Type 0
-PricesOut N none out out′ = out′ ≡ out
-PricesOut N (some f) out out′ = PricesAfter N f out out′

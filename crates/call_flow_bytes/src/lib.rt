@@ -1,16 +1,12 @@
 // The flows of a network as the bytes of a call: questions 7 and 8, and a flow and its prices written.
 ghost use mathlib.Core.Path.{_≡_};
 ghost use mathlib.Core.Bool.{true};
-ghost use mathlib.Core.Option.{some};
 ghost use lib.ListN.{length};
-ghost use Rattle.net_model.specs.Network.{costOf};
-ghost use Rattle.net_model.specs.Struct.{Sound, netIn};
+ghost use Rattle.net_model.specs.Struct.{Sound};
 ghost use Rattle.net_questions.specs.Questions.{numberOf};
-ghost use Rattle.flow_enumerate.specs.Enumerator.{Stands, lineOf};
-ghost use Rattle.call_reply.specs.Replies.{HandedOut};
+ghost use Rattle.flow_enumerate.specs.Enumerator.{Stands};
 ghost use Rattle.call_reply.specs.ByteLists.{room};
-ghost use Rattle.call_flow_bytes.specs.NetworkBytes.{Begins, FindsFlow};
-ghost use Rattle.call_flow_bytes.specs.Prices.{PricesOut};
+ghost use Rattle.call_flow_bytes.specs.FlowSteps.{AdmitsNetwork, ResumesFlow, HandsFlow, HandsPrices};
 use call_reply::Reply;
 use flow_enumerate::Enumerator;
 use net_model::Network;
@@ -30,71 +26,43 @@ pub fn number_of(verdict: Verdict) -> u32
     }
 }
 
-// The network of a call, and the number of the first of questions 1 to 7 that fails, or 0, where a list of so many bytes is lent for the flows.
-pub struct Begun {
+// The network of a call, and the number of the first of questions 1 to 7 that fails, or 0.
+pub struct AdmittedNetwork {
     pub number: u32,
     pub net: Network,
 }
 
-pub fn begin(balances: &[u8], arcs: &[u8], bytes: usize) -> Begun
-    ensures { λ r. ⌜ Begins (now (balances .entry)) (now (arcs .entry)) bytes r ⌝ }
+// Puts questions 1 to 7, where a list of so many bytes is lent for the flows.
+pub fn admit_network(balances: &[u8], arcs: &[u8], bytes: usize) -> AdmittedNetwork
+    ensures { λ r. ⌜ AdmitsNetwork (now (balances .entry)) (now (arcs .entry)) bytes r ⌝ }
 {
     let checked = net_check::check(balances, arcs);
     let verdict = checked.verdict;
     let number = number_of(verdict);
     let net = checked.net;
     if number != 0 {
-        return Begun {
+        return AdmittedNetwork {
             number: number,
             net: net,
         };
     }
     if call_reply::has_room(net.arcs, bytes) {
-        Begun {
+        AdmittedNetwork {
             number: 0,
             net: net,
         }
     } else {
-        Begun {
+        AdmittedNetwork {
             number: 7,
             net: net,
         }
     }
 }
 
-// Writes the line that the walk stands on; without one the reply is `code`.
-pub fn hand_out(walk: Enumerator, flows: &mut [u8], code: u32) -> Reply
-    requires { ⌜ Stands walk × (room (walk .net .arcs) (length (now flows)) ≡ true) ⌝ }
-    ensures { λ r. ⌜ HandedOut (costOf (netIn (walk .net))) (lineOf walk) code (now (flows .entry)) r (now (flows .exit)) ⌝ }
-{
-    let place = walk.place;
-    if !call_reply::on_line(place) {
-        return call_reply::word(code);
-    }
-    let net = walk.net;
-    let flow = walk.flow;
-    let cost = walk.cost;
-    call_reply::hand_line(&flow, net.arcs, cost, flows)
-}
-
-// Writes the prices of the line that the walk stands on.
-pub fn hand_prices(walk: Enumerator, prices: &mut [u8])
-    requires { ⌜ Stands walk × (room (walk .net .nodes) (length (now prices)) ≡ true) ⌝ }
-    ensures { λ _. ⌜ PricesOut (netIn (walk .net)) (lineOf walk) (some (now (prices .entry))) (some (now (prices .exit))) ⌝ }
-{
-    let place = walk.place;
-    if !call_reply::on_line(place) {
-        return;
-    }
-    let net = walk.net;
-    let ps = walk.prices();
-    bytes_write::write_ints(prices, &ps, net.nodes);
-}
-
-// Question 8: the walk that stands on the line given; if that is none, one that has not begun.
-pub fn find(net: Network, given: &[u8]) -> Enumerator
+// Question 8: the enumerator that stands on the flow given, if it is on the full list; else one that has not begun.
+pub fn resume_flow(net: Network, given: &[u8]) -> Enumerator
     requires { ⌜ Sound net ⌝ }
-    ensures { λ r. ⌜ FindsFlow net (now (given .entry)) r ⌝ }
+    ensures { λ r. ⌜ ResumesFlow net (now (given .entry)) r ⌝ }
 {
     let m = net.arcs;
     if given.len() != 4 * m {
@@ -102,4 +70,33 @@ pub fn find(net: Network, given: &[u8]) -> Enumerator
     }
     let flow = bytes_read::read_words(given);
     flow_enumerate::resume(net, flow)
+}
+
+// Writes the flow that the enumerator stands on; without one the reply is `code`.
+pub fn hand_flow(walk: Enumerator, flows: &mut [u8], code: u32) -> Reply
+    requires { ⌜ Stands walk × (room (walk .net .arcs) (length (now flows)) ≡ true) ⌝ }
+    ensures { λ r. ⌜ HandsFlow walk code (now (flows .entry)) r (now (flows .exit)) ⌝ }
+{
+    let place = walk.place;
+    if !call_reply::on_item(place) {
+        return call_reply::code_alone(code);
+    }
+    let net = walk.net;
+    let flow = walk.flow;
+    let cost = walk.cost;
+    call_reply::hand_item(&flow, net.arcs, cost, flows)
+}
+
+// Writes the prices of the flow that the enumerator stands on.
+pub fn hand_prices(walk: Enumerator, prices: &mut [u8])
+    requires { ⌜ Stands walk × (room (walk .net .nodes) (length (now prices)) ≡ true) ⌝ }
+    ensures { λ _. ⌜ HandsPrices walk (now (prices .entry)) (now (prices .exit)) ⌝ }
+{
+    let place = walk.place;
+    if !call_reply::on_item(place) {
+        return;
+    }
+    let net = walk.net;
+    let ps = walk.prices();
+    bytes_write::write_ints(prices, &ps, net.nodes);
 }

@@ -13,7 +13,7 @@ use Rattle.text_write.specs.Fit.{fit}
 use Rattle.text_write.specs.Lines.{noneLine, refusedLine}
 use Rattle.text_write.proofs.Pieces.{appended-long}
 use Rattle.book_form.specs.Book.{Book, parse}
-use Rattle.book_form.specs.Questions.{refusal, questionOf, lineOf}
+use Rattle.book_form.specs.Questions.{bookRefusal, questionOf, lineTold}
 use Rattle.book_form.specs.declared.Answer.{Answer}
 use Rattle.book_form.specs.declared.Answer.the-variants.{Accepted, TooLong, Malformed, BadHeader, BadMove, BadEntry, TooMany}
 use Rattle.book_form.specs.declared.Checked.{Checked}
@@ -27,7 +27,7 @@ use Rattle.call_reply.proofs.Turns.{first-passed}
 use Rattle.book_form.specs.Told.{Told}
 use Rattle.book_form.proofs.Told.{untold}
 use Rattle.call_listing.specs.declared.Written.{Written}
-use Rattle.call_listing.specs.Listing.{listing, noneCode, listingCode, Printed, BookListing, Writes}
+use Rattle.call_listing.specs.Listing.{listing, noneCode, listingCode, Printed, BookListing, WritesListing}
 
 pub question-few : (a : Answer) → questionOf a < 100
 question-few Accepted = omega arith
@@ -47,27 +47,27 @@ some-code [] w e = absurd (none-some w e)
 some-code (v ∷ l) w e = refl
 
 -- an accepted book tells no line
-no-line : (s : List ℕ) → refusal s ≡ 0 → Told s (refusal s) 0
-no-line s ok = rw ok (untold 0 (λ e. omega arith) (λ e. omega arith) (λ e. omega arith) s)
+accepted-untold : (s : List ℕ) → bookRefusal s ≡ 0 → Told s (bookRefusal s) 0
+accepted-untold s ok = rw ok (untold 0 (λ e. omega arith) (λ e. omega arith) (λ e. omega arith) s)
 
 -- what is written
 module _ (s before after : List ℕ) (n : ℕ) where
-  pub writes-refused : (v : Checked) → Judged s v → (k t : ℕ) → k ≡ questionOf (v .answer) → t ≡ lineOf (v .answer) → ¬ (k ≡ 0) → Appended before 0 (refusedLine k) after n
-      → Writes s before (record { len = n; code = k; line = t }) after
+  pub writes-refused : (v : Checked) → Judged s v → (k t : ℕ) → k ≡ questionOf (v .answer) → t ≡ lineTold (v .answer) → ¬ (k ≡ 0) → Appended before 0 (refusedLine k) after n
+      → WritesListing s before (record { len = n; code = k; line = t }) after
   writes-refused v h zero t e l f a = absurd (f refl)
   writes-refused v h (suc k) t e l f a =
-      let q : refusal s ≡ suc k = sym (h .question) ∙ sym e in
+      let q : bookRefusal s ≡ suc k = sym (h .question) ∙ sym e in
       record { text = rw q a; code-is = rw q; told = subst (λ i. Told s i t) (h .question) (subst (λ i. Told s (questionOf (v .answer)) i) (sym l) (h .line)) }
 
-  module _ (ok : refusal s ≡ 0) (b : Book) (is : parse s ≡ some b) where
-    pub writes-none : firstWay b ≡ none → Appended before 0 noneLine after n → Writes s before (record { len = n; code = 100; line = 0 }) after
-    writes-none e a = let (k, t) = no-text (wayCost b) (fullWays b) e in record { text = rw (ok, is, t) a; code-is = rw (ok, is, k); told = no-line s ok }
+  module _ (ok : bookRefusal s ≡ 0) (b : Book) (is : parse s ≡ some b) where
+    pub writes-none : firstWay b ≡ none → Appended before 0 noneLine after n → WritesListing s before (record { len = n; code = 100; line = 0 }) after
+    writes-none e a = let (k, t) = no-text (wayCost b) (fullWays b) e in record { text = rw (ok, is, t) a; code-is = rw (ok, is, k); told = accepted-untold s ok }
 
-    pub writes-ways : (w : List ℕ) → firstWay b ≡ some w → Appended before 0 (waysText b) after n → Writes s before (record { len = n; code = 0; line = 0 }) after
-    writes-ways w e a = record { text = rw (ok, is) a; code-is = rw (ok, is, some-code (fullWays b) w e); told = no-line s ok }
+    pub writes-ways : (w : List ℕ) → firstWay b ≡ some w → Appended before 0 (waysText b) after n → WritesListing s before (record { len = n; code = 0; line = 0 }) after
+    writes-ways w e a = record { text = rw (ok, is) a; code-is = rw (ok, is, some-code (fullWays b) w e); told = accepted-untold s ok }
 
 -- what is handed over of it
-module _ (s room room′ : List ℕ) (large : 98304 ≡ length room) (w : Written) (h : Writes s room w room′) where
+module _ (s room room′ : List ℕ) (large : 98304 ≡ length room) (w : Written) (h : WritesListing s room w room′) where
   pub in-room : w .len ≤ length room′
   in-room = omega (arith, appended-long (h .text), h .text .within)
 
@@ -97,7 +97,7 @@ module _ (s room room′ : List ℕ) (large : 98304 ≡ length room) (w : Writte
         record {
           code-is = sym o;
           value-is = rw o (ap pos long);
-          told = no-line s (first-passed (refusal s) _ o);
+          told = accepted-untold s (first-passed (bookRefusal s) _ o);
           text-is = rw o (e ∙ ap (λ v. fit v before) taken);
           few = omega (arith, few, long);
         }

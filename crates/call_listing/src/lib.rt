@@ -3,7 +3,7 @@ use call_reply::Reply;
 ghost use mathlib.Core.Path.{_≡_};
 ghost use Prim.Native.Nat.{_≤_};
 ghost use lib.ListN.{length};
-ghost use Rattle.call_listing.specs.Listing.{Printed, BookListing, Writes};
+ghost use Rattle.call_listing.specs.Listing.{Printed, BookListing, WritesListing};
 
 // A text that is written, so many bytes, and the code and the line of the reply.
 struct Written {
@@ -22,7 +22,7 @@ fn blank() -> [u8; 98304]
 // The text that `ways` prints, at the front of a list that has room for the longest.
 fn write_listing(book: &[u8], out: &mut [u8]) -> Written
     requires { ⌜ 98304 ≤ length (now out) ⌝ }
-    ensures { λ r. ⌜ Writes (now (book .entry)) (now (out .entry)) r (now (out .exit)) ⌝ }
+    ensures { λ r. ⌜ WritesListing (now (book .entry)) (now (out .entry)) r (now (out .exit)) ⌝ }
 {
     let checked = book_check::check(book);
     let answer = checked.answer;
@@ -35,10 +35,10 @@ fn write_listing(book: &[u8], out: &mut [u8]) -> Written
         };
     }
     let b = checked.book;
-    let walk = way_enumerate::start(b).first();
-    let flows = walk.walk;
+    let ways = way_enumerate::start(b).first();
+    let flows = ways.flows;
     let place = flows.place;
-    if !call_reply::on_line(place) {
+    if !call_reply::on_item(place) {
         return Written {
             len: text_write::put_none(out, 0),
             code: 100,
@@ -46,7 +46,7 @@ fn write_listing(book: &[u8], out: &mut [u8]) -> Written
         };
     }
     Written {
-        len: way_list::list(walk, out),
+        len: way_list::list(ways, out),
         code: 0,
         line: 0,
     }
@@ -71,7 +71,7 @@ pub fn list(book: &[u8], text: &mut [u8]) -> Reply
     let written = write_listing(book, &mut room);
     let code = written.code;
     if code != 0 {
-        return call_reply::refused(code, written.line);
+        return call_reply::refused_at(code, written.line);
     }
     let n = written.len;
     text_write::copy_if_room(&room[..n], text);

@@ -6,11 +6,13 @@ use Prim.Native.Nat.{ℕ}
 use native.Mathlib.Decide.{ℕ-discrete}
 use lib.IntN.{pos, negsuc}
 use Rattle.laws.specs.Divergence.{at}
-use Rattle.laws.specs.Run.{first, next, refused, end, line}
+use Rattle.laws.specs.Rules.{first, next}
+use Rattle.laws.specs.Seen.{refused, end, item}
+use Rattle.laws.specs.Run.{respond}
 use Rattle.bytes_read.specs.Words.{encodeWords, encodeInts, over}
 use Rattle.net_model.specs.FullList.{flowList, fullList}
 use Rattle.call_network.specs.NetworkCalls.{lends}
-use Rattle.call_network.specs.NetworkRun.{answer}
+use Rattle.call_network.specs.NetworkRules.{networkRules}
 
 abbrev balances : List ℕ
 balances = encodeInts (pos 2 ∷ negsuc 1 ∷ [])
@@ -21,34 +23,34 @@ arcs = encodeInts (pos 0 ∷ pos 1 ∷ pos 0 ∷ pos 2 ∷ pos 1 ∷ pos 0 ∷ p
 abbrev lent : List ℕ
 lent = 9 ∷ 9 ∷ 9 ∷ 9 ∷ 9 ∷ 9 ∷ 9 ∷ 9 ∷ 7 ∷ 7 ∷ 7 ∷ 7 ∷ []
 
-starts : answer balances arcs (first (lends lent (some lent))) ≡ line (0 ∷ 2 ∷ [])
+starts : respond (networkRules balances arcs) (first (lends lent (some lent))) ≡ item (0 ∷ 2 ∷ [])
 unfolding fullList flowList at ℕ-discrete
 starts = refl
 
-goes-on : answer balances arcs (next (encodeWords (1 ∷ 1 ∷ [])) lent) ≡ line (2 ∷ 0 ∷ [])
+goes-on : respond (networkRules balances arcs) (next (encodeWords (1 ∷ 1 ∷ [])) lent) ≡ item (2 ∷ 0 ∷ [])
 unfolding fullList flowList at ℕ-discrete
 goes-on = refl
 
-ends : answer balances arcs (next (2 ∷ 0 ∷ 0 ∷ 0 ∷ 0 ∷ 0 ∷ 0 ∷ 0 ∷ []) lent) ≡ end
+ends : respond (networkRules balances arcs) (next (2 ∷ 0 ∷ 0 ∷ 0 ∷ 0 ∷ 0 ∷ 0 ∷ 0 ∷ []) lent) ≡ end
 unfolding fullList flowList at ℕ-discrete
 ends = refl
 
--- 8: no line, and too long by a byte; 7: room for one number, and for two and a half; 1: no whole numbers
-no-line : answer balances arcs (next (encodeWords (2 ∷ 1 ∷ [])) lent) ≡ refused 8
+-- 8: no item, and too long by a byte; 7: room for one number, and for two and a half; 1: no whole numbers
+no-item : respond (networkRules balances arcs) (next (encodeWords (2 ∷ 1 ∷ [])) lent) ≡ refused 8
 unfolding fullList flowList at ℕ-discrete
-no-line = refl
+no-item = refl
 
-odd-given : answer balances arcs (next (2 ∷ 0 ∷ 0 ∷ 0 ∷ 0 ∷ 0 ∷ 0 ∷ 0 ∷ 0 ∷ []) lent) ≡ refused 8
+odd-given : respond (networkRules balances arcs) (next (2 ∷ 0 ∷ 0 ∷ 0 ∷ 0 ∷ 0 ∷ 0 ∷ 0 ∷ 0 ∷ []) lent) ≡ refused 8
 unfolding fullList flowList at ℕ-discrete
 odd-given = refl
 
-short : answer balances arcs (first (lends (9 ∷ 9 ∷ 9 ∷ 9 ∷ []) none)) ≡ refused 7
+short : respond (networkRules balances arcs) (first (lends (9 ∷ 9 ∷ 9 ∷ 9 ∷ []) none)) ≡ refused 7
 short = refl
 
-odd-prices : answer balances arcs (first (lends lent (some (9 ∷ lent)))) ≡ refused 7
+odd-prices : respond (networkRules balances arcs) (first (lends lent (some (9 ∷ lent)))) ≡ refused 7
 odd-prices = refl
 
-odd-balances : answer (0 ∷ balances) arcs (first (lends lent none)) ≡ refused 1
+odd-balances : respond (networkRules (0 ∷ balances) arcs) (first (lends lent none)) ≡ refused 1
 odd-balances = refl
 
 -- the last number keeps what it held

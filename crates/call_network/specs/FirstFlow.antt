@@ -2,21 +2,21 @@
 use mathlib.Core.List.{List}
 use Prim.Native.Nat.{ℕ}
 use Rattle.laws.specs.Lexicographic.{_<lex_}
-use Rattle.laws.specs.Run.{first, nothing, line}
-use Rattle.laws.specs.Seen.{Seen}
+use Rattle.laws.specs.Rules.{first}
+use Rattle.laws.specs.Seen.{nothing, item, Seen, Shows}
 use Rattle.net_model.specs.Network.{IsFlow, LeastCost}
 use Rattle.call_flow_bytes.specs.NetworkBytes.{net}
 use Rattle.call_network.specs.NetworkCalls.{Lent}
-use Rattle.call_network.specs.NetworkRun.{RightNetwork}
+use Rattle.call_network.specs.NetworkRules.{networkRules}
 
 -- "The first flow is the first least-cost flow in that order."
-pub record Finds (bs xs : List ℕ) (l : Lent) (s : Seen Lent) : Type 0 where
+pub record FindsFlow (bs xs : List ℕ) (l : Lent) (s : Seen Lent) : Type 0 where
   pub flow : List ℕ
   pub least-cost : LeastCost (net bs xs) flow
   pub first-of-all : (g : List ℕ) → LeastCost (net bs xs) g → ¬ (g <lex flow)
-  pub shows : RightNetwork bs xs (first l) (line flow) s
+  pub shows : Shows (networkRules bs xs) (first l) (item flow) s
 
 -- "none": there is no flow
-pub record FindsNone (bs xs : List ℕ) (l : Lent) (s : Seen Lent) : Type 0 where
+pub record FindsNoFlow (bs xs : List ℕ) (l : Lent) (s : Seen Lent) : Type 0 where
   pub no-flow : (g : List ℕ) → ¬ IsFlow (net bs xs) g
-  pub shows : RightNetwork bs xs (first l) nothing s
+  pub shows : Shows (networkRules bs xs) (first l) nothing s

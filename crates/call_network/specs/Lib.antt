@@ -1,4 +1,4 @@
 pub mod NetworkCalls
-pub mod NetworkRun
+pub mod NetworkRules
 pub mod NetworkEntries
 pub mod FirstFlow

@@ -6,12 +6,12 @@ use mathlib.Core.Option.{Option, none, some}
 use Prim.Native.Nat.{ℕ}
 use lib.ListN.{length}
 use Rattle.laws.specs.Tests.{ask}
-use Rattle.laws.specs.Run.{Call, first, next}
+use Rattle.laws.specs.Rules.{Call, first, next}
 use Rattle.bytes_read.specs.Words.{encodeWords, over}
 use Rattle.net_model.specs.Network.{Net, nodes, arcs}
 use Rattle.net_model.specs.FullList.{fullList}
-use Rattle.net_questions.specs.Questions.{refusal}
-use Rattle.call_reply.specs.Replies.{failed, orElse}
+use Rattle.net_questions.specs.Questions.{networkRefusal}
+use Rattle.call_reply.specs.Replies.{orElse}
 use Rattle.call_reply.specs.ByteLists.{room, fairGiven}
 use Rattle.call_flow_bytes.specs.NetworkBytes.{net}
 use Rattle.call_flow_bytes.specs.Prices.{PricesAfter}
@@ -28,10 +28,9 @@ lends fs ps = record { flows = fs; prices = ps }
 abbrev pub NetCall : Type 0
 NetCall = Call Lent (List ℕ) (List ℕ)
 
--- the lent lists as they came
-abbrev pub lent : NetCall → Lent
-lent (first l) = l
-lent (next g fs) = lends fs none
+abbrev pub networkLent : NetCall → Lent
+networkLent (first l) = l
+networkLent (next g fs) = lends fs none
 
 -- 7. "Are the lent lists long enough for m flows and, where given, n prices?"
 abbrev pub roomIf : ℕ → Option (List ℕ) → Bool
@@ -42,19 +41,16 @@ abbrev pub roomFor : Net → Lent → Bool
 roomFor N l = room (arcs N) (length (l .flows)) && roomIf (nodes N) (l .prices)
 
 -- the number of the first question that a call fails, or 0.
--- 8. "is the given list m numbers long and a least-cost flow of the network?": it has the bytes of a line (`flow-listed`,
--- crates/call_flow_bytes/proofs/NetworkLines.antt, says it in these words)
-abbrev pub number : List ℕ → List ℕ → NetCall → ℕ
-number bs xs c =
-    orElse (refusal bs xs)
-    (ask (roomFor (net bs xs) (lent c)) 7
+-- 8. "is the given list m numbers long and a least-cost flow of the network?": it has the bytes of an item (`flow-listed`,
+-- crates/call_flow_bytes/proofs/FlowItems.antt, says it in these words)
+abbrev pub networkQuestion : List ℕ → List ℕ → NetCall → ℕ
+networkQuestion bs xs c =
+    orElse (networkRefusal bs xs)
+    (ask (roomFor (net bs xs) (networkLent c)) 7
     (ask (fairGiven (fullList (net bs xs)) c) 8
     0))
 
-abbrev pub refuses : List ℕ → List ℕ → NetCall → Option ℕ
-refuses bs xs c = failed (number bs xs c)
-
 -- "A line fills the first E or m places lent, prices the first n; all else keeps what it held."
-pub record Wrote (N : Net) (c : NetCall) (f : List ℕ) (after : Lent) : Type 0 where
-  pub flows-are : after .flows ≡ over (encodeWords f) (lent c .flows)
-  pub prices-are : PricesAfter N f (lent c .prices) (after .prices)
+pub record WroteFlow (N : Net) (f : List ℕ) (before after : Lent) : Type 0 where
+  pub flows-are : after .flows ≡ over (encodeWords f) (before .flows)
+  pub prices-are : PricesAfter N f (before .prices) (after .prices)

@@ -6,50 +6,51 @@ use call_reply::Reply;
 pub fn first(balances: &[u8], arcs: &[u8], flows: &mut [u8]) -> Reply
     ensures { λ r. ⌜ NetworkFirst (now (balances .entry)) (now (arcs .entry)) (now (flows .entry)) r (now (flows .exit)) ⌝ }
 {
-    let begun = call_flow_bytes::begin(balances, arcs, flows.len());
-    let number = begun.number;
+    let admitted = call_flow_bytes::admit_network(balances, arcs, flows.len());
+    let number = admitted.number;
     if number != 0 {
-        return call_reply::word(number);
+        return call_reply::code_alone(number);
     }
-    let net = begun.net;
+    let net = admitted.net;
     let walk = flow_enumerate::start(net).first();
-    call_flow_bytes::hand_out(walk, flows, 100)
+    call_flow_bytes::hand_flow(walk, flows, 100)
 }
 
 // The same, with its prices.
 pub fn first_priced(balances: &[u8], arcs: &[u8], flows: &mut [u8], prices: &mut [u8]) -> Reply
-    ensures { λ r. ⌜ NetworkFirstPriced (now (balances .entry)) (now (arcs .entry)) (now (flows .entry)) (now (prices .entry)) r (now (flows .exit)) (now (prices .exit)) ⌝ }
+    ensures { λ r. ⌜ NetworkFirstPriced (now (balances .entry)) (now (arcs .entry)) (now (flows .entry)) (now (prices .entry)) r
+        (now (flows .exit)) (now (prices .exit)) ⌝ }
 {
-    let begun = call_flow_bytes::begin(balances, arcs, flows.len());
-    let number = begun.number;
+    let admitted = call_flow_bytes::admit_network(balances, arcs, flows.len());
+    let number = admitted.number;
     if number != 0 {
-        return call_reply::word(number);
+        return call_reply::code_alone(number);
     }
-    let net = begun.net;
+    let net = admitted.net;
     if !call_reply::has_room(net.nodes, prices.len()) {
-        return call_reply::word(7);
+        return call_reply::code_alone(7);
     }
     let walk = flow_enumerate::start(net).first();
     call_flow_bytes::hand_prices(walk, prices);
-    call_flow_bytes::hand_out(walk, flows, 100)
+    call_flow_bytes::hand_flow(walk, flows, 100)
 }
 
 // The least-cost flow after the one given, or "end". Questions 1 to 8.
 pub fn next(balances: &[u8], arcs: &[u8], given: &[u8], flows: &mut [u8]) -> Reply
     ensures { λ r. ⌜ NetworkNext (now (balances .entry)) (now (arcs .entry)) (now (given .entry)) (now (flows .entry)) r (now (flows .exit)) ⌝ }
 {
-    let begun = call_flow_bytes::begin(balances, arcs, flows.len());
-    let number = begun.number;
+    let admitted = call_flow_bytes::admit_network(balances, arcs, flows.len());
+    let number = admitted.number;
     if number != 0 {
-        return call_reply::word(number);
+        return call_reply::code_alone(number);
     }
-    let net = begun.net;
-    let walk = call_flow_bytes::find(net, given);
+    let net = admitted.net;
+    let walk = call_flow_bytes::resume_flow(net, given);
     let place = walk.place;
-    if !call_reply::on_line(place) {
-        return call_reply::word(8);
+    if !call_reply::on_item(place) {
+        return call_reply::code_alone(8);
     }
-    call_flow_bytes::hand_out(walk.next(), flows, 101)
+    call_flow_bytes::hand_flow(walk.next(), flows, 101)
 }
 
 // How many least-cost flows there are, up to the cap. Questions 1 to 6.
@@ -60,7 +61,7 @@ pub fn count(balances: &[u8], arcs: &[u8], cap: u16) -> Reply
     let verdict = checked.verdict;
     let number = call_flow_bytes::number_of(verdict);
     if number != 0 {
-        return call_reply::word(number);
+        return call_reply::code_alone(number);
     }
     let net = checked.net;
     let count = flow_enumerate::start(net).count(cap);

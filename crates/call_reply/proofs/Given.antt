@@ -14,15 +14,15 @@ use Rattle.bytes_read.specs.Words.{words}
 use Rattle.bytes_read.proofs.Words.{length-words}
 use Rattle.call_reply.specs.ByteLists.{listed}
 use Rattle.flow_enumerate.specs.declared.Place.{Place}
-use Rattle.flow_enumerate.specs.declared.Place.the-variants.{Line}
-use Rattle.call_reply.specs.Replies.{onLine}
-use Rattle.call_reply.proofs.Places.{is-line}
-use Rattle.call_reply.proofs.Lines.{FullOf, listed-line, line-listed}
+use Rattle.flow_enumerate.specs.declared.Place.the-variants.{Item}
+use Rattle.call_reply.specs.Replies.{onItem}
+use Rattle.call_reply.proofs.Places.{is-item}
+use Rattle.call_reply.proofs.Items.{FullOf, listed-item, item-listed}
 
 differ : ¬ (false ≡ true)
 differ e = let z : _≡_ {A = ℕ} 0 1 = cc in omega arith
 
--- a state on no line, and on one
+-- a state on no item, and on one
 pub on-none : (b : Bool) (v : List ℕ) (o : Option (List ℕ)) → o ≡ cond b (some v) none → o ≡ none → b ≡ false
 on-none true v o e q = absurd (none-some v (sym q ∙ e))
 on-none false v o e q = refl
@@ -38,13 +38,13 @@ read-all k h g e =
     let t : take 512 (words g) ≡ words g = take-all 512 (words g) (omega (arith, l, h)) in
     ap (λ x. take k (padded 512 0 x)) t ∙ ap (λ n. take n (padded 512 0 (words g))) (sym l) ∙ take-padded 512 0 (words g)
 
--- what the question about the given list finds: the state, at place p, is on the line of the bytes, or on none
+-- what the question about the given list finds: the state, at place p, is on the item of the bytes, or on none
 pub found : (k : ℕ) (L : List (List ℕ)) → FullOf k L → (g : List ℕ) → Every (λ b. b < 256) g → length g ≡ 4 * k → (p : Place) (o : Option (List ℕ))
-    → (p ≡ Line → (o ≡ some (words g)) × (words g ∈ L)) → (p ≢ Line → (o ≡ none) × ¬ (words g ∈ L)) → o ≡ cond (listed g L) (some (words g)) none
-found k L full g bytes e p o there away = go (onLine p) refl (listed g L) refl
+    → (p ≡ Item → (o ≡ some (words g)) × (words g ∈ L)) → (p ≢ Item → (o ≡ none) × ¬ (words g ∈ L)) → o ≡ cond (listed g L) (some (words g)) none
+found k L full g bytes e p o there away = go (onItem p) refl (listed g L) refl
   where
-    go : (t : Bool) → onLine p ≡ t → (b : Bool) → listed g L ≡ b → o ≡ cond b (some (words g)) none
-    go true h true q = there (is-line p h) .0
-    go true h false q = absurd (differ (sym q ∙ line-listed k L full g bytes e (there (is-line p h) .1)))
-    go false h true q = absurd (away (λ l. differ (sym h ∙ ap onLine l)) .1 (listed-line k L full g q .1))
-    go false h false q = away (λ l. differ (sym h ∙ ap onLine l)) .0
+    go : (t : Bool) → onItem p ≡ t → (b : Bool) → listed g L ≡ b → o ≡ cond b (some (words g)) none
+    go true h true q = there (is-item p h) .0
+    go true h false q = absurd (differ (sym q ∙ item-listed k L full g bytes e (there (is-item p h) .1)))
+    go false h true q = absurd (away (λ l. differ (sym h ∙ ap onItem l)) .1 (listed-item k L full g q .1))
+    go false h false q = away (λ l. differ (sym h ∙ ap onItem l)) .0

@@ -1,4 +1,4 @@
-pub mod Lines
+pub mod Items
 pub mod Turns
 pub mod Places
 pub mod Room

@@ -1,4 +1,4 @@
--- Whether a walk stands on a line, and the line of its flow.
+-- Whether an enumerator stands on an item, and the item of its flow.
 use mathlib.Core.Path.{_≡_, refl, ap}
 use mathlib.Core.Bool.{Bool, true, false}
 use mathlib.Core.List.{List}
@@ -7,28 +7,28 @@ use mathlib.Core.Option.{none, some}
 use Prim.Native.Nat.{ℕ}
 use native.Mathlib.Omega.{arith}
 use Rattle.flow_enumerate.specs.declared.Place.{Place}
-use Rattle.flow_enumerate.specs.declared.Place.the-variants.{Start, Line, None, End}
-use Rattle.flow_enumerate.specs.Enumerator.{lineAt}
-use Rattle.call_reply.specs.Replies.{onLine}
+use Rattle.flow_enumerate.specs.declared.Place.the-variants.{Start, Item, None, End}
+use Rattle.flow_enumerate.specs.Enumerator.{itemAt}
+use Rattle.call_reply.specs.Replies.{onItem}
 
-pub no-line : (p : Place) (f : List ℕ) → onLine p ≡ false → lineAt p f ≡ none
-no-line Start f e = refl
-no-line Line f e = absurd (let z : _≡_ {A = ℕ} 0 1 = cc in omega arith)
-no-line None f e = refl
-no-line End f e = refl
+pub no-item : (p : Place) (f : List ℕ) → onItem p ≡ false → itemAt p f ≡ none
+no-item Start f e = refl
+no-item Item f e = absurd (let z : _≡_ {A = ℕ} 0 1 = cc in omega arith)
+no-item None f e = refl
+no-item End f e = refl
 
-pub is-line : (p : Place) → onLine p ≡ true → p ≡ Line
-is-line Line e = refl
-is-line Start e = absurd (let z : _≡_ {A = ℕ} 0 1 = cc in omega arith)
-is-line None e = absurd (let z : _≡_ {A = ℕ} 0 1 = cc in omega arith)
-is-line End e = absurd (let z : _≡_ {A = ℕ} 0 1 = cc in omega arith)
+pub is-item : (p : Place) → onItem p ≡ true → p ≡ Item
+is-item Item e = refl
+is-item Start e = absurd (let z : _≡_ {A = ℕ} 0 1 = cc in omega arith)
+is-item None e = absurd (let z : _≡_ {A = ℕ} 0 1 = cc in omega arith)
+is-item End e = absurd (let z : _≡_ {A = ℕ} 0 1 = cc in omega arith)
 
-pub a-line : (p : Place) (f : List ℕ) → onLine p ≡ true → lineAt p f ≡ some f
-a-line p f e = ap (λ q. lineAt q f) (is-line p e)
+pub an-item : (p : Place) (f : List ℕ) → onItem p ≡ true → itemAt p f ≡ some f
+an-item p f e = ap (λ q. itemAt q f) (is-item p e)
 
-pub off-line : (p : Place) (f : List ℕ) → p ≢ Line → lineAt p f ≡ none
-off-line p f n = go (onLine p) refl
+pub off-item : (p : Place) (f : List ℕ) → p ≢ Item → itemAt p f ≡ none
+off-item p f n = go (onItem p) refl
   where
-    go : (t : Bool) → onLine p ≡ t → lineAt p f ≡ none
-    go true h = absurd (n (is-line p h))
-    go false h = no-line p f h
+    go : (t : Bool) → onItem p ≡ t → itemAt p f ≡ none
+    go true h = absurd (n (is-item p h))
+    go false h = no-item p f h

@@ -1,32 +1,29 @@
 -- The questions of a call, in turn: those of the book or network (`asked`, the number of the first that fails, or 0), of the lent lists (`fits`), of the
--- given list. What the theorem about runs asks of them.
+-- given list. What the theorems about runs ask of them.
 use mathlib.Core.Path.{_≡_, refl}
 use mathlib.Core.Bool.{Bool, true, false}
 use mathlib.Core.List.{List}
-use mathlib.Core.Option.{Option, none, some}
+use mathlib.Core.Option.{some}
 use Prim.Native.Nat.{ℕ, zero, suc}
 use native.Mathlib.Omega.{arith}
+use lib.ListN.{getElem?}
 use Rattle.laws.specs.Tests.{ask}
-use Rattle.laws.specs.Equality.{same-list}
-use Rattle.laws.specs.Run.{Call, first, next, Answer, nothing, end, Strange}
 use Rattle.laws.specs.Count.{Count, exactly, more}
 use Rattle.bytes_read.specs.Words.{encodeWords}
-use Rattle.call_reply.specs.Replies.{failed, orElse, countUnless}
-use Rattle.call_reply.specs.ByteLists.{fairGiven}
-use Rattle.call_reply.proofs.Lines.{not-listed}
-
-none-failed : (n : ℕ) → failed n ≡ none → n ≡ 0
-none-failed zero e = refl
-none-failed (suc n) e = absurd (let z : _≡_ {A = ℕ} 0 1 = cc in omega arith)
+use Rattle.laws.specs.Rules.{Call, first, next}
+use Rattle.laws.specs.Seen.{Reading, nothing, end}
+use Rattle.call_reply.specs.Replies.{orElse, countUnless}
+use Rattle.call_reply.specs.ByteLists.{listed}
+use Rattle.call_reply.proofs.Items.{not-listed}
 
 pub first-passed : (n k : ℕ) → orElse n k ≡ 0 → n ≡ 0
 first-passed zero k e = refl
 first-passed (suc n) k e = absurd (omega arith)
 
-one-fails : (n : ℕ) (b : Bool) (q r : ℕ) → (k : ℕ) × (failed (orElse n (ask b (suc q) (suc r))) ≡ some k)
-one-fails zero true q r = (suc r, refl)
-one-fails zero false q r = (suc q, refl)
-one-fails (suc n) b q r = (suc n, refl)
+one-fails : (n : ℕ) (b : Bool) (q r : ℕ) → ¬ (orElse n (ask b (suc q) (suc r)) ≡ 0)
+one-fails zero true q r e = omega arith
+one-fails zero false q r e = omega arith
+one-fails (suc n) b q r e = omega arith
 
 pub all-passed : (n q : ℕ) (b : Bool) → orElse n (ask b (suc q) 0) ≡ 0 → b ≡ true
 all-passed zero q true e = refl
@@ -43,19 +40,12 @@ count-line zero (exactly m) = refl
 count-line zero more = refl
 count-line (suc n) k = refl
 
--- the word where there is no line
-abbrev pub wordOf : {F G N : Type 0} → Call F G N → Answer (List ℕ)
+-- the word where there is no item
+abbrev pub wordOf : {F G N : Type 0} → Call F G N → Reading (List ℕ)
 wordOf (first l) = nothing
 wordOf (next g l) = end
 
-module _ {F N : Type 0} (asked : ℕ) (fits : Call F (List ℕ) N → Bool) (q r : ℕ) (L : List (List ℕ)) where
-  abbrev turns : Call F (List ℕ) N → Option ℕ
-  turns c = failed (orElse asked (ask (fits c) (suc q) (ask (fairGiven L c) (suc r) 0)))
-
-  -- a call that is answered is one of an accepted book or network
-  pub accepts : (c : Call F (List ℕ) N) → turns c ≡ none → asked ≡ 0
-  accepts c e = first-passed asked _ (none-failed _ e)
-
-  -- bytes that are no line are refused
-  pub strange : (g : List ℕ) (b : N) → Strange same-list encodeWords L turns g → (k : ℕ) × (turns (next g b) ≡ some k)
-  strange g b h = rw (not-listed g L h) (one-fails asked (fits (next g b)) q r)
+-- bytes that are no item are refused
+pub strange-refused : (asked : ℕ) (fits : Bool) (q r : ℕ) (L : List (List ℕ)) (g : List ℕ) → ((i : ℕ) (v : List ℕ) → getElem? L i ≡ some v → ¬ (encodeWords v ≡ g))
+    → ¬ (orElse asked (ask fits (suc q) (ask (listed g L) (suc r) 0)) ≡ 0)
+strange-refused asked fits q r L g h = rw (not-listed g L h) (one-fails asked fits q r)

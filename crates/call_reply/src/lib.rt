@@ -4,11 +4,11 @@ ghost use mathlib.Core.Bool.{true};
 ghost use mathlib.Core.Option.{some};
 ghost use lib.ListN.{length, take};
 ghost use Rattle.laws.specs.Count.{counted};
-ghost use Rattle.call_reply.specs.Replies.{word, refusedAt, HandedOut, onLine, countReply};
+ghost use Rattle.call_reply.specs.Replies.{codeAlone, refusedAt, HandsItem, onItem, countReply};
 ghost use Rattle.call_reply.specs.ByteLists.{room};
 use flow_enumerate::Place;
 
-// code: 0 with a line or a count, 100 "none", 101 "end", 102 "more", any other the number of the question failed.
+// code: 0 with an item or a count, 100 "none", 101 "end", 102 "more", any other the number of the question failed.
 // line: the line of a book that fails the question. value: the cost or the count.
 #[repr(C)]
 pub struct Reply {
@@ -17,9 +17,9 @@ pub struct Reply {
     pub value: i64,
 }
 
-// A reply without a line or a count.
-pub fn word(code: u32) -> Reply
-    ensures { λ r. ⌜ r ≡ word code ⌝ }
+// A reply without an item or a count.
+pub fn code_alone(code: u32) -> Reply
+    ensures { λ r. ⌜ r ≡ codeAlone code ⌝ }
 {
     Reply {
         code: code,
@@ -29,7 +29,7 @@ pub fn word(code: u32) -> Reply
 }
 
 // A refusal, with the line that it tells.
-pub fn refused(code: u32, line: u32) -> Reply
+pub fn refused_at(code: u32, line: u32) -> Reply
     ensures { λ r. ⌜ r ≡ refusedAt code line ⌝ }
 {
     Reply {
@@ -50,7 +50,7 @@ pub fn count_reply(count: usize, cap: u16) -> Reply
             value: count as i64,
         }
     } else {
-        word(102)
+        code_alone(102)
     }
 }
 
@@ -65,22 +65,22 @@ pub fn has_room(k: usize, bytes: usize) -> bool
     }
 }
 
-// Whether a walk at this place stands on a line.
-pub fn on_line(place: Place) -> bool
-    ensures { λ r. ⌜ r ≡ onLine place ⌝ }
+// Whether an enumerator at this place stands on an item.
+pub fn on_item(place: Place) -> bool
+    ensures { λ r. ⌜ r ≡ onItem place ⌝ }
 {
     match place {
         Place::Start => false,
-        Place::Line => true,
+        Place::Item => true,
         Place::None => false,
         Place::End => false,
     }
 }
 
-// Writes a line, the first k numbers, and replies its cost.
-pub fn hand_line(numbers: &[u32], k: usize, cost: i64, out: &mut [u8]) -> Reply
+// Writes an item, the first k numbers, and replies its cost.
+pub fn hand_item(numbers: &[u32], k: usize, cost: i64, out: &mut [u8]) -> Reply
     requires { ⌜ room k (length (now out)) ≡ true ⌝ }
-    ensures { λ r. ⌜ HandedOut (λ _. cost) (some (take k (now (numbers .entry)))) 0 (now (out .entry)) r (now (out .exit)) ⌝ }
+    ensures { λ r. let item = take k (now (numbers .entry)) in ⌜ HandsItem (λ _. cost) (some item) 0 (now (out .entry)) r (now (out .exit)) ⌝ }
 {
     bytes_write::write_words(out, numbers, k);
     Reply {

@@ -1,3 +1,3 @@
-pub mod BookLines
-pub mod BookBytes
+pub mod WayItems
+pub mod Admitting
 mod HandingWays

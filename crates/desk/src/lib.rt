@@ -20,7 +20,8 @@ pub extern "C" fn desk_network_first_priced(
     flows: &mut [u8],
     prices: &mut [u8],
 ) -> Reply
-    ensures { λ r. ⌜ NetworkFirstPriced (now (balances .entry)) (now (arcs .entry)) (now (flows .entry)) (now (prices .entry)) r (now (flows .exit)) (now (prices .exit)) ⌝ }
+    ensures { λ r. ⌜ NetworkFirstPriced (now (balances .entry)) (now (arcs .entry)) (now (flows .entry)) (now (prices .entry)) r
+        (now (flows .exit)) (now (prices .exit)) ⌝ }
 {
     call_network::first_priced(balances, arcs, flows, prices)
 }

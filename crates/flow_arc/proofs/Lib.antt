@@ -1,5 +1,5 @@
 mod Lists
-mod Detours
+mod WalksAbove
 pub mod Certified
 pub mod Candidates
 pub mod Lowering

@@ -2,13 +2,13 @@
 use mathlib.Core.List.{List}
 use mathlib.Core.Bool.{Bool}
 use Prim.Native.Nat.{ℕ}
-use lib.IntN.{ℤ}
-use Rattle.net_theory.specs.FreeArcs.{Path, Blocked}
-use Rattle.net_theory.specs.Graph.{graph, netWith}
+use Rattle.net_model.specs.Network.{Net}
+use Rattle.net_theory.specs.FreeArcs.{FreeWalk, Blocked}
+use Rattle.net_theory.specs.Graph.{bare}
 
-module _ (t h l u : List ℕ) (f : List ℕ) (b c : List ℤ) (free : List Bool) (x y from : ℕ) where
-  pub path-net : (cs : List ℕ) → Path (graph t h l u) f free x y from cs → Path (netWith b t h l u c) f free x y from cs
-  path-net cs p = record { trail = p .trail; distinct = p .distinct; low = p .low; passes = p .passes }
+module _ (N : Net) (f : List ℕ) (free : List Bool) (x y from : ℕ) where
+  pub path-whole : (cs : List ℕ) → FreeWalk (bare N) f free x y from cs → FreeWalk N f free x y from cs
+  path-whole cs p = record { walk = p .walk; distinct = p .distinct; low = p .low }
 
-  pub blocked-net : Blocked (graph t h l u) f free x y from → Blocked (netWith b t h l u c) f free x y from
-  blocked-net p = record { inside = p .inside; has = p .has; lacks = p .lacks; shut = p .shut }
+  pub blocked-whole : Blocked (bare N) f free x y from → Blocked N f free x y from
+  blocked-whole p = record { inside = p .inside; has = p .has; lacks = p .lacks; shut = p .shut }

@@ -4,7 +4,7 @@ use mathlib.Core.List.{List}
 use Prim.Native.Nat.{ℕ, suc}
 use lib.ListN.{getD}
 use Rattle.net_model.specs.Network.{Net, LeastCost}
-use Rattle.net_theory.specs.Cuts.{Agree, NoLess}
+use Rattle.net_theory.specs.Order.{Agree, NoLess}
 
 -- arc k as low as the arcs before it let it be
 pub record Lowered (N : Net) (f f′ : List ℕ) (k : ℕ) : Type 0 where

@@ -1,3 +1,3 @@
-pub mod Tight
-pub mod Detours
+pub mod FreeMarks
+pub mod WalksAbove
 pub mod Changes

@@ -1,16 +1,19 @@
 // One arc of a least-cost flow lowered or raised while the arcs before it stay.
-// `tight` marks arcs of reduced cost 0: no least-cost flow differs from another on the rest.
-ghost use Prim.Native.Nat.{suc, _+_, _≤_, _<_};
+// `free` marks arcs of reduced cost 0: no least-cost flow differs from another on the rest.
+ghost use mathlib.Core.List.{[]};
+ghost use Prim.Native.Nat.{suc, _≤_, _<_};
 ghost use lib.ListN.{length, getD, take};
-ghost use Rattle.net_theory.specs.Graph.{graph};
-ghost use Rattle.net_theory.specs.Push.{InBounds};
+ghost use Rattle.net_model.specs.Network.{arcs, low, up};
+ghost use Rattle.net_theory.specs.Graph.{netWith};
+ghost use Rattle.net_theory.specs.Bounds.{InBounds};
 ghost use Rattle.net_theory.specs.FreeArcs.{Raisable};
-ghost use Rattle.net_theory.specs.Ready.{SmallBounds, Ready};
-ghost use Rattle.flow_arc.specs.Tight.{Tight, ForAll};
-ghost use Rattle.flow_arc.specs.Detours.{RoomAbove, TakenOff, PutOn};
+ghost use Rattle.net_theory.specs.Limits.{SmallBounds};
+ghost use Rattle.net_theory.specs.Ready.{Ready};
+ghost use Rattle.flow_arc.specs.FreeMarks.{FreeMarks, ForAll};
+ghost use Rattle.flow_arc.specs.WalksAbove.{CapacityAbove, TakenOff, PutOn};
 ghost use Rattle.flow_arc.specs.Changes.{Lowered, RaisedByOne};
 
-// As much as there is room for is taken off arc a and sent along the codes instead.
+// As much as the capacities allow is taken off arc a and sent along the codes instead.
 fn take_off(
     tails: &[u8],
     lows: &[u32],
@@ -20,12 +23,15 @@ fn take_off(
     len: usize,
     a: usize,
 )
-    requires { ⌜ (len ≤ length (now codes)) × SmallBounds (graph (now tails) (now tails) (now lows) (now ups)) × InBounds (graph (now tails) (now tails) (now lows) (now ups)) (now flow) × (a < length (now tails)) × (getD (now lows) a 0 < getD (now flow) a 0) × RoomAbove (graph (now tails) (now tails) (now lows) (now ups)) (now flow) a (take len (now codes)) ⌝ }
-    ensures { λ _. ⌜ TakenOff (graph (now (tails .entry)) (now (tails .entry)) (now (lows .entry)) (now (ups .entry))) (now (flow .entry)) (now (flow .exit)) a (take len (now (codes .entry))) ⌝ }
+    requires { let N = netWith [] (now tails) [] (now lows) (now ups) [] in
+        ⌜ (len ≤ length (now codes)) × SmallBounds N × InBounds N (now flow) × (a < arcs N) × (low N a < getD (now flow) a 0)
+        × CapacityAbove N (now flow) a (take len (now codes)) ⌝ }
+    ensures { λ _. let N = netWith [] (now (tails .entry)) [] (now (lows .entry)) (now (ups .entry)) [] in
+        ⌜ TakenOff N (now (flow .entry)) (now (flow .exit)) a (take len (now (codes .entry))) ⌝ }
 {
     let f = flow[a];
     let l = lows[a];
-    let d = flow_push::room(tails, lows, ups, flow, codes, len, f - l);
+    let d = flow_push::bottleneck(tails, lows, ups, flow, codes, len, f - l);
     flow[a] = f - d;
     flow_push::push(tails, lows, ups, flow, codes, len, d);
 }
@@ -40,8 +46,11 @@ fn put_on(
     len: usize,
     a: usize,
 )
-    requires { ⌜ (len ≤ length (now codes)) × SmallBounds (graph (now tails) (now tails) (now lows) (now ups)) × InBounds (graph (now tails) (now tails) (now lows) (now ups)) (now flow) × (a < length (now tails)) × (getD (now flow) a 0 < getD (now ups) a 0) × RoomAbove (graph (now tails) (now tails) (now lows) (now ups)) (now flow) a (take len (now codes)) ⌝ }
-    ensures { λ _. ⌜ PutOn (graph (now (tails .entry)) (now (tails .entry)) (now (lows .entry)) (now (ups .entry))) (now (flow .entry)) (now (flow .exit)) a (take len (now (codes .entry))) ⌝ }
+    requires { let N = netWith [] (now tails) [] (now lows) (now ups) [] in
+        ⌜ (len ≤ length (now codes)) × SmallBounds N × InBounds N (now flow) × (a < arcs N) × (getD (now flow) a 0 < up N a)
+        × CapacityAbove N (now flow) a (take len (now codes)) ⌝ }
+    ensures { λ _. let N = netWith [] (now (tails .entry)) [] (now (lows .entry)) (now (ups .entry)) [] in
+        ⌜ PutOn N (now (flow .entry)) (now (flow .exit)) a (take len (now (codes .entry))) ⌝ }
 {
     let f = flow[a];
     flow[a] = f + 1;
@@ -54,14 +63,17 @@ pub fn lower(
     heads: &[u8],
     lows: &[u32],
     ups: &[u32],
-    tight: &[bool],
+    free: &[bool],
     flow: &mut [u32],
     a: usize,
 )
-    requires { ⌜ Ready (graph (now tails) (now heads) (now lows) (now ups)) (now flow) (now tight) × (a < length (now tails)) ⌝ }
-    ensures { λ _. ⌜ InBounds (graph (now (tails .entry)) (now (heads .entry)) (now (lows .entry)) (now (ups .entry))) (now (flow .exit)) × ForAll (now (tails .entry)) (now (heads .entry)) (now (lows .entry)) (now (ups .entry)) (λ N π. Tight N π (now (tight .entry)) (now (flow .entry)) → Lowered N (now (flow .entry)) (now (flow .exit)) a) ⌝ }
+    requires { let N = netWith [] (now tails) (now heads) (now lows) (now ups) [] in
+        ⌜ Ready N (now flow) (now free) × (a < arcs N) ⌝ }
+    ensures { λ _. let N = netWith [] (now (tails .entry)) (now (heads .entry)) (now (lows .entry)) (now (ups .entry)) [] in
+        ⌜ InBounds N (now (flow .exit))
+        × ForAll N (λ M π. FreeMarks M π (now (free .entry)) (now (flow .entry)) → Lowered M (now (flow .entry)) (now (flow .exit)) a) ⌝ }
 {
-    if !tight[a] {
+    if !free[a] {
         return;
     }
     let s = tails[a] as usize;
@@ -73,12 +85,12 @@ pub fn lower(
             return;
         }
         let mut codes = [0usize; 64];
-        let route = flow_path::detour(
+        let route = flow_path::find_walk(
             tails,
             heads,
             lows,
             ups,
-            tight,
+            free,
             flow,
             s,
             t,
@@ -98,28 +110,20 @@ pub fn raise(
     heads: &[u8],
     lows: &[u32],
     ups: &[u32],
-    tight: &[bool],
+    free: &[bool],
     flow: &mut [u32],
     a: usize,
 )
-    requires { ⌜ Ready (graph (now tails) (now heads) (now lows) (now ups)) (now flow) (now tight) × (a < length (now tails)) × Raisable (graph (now tails) (now heads) (now lows) (now ups)) (now flow) (now tight) (suc a) a ⌝ }
-    ensures { λ _. ⌜ InBounds (graph (now (tails .entry)) (now (heads .entry)) (now (lows .entry)) (now (ups .entry))) (now (flow .exit)) × ForAll (now (tails .entry)) (now (heads .entry)) (now (lows .entry)) (now (ups .entry)) (λ N π. Tight N π (now (tight .entry)) (now (flow .entry)) → RaisedByOne N (now (flow .entry)) (now (flow .exit)) a) ⌝ }
+    requires { let N = netWith [] (now tails) (now heads) (now lows) (now ups) [] in
+        ⌜ Ready N (now flow) (now free) × (a < arcs N) × Raisable N (now flow) (now free) (suc a) a ⌝ }
+    ensures { λ _. let N = netWith [] (now (tails .entry)) (now (heads .entry)) (now (lows .entry)) (now (ups .entry)) [] in
+        ⌜ InBounds N (now (flow .exit))
+        × ForAll N (λ M π. FreeMarks M π (now (free .entry)) (now (flow .entry)) → RaisedByOne M (now (flow .entry)) (now (flow .exit)) a) ⌝ }
 {
     let s = tails[a] as usize;
     let t = heads[a] as usize;
     let mut codes = [0usize; 64];
-    let route = flow_path::detour(
-        tails,
-        heads,
-        lows,
-        ups,
-        tight,
-        flow,
-        t,
-        s,
-        a + 1,
-        &mut codes,
-    );
+    let route = flow_path::find_walk(tails, heads, lows, ups, free, flow, t, s, a + 1, &mut codes);
     match route {
         flow_path::Route::Codes(len) => put_on(tails, lows, ups, flow, &codes, len, a),
         flow_path::Route::Cut => return,

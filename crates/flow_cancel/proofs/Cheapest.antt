@@ -1,24 +1,24 @@
--- What `cheapen` leaves of a flow is a flow of least cost.
+-- What `cancel_negative_cycles` leaves of a flow is a flow of least cost.
 use mathlib.Core.Path.{_∙_}
 use mathlib.Core.List.{List}
 use Prim.Native.Nat.{ℕ}
 use lib.IntN.{ℤ}
-use Rattle.net_model.specs.Network.{WellFormed, IsFlow, LeastCost}
+use Rattle.net_model.specs.Network.{Net, WellFormed, IsFlow, LeastCost}
 use Rattle.net_model.specs.Potential.{FeasiblePotential}
-use Rattle.net_theory.specs.Graph.{netWith, costGraph}
-use Rattle.net_theory.specs.Optimality.{feasible-least}
-use Rattle.net_theory.specs.Room.{roomy}
+use Rattle.net_theory.specs.Graph.{costed}
+use Rattle.net_theory.specs.ResidualCapacity.{hasCapacity}
+use Rattle.net_theory.proofs.Optimality.{feasible-least}
 use Rattle.flow_cancel.specs.Cancelling.{Rerouted}
 
-module _ (b : List ℤ) (t h l u : List ℕ) (c : List ℤ) (f g : List ℕ) where
+module _ (N : Net) (f g : List ℕ) where
   -- as much out of every node as before: still a flow
-  pub rerouted-flow : IsFlow (netWith b t h l u c) f → Rerouted (costGraph t h l u c) f g → IsFlow (netWith b t h l u c) g
+  pub rerouted-flow : IsFlow N f → Rerouted (costed N) f g → IsFlow N g
   rerouted-flow F R = record {
-    all-arcs = R .bounds .all-arcs;
-    above = R .bounds .above;
-    below = R .bounds .below;
+    all-arcs = R .within .all-arcs;
+    above = R .within .above;
+    below = R .within .below;
     balanced = λ v k. R .same v ∙ F .balanced v k;
   }
 
-  pub cheapest : WellFormed (netWith b t h l u c) → IsFlow (netWith b t h l u c) f → Rerouted (costGraph t h l u c) f g → (π : ℕ → ℤ) → FeasiblePotential (costGraph t h l u c) (roomy (costGraph t h l u c) g 1) π → LeastCost (netWith b t h l u c) g
-  cheapest ok F R π = feasible-least (netWith b t h l u c) ok g π (rerouted-flow F R)
+  pub cheapest : WellFormed N → IsFlow N f → Rerouted (costed N) f g → (π : ℕ → ℤ) → FeasiblePotential (costed N) (hasCapacity (costed N) g 1) π → LeastCost N g
+  cheapest ok F R π = feasible-least N ok g π (rerouted-flow F R)

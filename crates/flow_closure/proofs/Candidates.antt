@@ -6,12 +6,13 @@ use mathlib.Core.Bool.{Bool, true, false}
 use Prim.Native.Nat.{ℕ, suc, _-_, _≤_, _<_}
 use native.Mathlib.Omega.{arith}
 use native.Mathlib.Decide.{ℕ-discrete}
+use lib.ListN.{length}
 use Rattle.net_model.specs.Network.{Net, arcs, tail, head}
 use Rattle.net_theory.specs.Ready.{Searchable}
 use Rattle.net_theory.specs.FreeArcs.{Reaches, Raisable, Lowerable, Blocked, NotRaisable, NotLowerable}
 use Rattle.flow_preorder.specs.Preorder.{leads}
 use Rattle.flow_closure.specs.Closure.{Closure}
-use Rattle.flow_closure.specs.Candidates.{HasStep, Closes, ClosesNone, NoneRaisable, LastRaisable, FirstLowerable}
+use Rattle.flow_closure.specs.Candidates.{HasStep, Closes, ClosesNone, NoneRaisable, AfterLastRaisable, FirstLowerable}
 use Rattle.flow_closure.proofs.Closure.{closure-blocked}
 
 -- what holds from a on holds from a - 1 on, once it holds of a - 1
@@ -27,40 +28,41 @@ module _ (N : Net) (f : List ℕ) (free : List Bool) where
   pub before-arc : (a : ℕ) (rows : List ℕ) → 0 < a → Closure N f free a rows → Closure N f free (suc (a - 1)) rows
   before-arc a rows h cl = let e : a ≡ suc (a - 1) = omega arith in subst (λ (i : ℕ). Closure N f free i rows) e cl
 
-  module _ (ok : Searchable 64 N f free) (a : ℕ) (rows : List ℕ) (h : a < arcs N) (from : ℕ) (cl : Closure N f free from rows) where
+  module _ (ok : Searchable N f free) (a : ℕ) (rows : List ℕ) (h : a < arcs N) (rows-len : length rows ≡ 65) where
     pub raises : HasStep (N .tails) (N .heads) f (N .ups) free rows a
     raises = record {
       near-has = h;
-      far-has = omega (arith, ok .heads-len);
+      far-has = omega (arith, ok .ends .heads-len);
       lowers-has = omega (arith, ok .flow-len);
-      uppers-has = omega (arith, ok .ups-len);
+      uppers-has = omega (arith, ok .bounds .ups-len);
       free-has = omega (arith, ok .free-len);
-      near-in = ok .tail-in a h;
-      far-in = ok .head-in a h;
-      rows-len = cl .preorder .rows-len;
+      near-in = ok .ends .tail-in a h;
+      far-in = ok .ends .head-in a h;
+      rows-len = rows-len;
     }
 
     pub lowers : HasStep (N .heads) (N .tails) (N .lows) f free rows a
     lowers = record {
-      near-has = omega (arith, ok .heads-len);
+      near-has = omega (arith, ok .ends .heads-len);
       far-has = h;
-      lowers-has = omega (arith, ok .lows-len);
+      lowers-has = omega (arith, ok .bounds .lows-len);
       uppers-has = omega (arith, ok .flow-len);
       free-has = omega (arith, ok .free-len);
-      near-in = ok .head-in a h;
-      far-in = ok .tail-in a h;
-      rows-len = cl .preorder .rows-len;
+      near-in = ok .ends .head-in a h;
+      far-in = ok .ends .tail-in a h;
+      rows-len = rows-len;
     }
 
+  module _ (ok : Searchable N f free) (a : ℕ) (rows : List ℕ) (h : a < arcs N) (from : ℕ) (cl : Closure N f free from rows) where
     -- an end that leads to the other reaches it
     together : (s t : ℕ) → s < 64 → {P Q : Type 0} → P × Q × (leads rows s t ≡ true) → P × Q × Reaches N f free s t from
     together s t k (p, q, e) = (p, q, cl .sound s t k e)
 
     pub raisable : Closes (N .tails) (N .heads) f (N .ups) free rows a → Raisable N f free from a
-    raisable = together (head N a) (tail N a) (ok .head-in a h)
+    raisable = together (head N a) (tail N a) (ok .ends .head-in a h)
 
     pub lowerable : Closes (N .heads) (N .tails) (N .lows) f free rows a → Lowerable N f free from a
-    lowerable = together (tail N a) (head N a) (ok .tail-in a h)
+    lowerable = together (tail N a) (head N a) (ok .ends .tail-in a h)
 
     -- an end that does not lead to the other is out of its reach
     apart : (s t : ℕ) → s < 64 → {P Q : Type 0} → P ⊎ (Q ⊎ (leads rows s t ≡ false)) → P ⊎ (Q ⊎ Blocked N f free s t from)
@@ -69,10 +71,10 @@ module _ (N : Net) (f : List ℕ) (free : List Bool) where
     apart s t k (inr (inr e)) = inr (inr (closure-blocked N f free from rows s t cl k e))
 
     pub not-raisable : ClosesNone (N .tails) (N .heads) f (N .ups) free rows a → NotRaisable N f free from a
-    not-raisable = apart (head N a) (tail N a) (ok .head-in a h)
+    not-raisable = apart (head N a) (tail N a) (ok .ends .head-in a h)
 
     pub not-lowerable : ClosesNone (N .heads) (N .tails) (N .lows) f free rows a → NotLowerable N f free from a
-    not-lowerable = apart (tail N a) (head N a) (ok .tail-in a h)
+    not-lowerable = apart (tail N a) (head N a) (ok .ends .tail-in a h)
 
   pub raisable-start : NoneRaisable N f free (arcs N)
   raisable-start = record { in-range = omega arith; none = λ a h l. absurd (omega arith) }
@@ -81,10 +83,10 @@ module _ (N : Net) (f : List ℕ) (free : List Bool) where
   raisable-step a h w s = record { in-range = omega (arith, w .in-range); none = one-down (λ i. NotRaisable N f free (suc i) i) a (arcs N) s (w .none) }
 
   -- arc after - 1 can be raised, or there is none
-  pub raisable-last : (after : ℕ) → NoneRaisable N f free after → Raisable N f free after (after - 1) → LastRaisable N f free after
+  pub raisable-last : (after : ℕ) → NoneRaisable N f free after → Raisable N f free after (after - 1) → AfterLastRaisable N f free after
   raisable-last after w r = record { none = w; last = λ _. r }
 
-  pub raisable-none : (after : ℕ) → after ≤ 0 → NoneRaisable N f free after → LastRaisable N f free after
+  pub raisable-none : (after : ℕ) → after ≤ 0 → NoneRaisable N f free after → AfterLastRaisable N f free after
   raisable-none after h w = record { none = w; last = λ l. absurd (omega arith) }
 
   pub lowerable-start : FirstLowerable N f free (arcs N) (arcs N)

@@ -11,8 +11,8 @@ use lib.ListN.{getD}
 use Rattle.laws.specs.Tests.{and-true, true-and}
 use Rattle.net_model.specs.Network.{Net, arcs, tail, head, low, up}
 use Rattle.net_model.specs.Residual.{codes, src, dst}
-use Rattle.net_theory.specs.Codes.{even-code, odd-code, even-arc, odd-arc}
 use Rattle.net_theory.specs.FreeArcs.{goes, Reaches, Blocked}
+use Rattle.net_theory.proofs.Codes.{even-code, odd-code, even-arc, odd-arc}
 use Rattle.flow_preorder.specs.Preorder.{leads, Alone, Extended}
 use Rattle.flow_closure.specs.Closure.{Closure}
 use Rattle.flow_closure.proofs.Reaching.{reaches-itself, reaches-by, reaches-over, reaches-earlier}

@@ -12,21 +12,12 @@ use Rattle.net_model.specs.Network.{Net, arcs}
 use Rattle.net_theory.specs.Ready.{Searchable}
 use Rattle.net_theory.specs.FreeArcs.{Raisable, Lowerable, NotRaisable, NotLowerable}
 use Rattle.flow_closure.specs.Closure.{Closure}
-use Rattle.flow_closure.specs.Candidates.{HasStep, Closes, ClosesNone, Narrowed}
+use Rattle.flow_closure.specs.Candidates.{Closes, ClosesNone, OnCycle, UnmarkFixed}
 use Rattle.flow_closure.proofs.Candidates.{raisable, lowerable, not-raisable, not-lowerable}
 
 -- other marks, as many
-pub step-marks : (near far lowers uppers : List ℕ) (free cur : List Bool) (rows : List ℕ) (a : ℕ) → length cur ≡ length free → HasStep near far lowers uppers free rows a → HasStep near far lowers uppers cur rows a
-step-marks near far lowers uppers free cur rows a e h = record {
-  near-has = h .near-has;
-  far-has = h .far-has;
-  lowers-has = h .lowers-has;
-  uppers-has = h .uppers-has;
-  free-has = omega (arith, h .free-has);
-  near-in = h .near-in;
-  far-in = h .far-in;
-  rows-len = h .rows-len;
-}
+pub other-marks : (N : Net) (f : List ℕ) (free cur : List Bool) → length cur ≡ length free → Searchable N f free → Searchable N f cur
+other-marks N f free cur e k = record { ends = k .ends; bounds = k .bounds; flow-len = k .flow-len; free-len = e ∙ k .free-len }
 
 module _ (N : Net) (f : List ℕ) (free : List Bool) where
   -- mark b of arc a
@@ -42,16 +33,14 @@ module _ (N : Net) (f : List ℕ) (free : List Bool) where
   pub narrowing-start : Narrowing free 0
   narrowing-start = record { same-len = refl; passed = λ i h. absurd (omega arith); rest = λ i h. refl }
 
-  pub narrowing-done : (cur : List Bool) (a : ℕ) → arcs N ≤ a → Narrowing cur a → Narrowed N f free cur
+  pub narrowing-done : (cur : List Bool) (a : ℕ) → arcs N ≤ a → Narrowing cur a → UnmarkFixed N f free cur
   narrowing-done cur a h n = record { left = λ i l. n .passed i (omega arith) .0; others = λ i l. n .passed i (omega arith) .1 }
 
-  module _ (ok : Searchable 64 N f free) (rows : List ℕ) (cl : Closure N f free 0 rows) where
-    pub narrowing-step : (cur : List Bool) (a : ℕ) (b : Bool) → a < arcs N → Narrowing cur a
-        → (b ≡ true → Closes (N .tails) (N .heads) f (N .ups) cur rows a ⊎ Closes (N .heads) (N .tails) (N .lows) f cur rows a)
-        → (b ≡ false → ClosesNone (N .tails) (N .heads) f (N .ups) cur rows a × ClosesNone (N .heads) (N .tails) (N .lows) f cur rows a) → Narrowing (set cur a b) (a + 1)
-    narrowing-step cur a b l n some none = record {
+  module _ (ok : Searchable N f free) (rows : List ℕ) (cl : Closure N f free 0 rows) where
+    pub narrowing-step : (cur : List Bool) (a : ℕ) (b : Bool) → a < arcs N → Narrowing cur a → OnCycle N f cur rows a b → Narrowing (set cur a b) (a + 1)
+    narrowing-step cur a b l n o = record {
       same-len = length-set cur a b ∙ n .same-len;
-      passed = set-more Right cur a b false (omega (arith, n .same-len, ok .free-len)) (n .passed) (λ e. moves (rw same at (some e)), λ e. fixed (rw same at (none e)));
+      passed = set-more Right cur a b false (omega (arith, n .same-len, ok .free-len)) (n .passed) (λ e. moves (rw same at (o .closes e)), λ e. fixed (rw same at (o .none e)));
       rest = λ i h. getD-set-other cur a i b false (λ q. omega arith) ∙ n .rest i (omega arith);
     }
       where

@@ -7,28 +7,26 @@ use native.Mathlib.Omega.{arith}
 use Rattle.laws.specs.Members.{every-map, every-append}
 use Rattle.net_model.specs.Network.{Net}
 use Rattle.net_model.specs.Residual.{codes, src, dst}
-use Rattle.net_theory.specs.Push.{way-append}
+use Rattle.net_model.proofs.Walks.{walk-append}
 use Rattle.net_theory.specs.FreeArcs.{goes, Reaches}
 
 module _ (N : Net) (f : List ℕ) (free : List Bool) where
   pub reaches-itself : (from u v : ℕ) → u ≡ v → Reaches N f free u v from
-  reaches-itself from u v e = record { codes = []; trail = e; low = tt; passes = tt }
+  reaches-itself from u v e = record { codes = []; walk = e; low = tt }
 
   pub reaches-by : (from c : ℕ) → from + from ≤ c → c < codes N → goes N f free c ≡ true → Reaches N f free (src N c) (dst N c) from
-  reaches-by from c h l g = record { codes = c ∷ []; trail = (l, refl, refl); low = (h, tt); passes = (g, tt) }
+  reaches-by from c h l g = record { codes = c ∷ []; walk = (l, g, refl, refl); low = (h, tt) }
 
   pub reaches-over : (from u v w : ℕ) → Reaches N f free u v from → Reaches N f free v w from → Reaches N f free u w from
   reaches-over from u v w p q = record {
     codes = q .codes ++ p .codes;
-    trail = way-append (codes N) (src N) (dst N) (q .codes) (p .codes) u v w (q .trail) (p .trail);
+    walk = walk-append (codes N) (src N) (dst N) (goes N f free) u v w (q .codes) (p .codes) (q .walk) (p .walk);
     low = every-append (λ c. from + from ≤ c) (q .codes) (p .codes) (q .low) (p .low);
-    passes = every-append (λ c. goes N f free c ≡ true) (q .codes) (p .codes) (q .passes) (p .passes);
   }
 
   pub reaches-earlier : (from u v : ℕ) → Reaches N f free u v (suc from) → Reaches N f free u v from
   reaches-earlier from u v r = record {
     codes = r .codes;
-    trail = r .trail;
+    walk = r .walk;
     low = every-map (λ c. suc from + suc from ≤ c) (λ c. from + from ≤ c) (r .codes) (λ c h. omega arith) (r .low);
-    passes = r .passes;
   }

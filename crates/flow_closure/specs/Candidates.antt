@@ -20,13 +20,23 @@ pub record HasStep (near far lowers uppers : List ℕ) (free : List Bool) (rows 
   pub far-in : getD far a 0 < 64
   pub rows-len : length rows ≡ 65
 
--- the arc is free, and has room, and its far end leads to its near end
+-- the arc is free, and has capacity, and its far end leads to its near end
 abbrev pub Closes : List ℕ → List ℕ → List ℕ → List ℕ → List Bool → List ℕ → ℕ → Type 0
 Closes near far lowers uppers free rows a = (getD free a false ≡ true) × (getD lowers a 0 < getD uppers a 0) × (leads rows (getD far a 0) (getD near a 0) ≡ true)
 
--- it is not free, or has no room, or its far end does not lead to its near end
+-- it is not free, or has no capacity, or its far end does not lead to its near end
 abbrev pub ClosesNone : List ℕ → List ℕ → List ℕ → List ℕ → List Bool → List ℕ → ℕ → Type 0
 ClosesNone near far lowers uppers free rows a = (getD free a false ≡ false) ⊎ ((getD uppers a 0 ≤ getD lowers a 0) ⊎ (leads rows (getD far a 0) (getD near a 0) ≡ false))
+
+-- the answer r of a test of that step
+pub record ClosesCycle (near far lowers uppers : List ℕ) (free : List Bool) (rows : List ℕ) (a : ℕ) (r : Bool) : Type 0 where
+  pub closes : r ≡ true → Closes near far lowers uppers free rows a
+  pub none : r ≡ false → ClosesNone near far lowers uppers free rows a
+
+-- the answer r of a test of both steps of arc a: the one that raises it goes from its tail to its head, the one that lowers it goes back
+pub record OnCycle (N : Net) (f : List ℕ) (free : List Bool) (rows : List ℕ) (a : ℕ) (r : Bool) : Type 0 where
+  pub closes : r ≡ true → Closes (N .tails) (N .heads) f (N .ups) free rows a ⊎ Closes (N .heads) (N .tails) (N .lows) f free rows a
+  pub none : r ≡ false → ClosesNone (N .tails) (N .heads) f (N .ups) free rows a × ClosesNone (N .heads) (N .tails) (N .lows) f free rows a
 
 -- no arc from `from` on can be raised by way of the arcs after it
 pub record NoneRaisable (N : Net) (f : List ℕ) (free : List Bool) (from : ℕ) : Type 0 where
@@ -34,7 +44,7 @@ pub record NoneRaisable (N : Net) (f : List ℕ) (free : List Bool) (from : ℕ)
   pub none : (a : ℕ) → from ≤ a → a < arcs N → NotRaisable N f free (suc a) a
 
 -- and the one before them can, if there is one
-pub record LastRaisable (N : Net) (f : List ℕ) (free : List Bool) (after : ℕ) : Type 0 where
+pub record AfterLastRaisable (N : Net) (f : List ℕ) (free : List Bool) (after : ℕ) : Type 0 where
   pub none : NoneRaisable N f free after
   pub last : 0 < after → Raisable N f free after (after - 1)
 
@@ -51,6 +61,6 @@ pub record FirstLowerable (N : Net) (f : List ℕ) (free : List Bool) (from to :
 
 -- the arcs left free are those that can be raised or lowered by way of those that were: of the tight arcs of a least-cost flow, at least all on
 -- which another differs. There may be more, as a way may go back over the arc itself.
-pub record Narrowed (N : Net) (f : List ℕ) (free free′ : List Bool) : Type 0 where
+pub record UnmarkFixed (N : Net) (f : List ℕ) (free free′ : List Bool) : Type 0 where
   pub left : (a : ℕ) → a < arcs N → getD free′ a false ≡ true → Raisable N f free 0 a ⊎ Lowerable N f free 0 a
   pub others : (a : ℕ) → a < arcs N → getD free′ a false ≡ false → NotRaisable N f free 0 a × NotLowerable N f free 0 a

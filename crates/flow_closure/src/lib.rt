@@ -1,16 +1,16 @@
 // Which arcs can be raised or lowered, by one walk over the arcs from the last down.
-// The walk keeps the transitive closure of the residual steps of the free arcs passed (crate preorder): an arc can be raised or lowered if its
+// The walk keeps the transitive closure of the residual steps of the free arcs passed (crate flow_preorder): an arc can be raised or lowered if its
 // step closes a cycle. The closure of all of them shows which arcs can be neither.
 ghost use mathlib.Core.Path.{_≡_};
-ghost use mathlib.Core.Logic.{_⊎_};
-ghost use mathlib.Core.Bool.{true, false};
+ghost use mathlib.Core.List.{[]};
 ghost use Prim.Native.Nat.{suc, _≤_, _<_};
 ghost use lib.ListN.{length};
-ghost use Rattle.net_theory.specs.Graph.{graph};
+ghost use Rattle.net_model.specs.Network.{arcs};
+ghost use Rattle.net_theory.specs.Graph.{netWith};
 ghost use Rattle.net_theory.specs.Ready.{Searchable};
 ghost use Rattle.flow_preorder.specs.Preorder.{Alone};
 ghost use Rattle.flow_closure.specs.Closure.{Closure};
-ghost use Rattle.flow_closure.specs.Candidates.{HasStep, Closes, ClosesNone, LastRaisable, FirstLowerable, Narrowed};
+ghost use Rattle.flow_closure.specs.Candidates.{HasStep, ClosesCycle, OnCycle, AfterLastRaisable, FirstLowerable, UnmarkFixed};
 
 // The steps of arc a.
 fn add_arc(
@@ -23,8 +23,10 @@ fn add_arc(
     rows: &mut [u64],
     a: usize,
 )
-    requires { ⌜ Searchable 64 (graph (now tails) (now heads) (now lows) (now ups)) (now flow) (now free) × (a < length (now tails)) × Closure (graph (now tails) (now heads) (now lows) (now ups)) (now flow) (now free) (suc a) (now rows) ⌝ }
-    ensures { λ _. ⌜ Closure (graph (now (tails .entry)) (now (heads .entry)) (now (lows .entry)) (now (ups .entry))) (now (flow .entry)) (now (free .entry)) a (now (rows .exit)) ⌝ }
+    requires { let N = netWith [] (now tails) (now heads) (now lows) (now ups) [] in
+        ⌜ Searchable N (now flow) (now free) × (a < arcs N) × Closure N (now flow) (now free) (suc a) (now rows) ⌝ }
+    ensures { λ _. let N = netWith [] (now (tails .entry)) (now (heads .entry)) (now (lows .entry)) (now (ups .entry)) [] in
+        ⌜ Closure N (now (flow .entry)) (now (free .entry)) a (now (rows .exit)) ⌝ }
 {
     if !free[a] {
         return;
@@ -49,7 +51,8 @@ fn closes_cycle(
     a: usize,
 ) -> bool
     requires { ⌜ HasStep (now near) (now far) (now lowers) (now uppers) (now free) (now rows) a ⌝ }
-    ensures { λ r. ⌜ (r ≡ true → Closes (now (near .entry)) (now (far .entry)) (now (lowers .entry)) (now (uppers .entry)) (now (free .entry)) (now (rows .entry)) a) × (r ≡ false → ClosesNone (now (near .entry)) (now (far .entry)) (now (lowers .entry)) (now (uppers .entry)) (now (free .entry)) (now (rows .entry)) a) ⌝ }
+    ensures { λ r. ⌜ ClosesCycle (now (near .entry)) (now (far .entry)) (now (lowers .entry)) (now (uppers .entry)) (now (free .entry))
+        (now (rows .entry)) a r ⌝ }
 {
     if !free[a] {
         return false;
@@ -74,8 +77,10 @@ pub fn after_last_raisable(
     free: &[bool],
     flow: &[u32],
 ) -> usize
-    requires { ⌜ Searchable 64 (graph (now tails) (now heads) (now lows) (now ups)) (now flow) (now free) ⌝ }
-    ensures { λ r. ⌜ LastRaisable (graph (now (tails .entry)) (now (heads .entry)) (now (lows .entry)) (now (ups .entry))) (now (flow .entry)) (now (free .entry)) r ⌝ }
+    requires { let N = netWith [] (now tails) (now heads) (now lows) (now ups) [] in
+        ⌜ Searchable N (now flow) (now free) ⌝ }
+    ensures { λ r. let N = netWith [] (now (tails .entry)) (now (heads .entry)) (now (lows .entry)) (now (ups .entry)) [] in
+        ⌜ AfterLastRaisable N (now (flow .entry)) (now (free .entry)) r ⌝ }
 {
     let mut rows = [0u64; 65];
     flow_preorder::clear(&mut rows);
@@ -104,8 +109,10 @@ pub fn first_lowerable(
     flow: &[u32],
     from: usize,
 ) -> usize
-    requires { ⌜ Searchable 64 (graph (now tails) (now heads) (now lows) (now ups)) (now flow) (now free) × (from ≤ length (now tails)) ⌝ }
-    ensures { λ r. ⌜ FirstLowerable (graph (now (tails .entry)) (now (heads .entry)) (now (lows .entry)) (now (ups .entry))) (now (flow .entry)) (now (free .entry)) from r ⌝ }
+    requires { let N = netWith [] (now tails) (now heads) (now lows) (now ups) [] in
+        ⌜ Searchable N (now flow) (now free) × (from ≤ arcs N) ⌝ }
+    ensures { λ r. let N = netWith [] (now (tails .entry)) (now (heads .entry)) (now (lows .entry)) (now (ups .entry)) [] in
+        ⌜ FirstLowerable N (now (flow .entry)) (now (free .entry)) from r ⌝ }
 {
     let mut rows = [0u64; 65];
     flow_preorder::clear(&mut rows);
@@ -134,8 +141,10 @@ fn add_arcs(
     flow: &[u32],
     rows: &mut [u64],
 )
-    requires { ⌜ Searchable 64 (graph (now tails) (now heads) (now lows) (now ups)) (now flow) (now free) × Alone (now rows) ⌝ }
-    ensures { λ _. ⌜ Closure (graph (now (tails .entry)) (now (heads .entry)) (now (lows .entry)) (now (ups .entry))) (now (flow .entry)) (now (free .entry)) 0 (now (rows .exit)) ⌝ }
+    requires { let N = netWith [] (now tails) (now heads) (now lows) (now ups) [] in
+        ⌜ Searchable N (now flow) (now free) × Alone (now rows) ⌝ }
+    ensures { λ _. let N = netWith [] (now (tails .entry)) (now (heads .entry)) (now (lows .entry)) (now (ups .entry)) [] in
+        ⌜ Closure N (now (flow .entry)) (now (free .entry)) 0 (now (rows .exit)) ⌝ }
 {
     let mut a = tails.len();
     while 0 < a {
@@ -155,8 +164,10 @@ fn on_cycle(
     rows: &[u64],
     a: usize,
 ) -> bool
-    requires { ⌜ HasStep (now tails) (now heads) (now flow) (now ups) (now free) (now rows) a × HasStep (now heads) (now tails) (now lows) (now flow) (now free) (now rows) a ⌝ }
-    ensures { λ r. ⌜ (r ≡ true → Closes (now (tails .entry)) (now (heads .entry)) (now (flow .entry)) (now (ups .entry)) (now (free .entry)) (now (rows .entry)) a ⊎ Closes (now (heads .entry)) (now (tails .entry)) (now (lows .entry)) (now (flow .entry)) (now (free .entry)) (now (rows .entry)) a) × (r ≡ false → ClosesNone (now (tails .entry)) (now (heads .entry)) (now (flow .entry)) (now (ups .entry)) (now (free .entry)) (now (rows .entry)) a × ClosesNone (now (heads .entry)) (now (tails .entry)) (now (lows .entry)) (now (flow .entry)) (now (free .entry)) (now (rows .entry)) a) ⌝ }
+    requires { let N = netWith [] (now tails) (now heads) (now lows) (now ups) [] in
+        ⌜ Searchable N (now flow) (now free) × (length (now rows) ≡ 65) × (a < arcs N) ⌝ }
+    ensures { λ r. let N = netWith [] (now (tails .entry)) (now (heads .entry)) (now (lows .entry)) (now (ups .entry)) [] in
+        ⌜ OnCycle N (now (flow .entry)) (now (free .entry)) (now (rows .entry)) a r ⌝ }
 {
     if closes_cycle(tails, heads, flow, ups, free, rows, a) {
         return true;
@@ -174,8 +185,10 @@ pub fn unmark_fixed(
     free: &mut [bool],
     flow: &[u32],
 )
-    requires { ⌜ Searchable 64 (graph (now tails) (now heads) (now lows) (now ups)) (now flow) (now free) ⌝ }
-    ensures { λ _. ⌜ Narrowed (graph (now (tails .entry)) (now (heads .entry)) (now (lows .entry)) (now (ups .entry))) (now (flow .entry)) (now (free .entry)) (now (free .exit)) ⌝ }
+    requires { let N = netWith [] (now tails) (now heads) (now lows) (now ups) [] in
+        ⌜ Searchable N (now flow) (now free) ⌝ }
+    ensures { λ _. let N = netWith [] (now (tails .entry)) (now (heads .entry)) (now (lows .entry)) (now (ups .entry)) [] in
+        ⌜ UnmarkFixed N (now (flow .entry)) (now (free .entry)) (now (free .exit)) ⌝ }
 {
     let mut rows = [0u64; 65];
     flow_preorder::clear(&mut rows);

@@ -14,8 +14,8 @@ use Rattle.laws.specs.Linear.{given2, given3}
 use Rattle.laws.specs.Sum.{sum, sum-within}
 use Rattle.laws.specs.Padded.{set-more}
 use Rattle.net_model.specs.Network.{Net}
-use Rattle.net_theory.specs.Optimality.{reduced}
-use Rattle.flow_cost.specs.Costs.{SmallCosts, term, MarkedBelow}
+use Rattle.net_theory.specs.ReducedCost.{reduced}
+use Rattle.flow_cost.specs.Costs.{Summable, term, MarksTight}
 
 small : (n : ℕ) → n ≤ 1000000 → Bounded 1000000 (pos n)
 small n h = record { up = h; down = omega arith }
@@ -33,7 +33,7 @@ pub difference-fits : (c p q y z : ℤ) → y ≡ c +ℤ p → z ≡ q → Bound
 difference-fits c p q y z d e h k l = given2 d e (given3 h k l (simp fits (omega arith)))
 
 -- ---- the sum of the first terms, and one more
-pub more-fits : (c : List ℤ) (f : List ℕ) (a : ℕ) (x y : ℤ) → SmallCosts c f → a < length c → x ≡ sum a (term c f) → y ≡ term c f a → SFits w64 (x +ℤ y)
+pub more-fits : (c : List ℤ) (f : List ℕ) (a : ℕ) (x y : ℤ) → Summable c f → a < length c → x ≡ sum a (term c f) → y ≡ term c f a → SFits w64 (x +ℤ y)
 more-fits c f a x y s h p q =
     rw (p, q) (bounded-fits w64 (a * 1000000000000 + 1000000000000) (sum a (term c f) +ℤ term c f a) (bounded-add (sum-within a 1000000000000 (term c f) (λ i k. each i (omega arith))) (each a h)) (omega (arith, s .few)))
   where
@@ -41,8 +41,8 @@ more-fits c f a x y s h p q =
     each i k = product-bounded (getD c i (pos 0)) (getD f i 0) (s .cost-small i k) (s .flow-small i k)
 
 -- ---- one more arc marked
-pub marked-more : (N : Net) (π : ℕ → ℤ) (marks : List Bool) (a n : ℕ) (m : Bool) → length marks ≡ n → a < n → MarkedBelow N π marks a
-    → (m ≡ true → reduced N π a ≡ pos 0) → (m ≡ false → reduced N π a ≢ pos 0) → (length (set marks a m) ≡ n) × MarkedBelow N π (set marks a m) (a + 1)
+pub marked-more : (N : Net) (π : ℕ → ℤ) (marks : List Bool) (a n : ℕ) (m : Bool) → length marks ≡ n → a < n → MarksTight N π marks a
+    → (m ≡ true → reduced N π a ≡ pos 0) → (m ≡ false → reduced N π a ≢ pos 0) → (length (set marks a m) ≡ n) × MarksTight N π (set marks a m) (a + 1)
 marked-more N π marks a n m l i k tight loose = (
   length-set marks a m ∙ l,
   record {
@@ -51,5 +51,5 @@ marked-more N π marks a n m l i k tight loose = (
   },
 )
 
-pub marked-all : {N : Net} {π : ℕ → ℤ} {marks : List Bool} {k n : ℕ} → k ≡ n → MarkedBelow N π marks k → MarkedBelow N π marks n
-marked-all {N} {π} {marks} e h = subst (MarkedBelow N π marks) e h
+pub marked-all : {N : Net} {π : ℕ → ℤ} {marks : List Bool} {k n : ℕ} → k ≡ n → MarksTight N π marks k → MarksTight N π marks n
+marked-all {N} {π} {marks} e h = subst (MarksTight N π marks) e h

@@ -6,8 +6,9 @@ ghost use lib.ListN.{length, getD};
 ghost use lib.IntN.{pos, _*ℤ_, _+ℤ_, _-ℤ_};
 ghost use Rattle.laws.specs.Range.{Bounded};
 ghost use Rattle.laws.specs.Sum.{sum};
-ghost use Rattle.net_theory.specs.Graph.{costGraph};
-ghost use Rattle.flow_cost.specs.Costs.{SmallCosts, term, SmallLabels, MarkedBelow};
+ghost use Rattle.net_model.specs.Network.{arcs};
+ghost use Rattle.net_theory.specs.Graph.{netWith};
+ghost use Rattle.flow_cost.specs.Costs.{Summable, term, SmallLabels, MarksTight};
 
 // c for each of x units.
 fn product(c: i32, x: u32) -> i64
@@ -19,7 +20,7 @@ fn product(c: i32, x: u32) -> i64
 
 // The cost of a flow.
 pub fn cost_of(costs: &[i32], flow: &[u32]) -> i64
-    requires { ⌜ SmallCosts (now costs) (now flow) ⌝ }
+    requires { ⌜ Summable (now costs) (now flow) ⌝ }
     ensures { λ r. ⌜ r ≡ sum (length (now (costs .entry))) (term (now (costs .entry)) (now (flow .entry))) ⌝ }
 {
     let mut sum: i64 = 0;
@@ -42,8 +43,11 @@ fn reduced(c: i32, p: i64, q: i64) -> i64
 
 // Marks the arcs of reduced cost 0, and no others. The labels are those of a search: a feasible potential, which need not be the prices.
 pub fn mark_tight(tails: &[u8], heads: &[u8], costs: &[i32], labels: &[i64], marks: &mut [bool])
-    requires { ⌜ SmallLabels (now tails) (now heads) (now costs) (now labels) (now marks) ⌝ }
-    ensures { λ _. ⌜ MarkedBelow (costGraph (now (tails .entry)) (now (heads .entry)) [] [] (now (costs .entry))) (λ v. getD (now (labels .entry)) v (pos 0)) (now (marks .exit)) (length (now (tails .entry))) ⌝ }
+    requires { let N = netWith [] (now tails) (now heads) [] [] (now costs) in
+        ⌜ SmallLabels N (now labels) (now marks) ⌝ }
+    ensures { λ _.
+        let N = netWith [] (now (tails .entry)) (now (heads .entry)) [] [] (now (costs .entry)) in
+        ⌜ MarksTight N (λ v. getD (now (labels .entry)) v (pos 0)) (now (marks .exit)) (arcs N) ⌝ }
 {
     let mut a = 0;
     while a < tails.len() {

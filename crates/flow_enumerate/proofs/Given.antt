@@ -1,4 +1,4 @@
--- The line of the full list that given numbers are: they are a least-cost flow, or it is none.
+-- The item of the full list that given numbers are: they are a least-cost flow, or it is none.
 use mathlib.Core.Path.{_≡_, refl, sym, ap, subst, _∙_}
 use mathlib.Core.Logic.{inl, inr, _≢_}
 use mathlib.Core.List.{List, [], _∷_}
@@ -10,9 +10,9 @@ use Rattle.laws.specs.Tests.{test, test-yes}
 use Rattle.net_model.specs.Network.{Net, WellFormed, LeastCost}
 use Rattle.net_model.specs.FullList.{fullList}
 use Rattle.net_model.proofs.FullList.{full-member}
-use Rattle.flow_enumerate.specs.Enumerator.{flowIn, lineAt, lineOf, placeOf, givenLine, Resumes}
+use Rattle.flow_enumerate.specs.Enumerator.{stateFlow, itemAt, itemOf, placeAfter, givenItem, Resumes}
 use Rattle.flow_enumerate.specs.declared.Enumerator.{Enumerator}
-use Rattle.flow_enumerate.specs.declared.Place.the-variants.{Start, Line}
+use Rattle.flow_enumerate.specs.declared.Place.the-variants.{Start, Item}
 
 abbrev only : List ℕ → List (List ℕ) → List (List ℕ)
 only f L = keep (λ g. test (same-list g f)) L
@@ -35,26 +35,26 @@ missed f (g ∷ L) n = step (same-list g f) (missed f L (λ m. n (inr m)))
     step (no q) deep = deep
 
 module _ (N : Net) (ok : WellFormed N) (f : List ℕ) where
-  pub line-least : LeastCost N f → givenLine N f ≡ some f
-  line-least L = found f (fullList N) (full-member N ok f .1 L)
+  pub item-least : LeastCost N f → givenItem N f ≡ some f
+  item-least L = found f (fullList N) (full-member N ok f .1 L)
 
-  pub no-line : ¬ LeastCost N f → givenLine N f ≡ none
-  no-line n = missed f (fullList N) (λ m. n (full-member N ok f .0 m))
+  pub no-item : ¬ LeastCost N f → givenItem N f ≡ none
+  no-item n = missed f (fullList N) (λ m. n (full-member N ok f .0 m))
 
-  -- a state on the line f, or one that has not begun
-  pub resume-on : (r : Enumerator) → LeastCost N f → lineOf r ≡ some f → r .place ≡ Line → Resumes N f r
-  resume-on r L e p = record { line-is = e ∙ sym (line-least L); place-is = p ∙ ap (placeOf Start) (sym (line-least L)) }
+  -- a state on the item f, or one that has not begun
+  pub resume-on : (r : Enumerator) → LeastCost N f → itemOf r ≡ some f → r .place ≡ Item → Resumes N f r
+  resume-on r L e p = record { item-is = e ∙ sym (item-least L); place-is = p ∙ ap (placeAfter Start) (sym (item-least L)) }
 
   pub resume-off : (r : Enumerator) → ¬ LeastCost N f → r .place ≡ Start → Resumes N f r
-  resume-off r n p = record { line-is = ap (λ q. lineAt q (flowIn r)) p ∙ sym (no-line n); place-is = p ∙ ap (placeOf Start) (sym (no-line n)) }
+  resume-off r n p = record { item-is = ap (λ q. itemAt q (stateFlow r)) p ∙ sym (no-item n); place-is = p ∙ ap (placeAfter Start) (sym (no-item n)) }
 
   -- and back
   module _ (r : Enumerator) (R : Resumes N f r) where
-    pub resumed-on : r .place ≡ Line → (flowIn r ≡ f) × LeastCost N f
+    pub resumed-on : r .place ≡ Item → (stateFlow r ≡ f) × LeastCost N f
     resumed-on p =
-        let (m, t) = kept (λ g. test (same-list g f)) (fullList N) (flowIn r) (first-member (only f (fullList N)) (flowIn r) (sym (R .line-is) ∙ ap (λ q. lineAt q (flowIn r)) p)) in
-        let e = test-yes (same-list (flowIn r) f) t in
+        let (m, t) = kept (λ g. test (same-list g f)) (fullList N) (stateFlow r) (first-member (only f (fullList N)) (stateFlow r) (sym (R .item-is) ∙ ap (λ q. itemAt q (stateFlow r)) p)) in
+        let e = test-yes (same-list (stateFlow r) f) t in
         (e, full-member N ok f .0 (subst (λ g. g ∈ fullList N) e m))
 
-    pub resumed-off : r .place ≢ Line → ¬ LeastCost N f
-    resumed-off n L = n (R .place-is ∙ ap (placeOf Start) (line-least L))
+    pub resumed-off : r .place ≢ Item → ¬ LeastCost N f
+    resumed-off n L = n (R .place-is ∙ ap (placeAfter Start) (item-least L))

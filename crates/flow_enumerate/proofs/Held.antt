@@ -4,11 +4,9 @@ use mathlib.Core.List.{List}
 use Prim.Native.Nat.{ℕ, _≤_}
 use native.Mathlib.Omega.{arith}
 use lib.ListN.{length, take, length-take}
-use Rattle.net_model.specs.Network.{arcs, IsFlow}
+use Rattle.net_model.specs.Network.{arcs}
 use Rattle.net_model.specs.Struct.{netIn, Sound}
 use Rattle.net_model.specs.declared.Network.{Network}
-use Rattle.flow_cost.specs.Costs.{SmallCosts}
-use Rattle.flow_relax.proofs.Accepted.{cost-small}
 
 full : {A : Type 0} (m : ℕ) (l : List A) → length (take m l) ≡ m → m ≤ length l
 full m l e = omega (arith, length-take m l)
@@ -42,14 +40,3 @@ module _ (s : Network) (ok : Sound s) where
   -- as many numbers as arcs
   pub as-many : {A : Type 0} (l : List A) → s .arcs ≤ length l → length (take (s .arcs) l) ≡ arcs (netIn s)
   as-many l h = omega (arith, length-take (s .arcs) l, ok .arcs-held)
-
-  pub small-costs : (f : List ℕ) → IsFlow (netIn s) f → SmallCosts (take (s .arcs) (s .costs)) f
-  small-costs f F =
-      let N = netIn s in
-      let w = ok .accepted .well-formed in
-      record {
-        few = omega (arith, w .costs-len, ok .accepted .few-arcs);
-        flow-len = F .all-arcs ∙ sym (w .costs-len);
-        cost-small = λ a h. cost-small (N .balances) (N .tails) (N .heads) (N .lows) (N .ups) (N .costs) (ok .accepted) a (omega (arith, w .costs-len));
-        flow-small = λ a h. omega (arith, w .costs-len, F .below a (omega (arith, w .costs-len)), ok .accepted .up-small a (omega (arith, w .costs-len)));
-      }

@@ -1,4 +1,4 @@
--- The states that a step hands back: on a line, or on none.
+-- The states that a step hands back: on an item, or on none.
 use mathlib.Core.Path.{_≡_, refl, sym, ap, subst, _∙_}
 use mathlib.Core.Bool.{Bool, true, false}
 use mathlib.Core.List.{List, [], _∷_}
@@ -19,51 +19,51 @@ use Rattle.net_model.specs.declared.Network.{Network}
 use Rattle.flow_cost.specs.Costs.{term}
 use Rattle.flow_least.specs.Marked.{Marked}
 use Rattle.flow_least.specs.Answers.{FirstFlow, MarkedIfLeast}
-use Rattle.flow_enumerate.specs.Enumerator.{netOf, flowIn, lineAt, lineOf, placeOf, wordAfter, following, costShown, Stands, Steps}
+use Rattle.flow_enumerate.specs.Enumerator.{stateNet, stateFlow, itemAt, itemOf, placeAfter, wordAfter, itemAfter, itemCost, Stands, Steps}
 use Rattle.flow_enumerate.specs.declared.Enumerator.{Enumerator}
 use Rattle.flow_enumerate.specs.declared.Place.{Place}
-use Rattle.flow_enumerate.specs.declared.Place.the-variants.{Line, End}
+use Rattle.flow_enumerate.specs.declared.Place.the-variants.{Item, End}
 
--- a place that stands on no line
+-- a place that stands on no item
 abbrev pub NoLine : Place → Type 0
-NoLine p = (f : List ℕ) → lineAt p f ≡ none
+NoLine p = (f : List ℕ) → itemAt p f ≡ none
 
-no-line : (p : Place) → NoLine p → ¬ (p ≡ Line)
-no-line p h e = none-some [] (sym (h []) ∙ ap (λ q. lineAt q []) e)
+no-item : (p : Place) → NoLine p → ¬ (p ≡ Item)
+no-item p h e = none-some [] (sym (h []) ∙ ap (λ q. itemAt q []) e)
 
--- a state on no line
-pub off-line : (n : Network) (p : Place) → NoLine p → Sound n → (f : List ℕ) (t : List Bool) → Stands (record { net = n; place = p; cost = pos 0; flow = f; tight = t })
-off-line n p h ok f t = record {
+-- a state on no item
+pub off-item : (n : Network) (p : Place) → NoLine p → Sound n → (f : List ℕ) (t : List Bool) → Stands (record { net = n; place = p; cost = pos 0; flow = f; free = t })
+off-item n p h ok f t = record {
   sound = ok;
   cost-is = rw (h (take (n .arcs) f));
-  marked = λ e. absurd (no-line p h e);
+  marked = λ e. absurd (no-item p h e);
 }
 
--- a state on the line g
-pub on-line : (n : Network) → Sound n → (g f : List ℕ) (t : List Bool) (c : ℤ) → take (n .arcs) f ≡ g → c ≡ costOf (netIn n) g → Marked (netIn n) (take (n .arcs) t) g
-    → Stands (record { net = n; place = Line; cost = c; flow = f; tight = t })
-on-line n ok g f t c e q m = record {
+-- a state on the item g
+pub on-item : (n : Network) → Sound n → (g f : List ℕ) (t : List Bool) (c : ℤ) → take (n .arcs) f ≡ g → c ≡ costOf (netIn n) g → Marked (netIn n) (take (n .arcs) t) g
+    → Stands (record { net = n; place = Item; cost = c; flow = f; free = t })
+on-item n ok g f t c e q m = record {
   sound = ok;
   cost-is = q ∙ ap (costOf (netIn n)) (sym e);
   marked = λ _. subst (Marked (netIn n) (take (n .arcs) t)) (sym e) m;
 }
 
 module _ (s : Enumerator) (ok : Sound (s .net)) (f : List ℕ) (t : List Bool) where
-  pub step-off : (w : Place) → NoLine w → (o : Option (List ℕ)) → o ≡ none → Steps s w o (record { net = s .net; place = w; cost = pos 0; flow = f; tight = t })
+  pub step-off : (w : Place) → NoLine w → (o : Option (List ℕ)) → o ≡ none → Steps s w o (record { net = s .net; place = w; cost = pos 0; flow = f; free = t })
   step-off w h o e = record {
-    stands = off-line (s .net) w h ok f t;
+    stands = off-item (s .net) w h ok f t;
     net-is = refl;
-    line-is = h (take (s .net .arcs) f) ∙ sym e;
-    place-is = ap (placeOf w) (sym e);
+    item-is = h (take (s .net .arcs) f) ∙ sym e;
+    place-is = ap (placeAfter w) (sym e);
   }
 
-  pub step-on : (w : Place) (o : Option (List ℕ)) (g : List ℕ) (c : ℤ) → o ≡ some g → take (s .net .arcs) f ≡ g → c ≡ costOf (netOf s) g → Marked (netOf s) (take (s .net .arcs) t) g
-      → Steps s w o (record { net = s .net; place = Line; cost = c; flow = f; tight = t })
+  pub step-on : (w : Place) (o : Option (List ℕ)) (g : List ℕ) (c : ℤ) → o ≡ some g → take (s .net .arcs) f ≡ g → c ≡ costOf (stateNet s) g → Marked (stateNet s) (take (s .net .arcs) t) g
+      → Steps s w o (record { net = s .net; place = Item; cost = c; flow = f; free = t })
   step-on w o g c e q k m = record {
-    stands = on-line (s .net) ok g f t c q k m;
+    stands = on-item (s .net) ok g f t c q k m;
     net-is = refl;
-    line-is = ap some q ∙ sym e;
-    place-is = ap (placeOf w) (sym e);
+    item-is = ap some q ∙ sym e;
+    place-is = ap (placeAfter w) (sym e);
   }
 
 -- what the search for the first flow answered
@@ -84,41 +84,41 @@ same-cost N f g a b = both (costOf N f) (costOf N g) (a .least g (b .flow)) (b .
     both : (x y : ℤ) → x ≤ℤ y → y ≤ℤ x → x ≡ y
     both x y h k = given2 h k (simp lin (omega arith))
 
--- the cost of a state on a line
-pub cost-on : (s : Enumerator) → Stands s → s .place ≡ Line → s .cost ≡ costOf (netOf s) (flowIn s)
-cost-on s h e = h .cost-is ∙ ap (λ p. costShown (netOf s) (lineAt p (flowIn s))) e
+-- the cost of a state on an item
+pub cost-on : (s : Enumerator) → Stands s → s .place ≡ Item → s .cost ≡ costOf (stateNet s) (stateFlow s)
+cost-on s h e = h .cost-is ∙ ap (λ p. itemCost (stateNet s) (itemAt p (stateFlow s))) e
 
--- a state on no line hands itself back
-pub stays : (s : Enumerator) → Stands s → NoLine (s .place) → wordAfter (s .place) ≡ s .place → Steps s (wordAfter (s .place)) (following (netOf s) (lineOf s)) s
+-- a state on no item hands itself back
+pub stays : (s : Enumerator) → Stands s → NoLine (s .place) → wordAfter (s .place) ≡ s .place → Steps s (wordAfter (s .place)) (itemAfter (stateNet s) (itemOf s)) s
 stays s h n e = record {
   stands = h;
   net-is = refl;
-  line-is = n (flowIn s) ∙ sym off;
-  place-is = sym (ap (placeOf (wordAfter (s .place))) off ∙ e);
+  item-is = n (stateFlow s) ∙ sym off;
+  place-is = sym (ap (placeAfter (wordAfter (s .place))) off ∙ e);
 }
   where
-    off : following (netOf s) (lineOf s) ≡ none
-    off = ap (following (netOf s)) (n (flowIn s))
+    off : itemAfter (stateNet s) (itemOf s) ≡ none
+    off = ap (itemAfter (stateNet s)) (n (stateFlow s))
 
--- the next line of a state on a line
-pub goes-on : (s r : Enumerator) → s .place ≡ Line → Steps s End (following (netOf s) (some (flowIn s))) r → Steps s (wordAfter (s .place)) (following (netOf s) (lineOf s)) r
-goes-on s r e h = subst (λ (p : Place). Steps s (wordAfter p) (following (netOf s) (lineAt p (flowIn s))) r) (sym e) h
+-- the next item of a state on an item
+pub goes-on : (s r : Enumerator) → s .place ≡ Item → Steps s End (itemAfter (stateNet s) (some (stateFlow s))) r → Steps s (wordAfter (s .place)) (itemAfter (stateNet s) (itemOf s)) r
+goes-on s r e h = subst (λ (p : Place). Steps s (wordAfter p) (itemAfter (stateNet s) (itemAt p (stateFlow s))) r) (sym e) h
 
--- without a first line there is none to count
+-- without a first item there is none to count
 empty : (l : List (List ℕ)) → first? l ≡ none → length l ≡ 0
 empty [] e = refl
 empty (x ∷ l) e = absurd (none-some x (sym e))
 
--- what the count of a state's list comes to, by whether there is a first line
-module _ (s r : Enumerator) (w : Place) (h : Steps s w (firstFlow (netOf s)) r) where
-  same-net : netOf r ≡ netOf s
+-- what the count of a state's list comes to, by whether there is a first item
+module _ (s r : Enumerator) (w : Place) (h : Steps s w (firstFlow (stateNet s)) r) where
+  same-net : stateNet r ≡ stateNet s
   same-net = ap netIn (h .net-is)
 
-  pub counts-none : NoLine (r .place) → (cap : ℕ) → (0 ≤ cap + 1) × (counted cap 0 ≡ countFlows (netOf s) cap)
-  counts-none n cap = (omega arith, ap (counted cap) (sym (empty (fullList (netOf s)) (sym (h .line-is) ∙ n (flowIn r)))))
+  pub counts-none : NoLine (r .place) → (cap : ℕ) → (0 ≤ cap + 1) × (counted cap 0 ≡ countFlows (stateNet s) cap)
+  counts-none n cap = (omega arith, ap (counted cap) (sym (empty (fullList (stateNet s)) (sym (h .item-is) ∙ n (stateFlow r)))))
 
-  pub counts-line : r .place ≡ Line → (cap k : ℕ) → (firstFlow (netOf r) ≡ some (flowIn r) → counted cap k ≡ countFlows (netOf r) cap) → counted cap k ≡ countFlows (netOf s) cap
-  counts-line on cap k c = c (ap firstFlow same-net ∙ sym (h .line-is) ∙ ap (λ p. lineAt p (flowIn r)) on) ∙ ap (λ N. countFlows N cap) same-net
+  pub counts-item : r .place ≡ Item → (cap k : ℕ) → (firstFlow (stateNet r) ≡ some (stateFlow r) → counted cap k ≡ countFlows (stateNet r) cap) → counted cap k ≡ countFlows (stateNet s) cap
+  counts-item on cap k c = c (ap firstFlow same-net ∙ sym (h .item-is) ∙ ap (λ p. itemAt p (stateFlow r)) on) ∙ ap (λ N. countFlows N cap) same-net
 
 -- what the test of question 8 answered
 pub marked-yes : (N : Net) (f : List ℕ) (t t′ : List Bool) (r : Bool) → MarkedIfLeast N f t t′ r → r ≡ true → Marked N t′ f

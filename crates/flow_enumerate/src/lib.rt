@@ -1,5 +1,5 @@
-// A walk through the full list of a network, as a state by value: the line that it stands on, its cost, and marks on arcs, worked out once for
-// the whole list: an arc without a mark has one number in all lines.
+// What goes through the full list of a network, as a state by value: the item that it stands on, its cost, and marks on arcs, worked out once
+// for the whole list: an arc without a mark has one number in all items.
 ghost use mathlib.Core.Path.{_≡_};
 ghost use mathlib.Core.Bool.{false};
 ghost use Prim.Native.Nat.{ℕ, _+_, _≤_, _<_};
@@ -9,12 +9,12 @@ ghost use Rattle.laws.specs.Range.{Bounded};
 ghost use Rattle.laws.specs.Count.{counted};
 ghost use Rattle.net_model.specs.FullList.{firstFlow, nextFlow, countFlows};
 ghost use Rattle.net_model.specs.Struct.{netIn, Sound};
-ghost use Rattle.flow_enumerate.specs.Enumerator.{netOf, flowIn, lineOf, wordAfter, following, Stands, Steps, Resumes, PriceArray};
+ghost use Rattle.flow_enumerate.specs.Enumerator.{stateNet, stateFlow, itemOf, wordAfter, itemAfter, Stands, Steps, Resumes, PriceArray};
 
-// Where a walk stands: on no line yet, on a line, or on none, for there is no line ("none") or no further one ("end").
+// Where an enumerator stands: on no item yet, on an item, or on none, for there is no item ("none") or no further one ("end").
 pub enum Place {
     Start,
-    Line,
+    Item,
     None,
     End,
 }
@@ -24,24 +24,24 @@ pub struct Enumerator {
     pub place: Place,
     pub cost: i64,
     pub flow: [u32; 512],
-    pub tight: [bool; 512],
+    pub free: [bool; 512],
 }
 
-// A walk that has not begun.
+// An enumerator that has not begun.
 pub fn start(net: net_model::Network) -> Enumerator
     requires { ⌜ Sound net ⌝ }
-    ensures { λ r. ⌜ Stands r × (r .net ≡ net) × (r .place ≡ Place.Start) × (r .flow ≡ replicate 512 0) × (r .tight ≡ replicate 512 false) ⌝ }
+    ensures { λ r. ⌜ Stands r × (r .net ≡ net) × (r .place ≡ Place.Start) × (r .flow ≡ replicate 512 0) × (r .free ≡ replicate 512 false) ⌝ }
 {
     Enumerator {
         net: net,
         place: Place::Start,
         cost: 0,
         flow: [0u32; 512],
-        tight: [false; 512],
+        free: [false; 512],
     }
 }
 
-// A walk that stands on a given flow, if that is a least-cost flow (question 8); else one that has not begun.
+// An enumerator that stands on a given flow, if that is a least-cost flow (question 8); else one that has not begun.
 pub fn resume(net: net_model::Network, flow: [u32; 512]) -> Enumerator
     requires { ⌜ Sound net ⌝ }
     ensures { λ r. ⌜ Stands r × (r .net ≡ net) × Resumes (netIn net) (take (net .arcs) flow) r ⌝ }
@@ -54,7 +54,7 @@ pub fn resume(net: net_model::Network, flow: [u32; 512]) -> Enumerator
     let ups = net.ups;
     let costs = net.costs;
     let balances = net.balances;
-    let mut tight = [false; 512];
+    let mut free = [false; 512];
     if !flow_least::mark_if_least(
         &tails[..m],
         &heads[..m],
@@ -63,17 +63,17 @@ pub fn resume(net: net_model::Network, flow: [u32; 512]) -> Enumerator
         &costs[..m],
         &balances[..n],
         &flow[..m],
-        &mut tight[..m],
+        &mut free[..m],
     ) {
         return start(net);
     }
     let cost = flow_cost::cost_of(&costs[..m], &flow[..m]);
     Enumerator {
         net: net,
-        place: Place::Line,
+        place: Place::Item,
         cost: cost,
         flow: flow,
-        tight: tight,
+        free: free,
     }
 }
 
@@ -91,10 +91,10 @@ fn narrow(prices: [i64; 64]) -> [i32; 64]
 }
 
 impl Enumerator {
-    // The first line.
+    // The first item.
     pub fn first(self) -> Enumerator
         requires { ⌜ Stands self ⌝ }
-        ensures { λ r. ⌜ Steps self Place.None (firstFlow (netOf self)) r ⌝ }
+        ensures { λ r. ⌜ Steps self Place.None (firstFlow (stateNet self)) r ⌝ }
     {
         let net = self.net;
         let m = net.arcs;
@@ -106,7 +106,7 @@ impl Enumerator {
         let costs = net.costs;
         let balances = net.balances;
         let mut flow = self.flow;
-        let mut tight = self.tight;
+        let mut free = self.free;
         if !flow_least::first_flow(
             &tails[..m],
             &heads[..m],
@@ -115,30 +115,30 @@ impl Enumerator {
             &costs[..m],
             &balances[..n],
             &mut flow[..m],
-            &mut tight[..m],
+            &mut free[..m],
         ) {
             return Enumerator {
                 net: net,
                 place: Place::None,
                 cost: 0,
                 flow: flow,
-                tight: tight,
+                free: free,
             };
         }
         let cost = flow_cost::cost_of(&costs[..m], &flow[..m]);
         Enumerator {
             net: net,
-            place: Place::Line,
+            place: Place::Item,
             cost: cost,
             flow: flow,
-            tight: tight,
+            free: free,
         }
     }
 
-    // The line after the one that it stands on.
+    // The item after the one that it stands on.
     fn follow(self) -> Enumerator
-        requires { ⌜ Stands self × (self .place ≡ Place.Line) ⌝ }
-        ensures { λ r. ⌜ Steps self Place.End (nextFlow (netOf self) (flowIn self)) r ⌝ }
+        requires { ⌜ Stands self × (self .place ≡ Place.Item) ⌝ }
+        ensures { λ r. ⌜ Steps self Place.End (nextFlow (stateNet self) (stateFlow self)) r ⌝ }
     {
         let net = self.net;
         let m = net.arcs;
@@ -146,14 +146,14 @@ impl Enumerator {
         let heads = net.heads;
         let lows = net.lows;
         let ups = net.ups;
-        let tight = self.tight;
+        let free = self.free;
         let mut flow = self.flow;
         if !flow_order::next(
             &tails[..m],
             &heads[..m],
             &lows[..m],
             &ups[..m],
-            &tight[..m],
+            &free[..m],
             &mut flow[..m],
         ) {
             return Enumerator {
@@ -161,35 +161,35 @@ impl Enumerator {
                 place: Place::End,
                 cost: 0,
                 flow: flow,
-                tight: tight,
+                free: free,
             };
         }
         let cost = self.cost;
         Enumerator {
             net: net,
-            place: Place::Line,
+            place: Place::Item,
             cost: cost,
             flow: flow,
-            tight: tight,
+            free: free,
         }
     }
 
-    // The next line; where it stands on none, it stays.
+    // The next item; where it stands on none, it stays.
     pub fn next(self) -> Enumerator
         requires { ⌜ Stands self ⌝ }
-        ensures { λ r. ⌜ Steps self (wordAfter (self .place)) (following (netOf self) (lineOf self)) r ⌝ }
+        ensures { λ r. ⌜ Steps self (wordAfter (self .place)) (itemAfter (stateNet self) (itemOf self)) r ⌝ }
     {
         let place = self.place;
         match place {
-            Place::Line => self.follow(),
+            Place::Item => self.follow(),
             _ => self,
         }
     }
 
-    // The prices of the line that it stands on, and 0 beyond its nodes.
+    // The prices of the item that it stands on, and 0 beyond its nodes.
     pub fn prices(self) -> [i32; 64]
-        requires { ⌜ Stands self × (self .place ≡ Place.Line) ⌝ }
-        ensures { λ r. ⌜ PriceArray (netOf self) (flowIn self) r ⌝ }
+        requires { ⌜ Stands self × (self .place ≡ Place.Item) ⌝ }
+        ensures { λ r. ⌜ PriceArray (stateNet self) (stateFlow self) r ⌝ }
     {
         let net = self.net;
         let m = net.arcs;
@@ -209,29 +209,29 @@ impl Enumerator {
         ))
     }
 
-    // How many lines there are; one more than the cap if there are more than the cap.
+    // How many items there are; one more than the cap if there are more than the cap.
     pub fn count(self, cap: u16) -> usize
         requires { ⌜ Stands self ⌝ }
-        ensures { λ r. ⌜ (r ≤ cap + 1) × (counted cap r ≡ countFlows (netOf self) cap) ⌝ }
+        ensures { λ r. ⌜ (r ≤ cap + 1) × (counted cap r ≡ countFlows (stateNet self) cap) ⌝ }
     {
         let first = self.first();
         let place = first.place;
         match place {
-            Place::Line => {
+            Place::Item => {
                 let net = first.net;
                 let m = net.arcs;
                 let tails = net.tails;
                 let heads = net.heads;
                 let lows = net.lows;
                 let ups = net.ups;
-                let tight = first.tight;
+                let free = first.free;
                 let mut flow = first.flow;
                 flow_order::count(
                     &tails[..m],
                     &heads[..m],
                     &lows[..m],
                     &ups[..m],
-                    &tight[..m],
+                    &free[..m],
                     &mut flow[..m],
                     cap,
                 )

@@ -1,7 +1,7 @@
 -- Sending to one node, and to the first that can take some.
-use mathlib.Core.Path.{_≡_, refl, ap, subst, _∙_}
+use mathlib.Core.Path.{_≡_, refl, sym, ap, subst, _∙_}
 use mathlib.Core.Logic.{_⊎_, inl, inr}
-use mathlib.Core.List.{List}
+use mathlib.Core.List.{List, []}
 use mathlib.Core.Bool.{Bool, true, false, _&&_}
 use Prim.Native.Nat.{ℕ, _+_, _≤_, _<_, min}
 use native.Mathlib.Omega.{arith}
@@ -15,66 +15,63 @@ use Rattle.laws.specs.Members.{Every, every-map}
 use Rattle.laws.specs.Tests.{and-true, and-stops-second}
 use Rattle.net_model.specs.Network.{Net}
 use Rattle.net_model.specs.Residual.{codes, src, dst}
-use Rattle.net_theory.specs.Room.{roomOf}
-use Rattle.net_theory.specs.Push.{InBounds, all-roomy, pushAll}
-use Rattle.net_theory.specs.Graph.{graph}
-use Rattle.net_theory.specs.FreeArcs.{goes, Path, Blocked}
-use Rattle.flow_push.specs.Pushing.{roomAll, Pushable}
-use Rattle.flow_push.proofs.LeastRoom.{room-cap, room-each, room-pos, goes-room, way-codes}
+use Rattle.net_model.proofs.Walks.{walk-below, walk-holds, walk-with}
+use Rattle.net_theory.specs.ResidualCapacity.{residualCapacity, hasCapacity}
+use Rattle.net_theory.specs.Bounds.{InBounds}
+use Rattle.net_theory.specs.Push.{pushAll}
+use Rattle.net_theory.specs.Graph.{netWith}
+use Rattle.net_theory.specs.FreeArcs.{goes, FreeWalk, Blocked}
+use Rattle.net_theory.proofs.ResidualCapacity.{all-hasCapacity}
+use Rattle.flow_push.specs.Pushing.{bottleneck, Pushable}
+use Rattle.flow_push.proofs.LeastCapacity.{capacity-cap, capacity-each, capacity-pos, goes-capacity}
 use Rattle.flow_push.proofs.Pushing.{pushable-bounds}
+use Rattle.flow_push.proofs.Lists.{pushable-with, capacity-with}
 use Rattle.flow_feasible.specs.Sending.{Capped, SentTo, SendsTo, CutOff, Sends}
 
 -- ---- to one node
 module _ (N : Net) (f : List ℕ) (free : List Bool) (s t most : ℕ) (x : ℤ) (b : InBounds N f) where
   pub sends-to-none : (z : ℤ) → z ≡ x → leZ (pos 0) z ≡ true → SendsTo N f f free s t most x false
   sends-to-none z e h = record {
-    bounds = b;
+    within = b;
     done = λ q. absurd (let w : _≡_ {A = ℕ} 0 1 = cc in omega arith);
     same = λ _. refl;
     stuck = λ _ k. absurd (given3 e (leZ-true (pos 0) z h) k (simp lin (omega arith)));
   }
 
   pub sends-to-blocked : Blocked N f free s t 0 → SendsTo N f f free s t most x false
-  sends-to-blocked k = record { bounds = b; done = λ q. absurd (let w : _≡_ {A = ℕ} 0 1 = cc in omega arith); same = λ _. refl; stuck = λ _ _. k }
+  sends-to-blocked k = record { within = b; done = λ q. absurd (let w : _≡_ {A = ℕ} 0 1 = cc in omega arith); same = λ _. refl; stuck = λ _ _. k }
 
-path-able : (N : Net) (f : List ℕ) (free : List Bool) (s t from δ : ℕ) (cs : List ℕ) → InBounds N f → Path N f free s t from cs → Every (λ c. δ ≤ roomOf N f c) cs → Pushable N δ f cs
+path-able : (N : Net) (f : List ℕ) (free : List Bool) (s t from δ : ℕ) (cs : List ℕ) → InBounds N f → FreeWalk N f free s t from cs → Every (λ c. δ ≤ residualCapacity N f c) cs → Pushable N δ f cs
 path-able N f free s t from δ cs b p h = record {
-  bounds = b;
-  codes-in = way-codes (codes N) (src N) (dst N) s t cs (p .trail);
+  within = b;
+  codes-in = walk-below (codes N) (src N) (dst N) (goes N f free) s t cs (p .walk);
   distinct = p .distinct;
-  room = all-roomy N f δ cs b (way-codes (codes N) (src N) (dst N) s t cs (p .trail)) h;
+  capacity = all-hasCapacity N f δ cs b (walk-below (codes N) (src N) (dst N) (goes N f free) s t cs (p .walk)) h;
 }
 
-able-without-heads : (t h l u : List ℕ) (δ : ℕ) (f cs : List ℕ) → Pushable (graph t h l u) δ f cs → Pushable (graph t t l u) δ f cs
-able-without-heads t h l u δ f cs p = record {
-  bounds = record { all-arcs = p .bounds .all-arcs; above = p .bounds .above; below = p .bounds .below };
-  codes-in = p .codes-in;
-  distinct = p .distinct;
-  room = p .room;
-}
+module _ (N : Net) (f : List ℕ) (free : List Bool) (x y most : ℕ) (b : InBounds N f) (cs : List ℕ) (p : FreeWalk N f free x y 0 cs)
+    (cap d : ℕ) (d-is : d ≡ bottleneck (netWith [] (N .tails) [] (N .lows) (N .ups) []) f cap cs) where
+  capacity-is : d ≡ bottleneck N f cap cs
+  capacity-is = d-is ∙ sym (capacity-with N [] [] [] f cap cs)
 
-module _ (t h l u : List ℕ) (f : List ℕ) (free : List Bool) (x y most : ℕ) (b : InBounds (graph t h l u) f) (cs : List ℕ) (p : Path (graph t h l u) f free x y 0 cs) (cap : ℕ) (d : ℕ) (d-is : d ≡ roomAll (graph t t l u) f cap cs) where
-  room-here : Every (λ c. d ≤ roomOf (graph t h l u) f c) cs
-  room-here = rw d-is (room-each (graph t t l u) f cap cs)
+  able : Pushable N d f cs
+  able = path-able N f free x y 0 d cs b p (rw capacity-is (capacity-each N f cap cs))
 
-  able-with-heads : Pushable (graph t h l u) d f cs
-  able-with-heads = path-able (graph t h l u) f free x y 0 d cs b p room-here
+  pub able-here : Pushable (netWith [] (N .tails) [] (N .lows) (N .ups) []) d f cs
+  able-here = pushable-with N [] [] [] f d cs able
 
-  pub able-here : Pushable (graph t t l u) d f cs
-  able-here = able-without-heads t h l u d f cs able-with-heads
-
-  pub sends-to-yes : (f′ : List ℕ) (k : ℕ) (z : ℤ) (v : ℤ) → f′ ≡ pushAll d cs f → cap ≡ min most k → Capped z k → z ≡ negℤ v → 0 < most → SendsTo (graph t h l u) f f′ free x y most v true
+  pub sends-to-yes : (f′ : List ℕ) (k : ℕ) (z : ℤ) (v : ℤ) → f′ ≡ pushAll d cs f → cap ≡ min most k → Capped z k → z ≡ negℤ v → 0 < most → SendsTo N f f′ free x y most v true
   sends-to-yes f′ k z v e c q r m = record {
-    bounds = rw e (pushable-bounds (graph t h l u) d cs f able-with-heads);
+    within = rw e (pushable-bounds N d cs f able);
     done = λ _. record {
       amount = d;
       codes = cs;
-      trail = p .trail;
-      able = able-with-heads;
+      walk = walk-with (codes N) (src N) (dst N) (goes N f free) (hasCapacity N f d) x y cs (able .capacity) (p .walk);
+      able = able;
       exact = e;
-      some = rw d-is (room-pos (graph t t l u) f cap cs (rw c (omega (arith, q .some))) (every-map (λ c. goes (graph t h l u) f free c ≡ true) (λ c. 0 < roomOf (graph t h l u) f c) cs (goes-room (graph t h l u) f free) (p .passes)));
-      at-most = omega (arith, d-is, room-cap (graph t t l u) f cap cs, c);
-      at-t = last d k z v (omega (arith, d-is, room-cap (graph t t l u) f cap cs, c)) (q .at-most) r;
+      some = rw capacity-is (capacity-pos N f cap cs (rw c (omega (arith, q .some))) (every-map (λ c. goes N f free c ≡ true) (λ c. 0 < residualCapacity N f c) cs (goes-capacity N f free) (walk-holds (codes N) (src N) (dst N) (goes N f free) x y cs (p .walk))));
+      at-most = omega (arith, capacity-is, capacity-cap N f cap cs, c);
+      at-t = last d k z v (omega (arith, capacity-is, capacity-cap N f cap cs, c)) (q .at-most) r;
     };
     same = λ q. absurd (let w : _≡_ {A = ℕ} 0 1 = cc in omega arith);
     stuck = λ q _. absurd (let w : _≡_ {A = ℕ} 0 1 = cc in omega arith);
@@ -118,14 +115,14 @@ cut-step N f f′ free excess s t most x r e q a k = go (leZ-or-lt (pos 0) x)
 
 pub sends-yes : (N : Net) (f f′ : List ℕ) (free : List Bool) (excess : List ℤ) (s t most : ℕ) (x y : ℤ) (r : Bool) → t < length excess → x ≡ getD excess t (pos 0) → y ≡ getD excess s (pos 0) → Capped y most → r ≡ true → SendsTo N f f′ free s t most x r → Sends N f f′ free excess s true
 sends-yes N f f′ free excess s t most x y r l e d c q a = record {
-  bounds = a .bounds;
+  within = a .within;
   done = λ _. record { to = t; to-in = l; most = most; most-ok = rw (← d) (c .at-most); sent = subst (λ (z : ℤ). SentTo N f f′ s t most z) e (a .done q) };
   stuck = λ z. absurd (let w : _≡_ {A = ℕ} 0 1 = cc in omega arith);
 }
 
 pub sends-no : (N : Net) (f : List ℕ) (free : List Bool) (excess : List ℤ) (s t : ℕ) → InBounds N f → length excess ≤ t → CutOff N f free excess s t → Sends N f f free excess s false
 sends-no N f free excess s t b h k = record {
-  bounds = b;
+  within = b;
   done = λ z. absurd (let w : _≡_ {A = ℕ} 0 1 = cc in omega arith);
   stuck = λ _. record { inside = k .inside; has = k .has; none = λ v l m. k .none v (omega arith) m; shut = k .shut };
 }

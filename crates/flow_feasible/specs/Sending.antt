@@ -7,9 +7,11 @@ use lib.ListN.{length, getD}
 use lib.IntN.{ℤ, pos, negℤ}
 use lib.Signed.{_≤ℤ_, _<ℤ_}
 use Rattle.net_model.specs.Network.{Net}
-use Rattle.net_model.specs.Residual.{codes, src, dst}
-use Rattle.net_theory.specs.Push.{InBounds, Trail, pushAll}
+use Rattle.net_model.specs.Residual.{codes, src, dst, CodeWalk}
+use Rattle.net_theory.specs.Bounds.{InBounds}
+use Rattle.net_theory.specs.Push.{pushAll}
 use Rattle.net_theory.specs.FreeArcs.{goes, Blocked}
+use Rattle.net_theory.specs.ResidualCapacity.{hasCapacity}
 use Rattle.flow_push.specs.Pushing.{Pushable}
 
 -- r is the first node whose excess is above 0, or the length of the list
@@ -27,7 +29,7 @@ pub record Capped (x : ℤ) (r : ℕ) : Type 0 where
 pub record SentTo (N : Net) (f f′ : List ℕ) (s t most : ℕ) (x : ℤ) : Type 0 where
   pub amount : ℕ
   pub codes : List ℕ
-  pub trail : Trail N s t codes
+  pub walk : CodeWalk N (hasCapacity N f amount) s t codes
   pub able : Pushable N amount f codes
   pub exact : f′ ≡ pushAll amount codes f
   pub some : 0 < amount
@@ -36,7 +38,7 @@ pub record SentTo (N : Net) (f f′ : List ℕ) (s t most : ℕ) (x : ℤ) : Typ
 
 -- r says whether any was sent from s to t, whose excess is x
 pub record SendsTo (N : Net) (f f′ : List ℕ) (free : List Bool) (s t most : ℕ) (x : ℤ) (r : Bool) : Type 0 where
-  pub bounds : InBounds N f′
+  pub within : InBounds N f′
   pub done : r ≡ true → SentTo N f f′ s t most x
   pub same : r ≡ false → f′ ≡ f
   pub stuck : r ≡ false → x <ℤ pos 0 → Blocked N f free s t 0
@@ -58,6 +60,6 @@ pub record CutOff (N : Net) (f : List ℕ) (free : List Bool) (excess : List ℤ
 
 -- r says whether any of the excess of s could be sent
 pub record Sends (N : Net) (f f′ : List ℕ) (free : List Bool) (excess : List ℤ) (s : ℕ) (r : Bool) : Type 0 where
-  pub bounds : InBounds N f′
+  pub within : InBounds N f′
   pub done : r ≡ true → SentFrom N f f′ excess s
   pub stuck : r ≡ false → CutOff N f free excess s (length excess)

@@ -1,18 +1,20 @@
 // The search for a flow. It starts at a list within the bounds and sends from nodes with an excess to nodes with a deficit, until
 // there is no excess, or none of it can be sent: the nodes reached then certify that there is no flow.
 ghost use mathlib.Core.Path.{_≡_};
+ghost use mathlib.Core.List.{[]};
 ghost use Prim.Native.Nat.{ℕ, _≤_, _<_};
 ghost use lib.ListN.{length, getD};
 ghost use lib.IntN.{pos};
 ghost use lib.Signed.{_<ℤ_};
 ghost use Rattle.laws.specs.Range.{Bounded};
 ghost use Rattle.laws.specs.Sum.{sum};
-ghost use Rattle.net_theory.specs.Push.{InBounds};
-ghost use Rattle.net_theory.specs.Graph.{graph};
+ghost use Rattle.net_model.specs.Network.{nodes, balance};
+ghost use Rattle.net_theory.specs.Bounds.{InBounds};
+ghost use Rattle.net_theory.specs.Graph.{netWith};
 ghost use Rattle.net_theory.specs.Ready.{Ready};
-ghost use Rattle.flow_test.specs.FlowTest.{Given};
+ghost use Rattle.flow_test.specs.FlowTest.{Testable};
 ghost use Rattle.flow_feasible.specs.Sending.{Capped, SendsTo, Sends, FirstExcess};
-ghost use Rattle.flow_feasible.specs.Answer.{AllFree, Answer};
+ghost use Rattle.flow_feasible.specs.Answer.{AllFree, Feasible};
 
 // A positive number, or a million where it is greater.
 fn capped(x: i64) -> u32
@@ -25,7 +27,7 @@ fn capped(x: i64) -> u32
     x as u32
 }
 
-// As much as there is room for, at most `most`, from s to t, if t has a deficit (its excess x is below 0) and is reached.
+// As much as the capacities allow, at most `most`, from s to t, if t has a deficit (its excess x is below 0) and is reached.
 fn send_to(
     tails: &[u8],
     heads: &[u8],
@@ -38,18 +40,20 @@ fn send_to(
     x: i64,
     most: u32,
 ) -> bool
-    requires { ⌜ Ready (graph (now tails) (now heads) (now lows) (now ups)) (now flow) (now free) × (s < 64) × (t < 64) × (0 < most) × Bounded 3000000000 x ⌝ }
-    ensures { λ r. ⌜ SendsTo (graph (now (tails .entry)) (now (heads .entry)) (now (lows .entry)) (now (ups .entry))) (now (flow .entry)) (now (flow .exit)) (now (free .entry)) s t most x r ⌝ }
+    requires { let N = netWith [] (now tails) (now heads) (now lows) (now ups) [] in
+        ⌜ Ready N (now flow) (now free) × (s < 64) × (t < 64) × (0 < most) × Bounded 3000000000 x ⌝ }
+    ensures { λ r. let N = netWith [] (now (tails .entry)) (now (heads .entry)) (now (lows .entry)) (now (ups .entry)) [] in
+        ⌜ SendsTo N (now (flow .entry)) (now (flow .exit)) (now (free .entry)) s t most x r ⌝ }
 {
     if x >= 0 {
         return false;
     }
     let mut codes = [0usize; 64];
-    let route = flow_path::detour(tails, heads, lows, ups, free, flow, s, t, 0, &mut codes);
+    let route = flow_path::find_walk(tails, heads, lows, ups, free, flow, s, t, 0, &mut codes);
     match route {
         flow_path::Route::Codes(len) => {
             let cap = flow_push::lesser(most, capped(-x));
-            let d = flow_push::room(tails, lows, ups, flow, &codes, len, cap);
+            let d = flow_push::bottleneck(tails, lows, ups, flow, &codes, len, cap);
             flow_push::push(tails, lows, ups, flow, &codes, len, d);
             true
         }
@@ -68,8 +72,11 @@ fn send(
     excess: &[i64],
     s: usize,
 ) -> bool
-    requires { ⌜ Ready (graph (now tails) (now heads) (now lows) (now ups)) (now flow) (now free) × (s < length (now excess)) × (length (now excess) ≤ 64) × (pos 0 <ℤ getD (now excess) s (pos 0)) × ((v : ℕ) → Bounded 3000000000 (getD (now excess) v (pos 0))) ⌝ }
-    ensures { λ r. ⌜ Sends (graph (now (tails .entry)) (now (heads .entry)) (now (lows .entry)) (now (ups .entry))) (now (flow .entry)) (now (flow .exit)) (now (free .entry)) (now (excess .entry)) s r ⌝ }
+    requires { let N = netWith [] (now tails) (now heads) (now lows) (now ups) [] in
+        ⌜ Ready N (now flow) (now free) × (s < length (now excess)) × (length (now excess) ≤ 64) × (pos 0 <ℤ getD (now excess) s (pos 0))
+        × ((v : ℕ) → Bounded 3000000000 (getD (now excess) v (pos 0))) ⌝ }
+    ensures { λ r. let N = netWith [] (now (tails .entry)) (now (heads .entry)) (now (lows .entry)) (now (ups .entry)) [] in
+        ⌜ Sends N (now (flow .entry)) (now (flow .exit)) (now (free .entry)) (now (excess .entry)) s r ⌝ }
 {
     let most = capped(excess[s]);
     let mut t = 0;
@@ -122,8 +129,11 @@ fn from_bounds(
     flow: &mut [u32],
     excess: &mut [i64],
 ) -> bool
-    requires { ⌜ Given (now balances) (now tails) (now heads) (now lows) (now ups) (now flow) × InBounds (graph (now tails) (now heads) (now lows) (now ups)) (now flow) × AllFree (now tails) (now free) × (length (now excess) ≡ length (now balances)) × (sum (length (now balances)) (λ v. getD (now balances) v (pos 0)) ≡ pos 0) ⌝ }
-    ensures { λ r. ⌜ Answer (now (balances .entry)) (now (tails .entry)) (now (heads .entry)) (now (lows .entry)) (now (ups .entry)) (now (flow .exit)) r ⌝ }
+    requires { let N = netWith (now balances) (now tails) (now heads) (now lows) (now ups) [] in
+        ⌜ Testable N (now flow) × InBounds N (now flow) × AllFree N (now free) × (length (now excess) ≡ nodes N)
+        × (sum (nodes N) (balance N) ≡ pos 0) ⌝ }
+    ensures { λ r. let N = netWith (now (balances .entry)) (now (tails .entry)) (now (heads .entry)) (now (lows .entry)) (now (ups .entry)) [] in
+        ⌜ Feasible N (now (flow .exit)) r ⌝ }
 {
     loop {
         flow_test::excess_of(tails, heads, balances, flow, excess);
@@ -146,8 +156,10 @@ pub fn feasible(
     balances: &[i32],
     flow: &mut [u32],
 ) -> bool
-    requires { ⌜ Given (now balances) (now tails) (now heads) (now lows) (now ups) (now flow) × InBounds (graph (now tails) (now heads) (now lows) (now ups)) (now flow) ⌝ }
-    ensures { λ r. ⌜ Answer (now (balances .entry)) (now (tails .entry)) (now (heads .entry)) (now (lows .entry)) (now (ups .entry)) (now (flow .exit)) r ⌝ }
+    requires { let N = netWith (now balances) (now tails) (now heads) (now lows) (now ups) [] in
+        ⌜ Testable N (now flow) × InBounds N (now flow) ⌝ }
+    ensures { λ r. let N = netWith (now (balances .entry)) (now (tails .entry)) (now (heads .entry)) (now (lows .entry)) (now (ups .entry)) [] in
+        ⌜ Feasible N (now (flow .exit)) r ⌝ }
 {
     if total(balances) != 0 {
         return false;

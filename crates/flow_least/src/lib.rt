@@ -1,14 +1,13 @@
 // The first least-cost flow of a network, and the test of a given flow.
 ghost use mathlib.Core.Path.{_≡_};
 ghost use lib.ListN.{length};
-ghost use Rattle.net_model.specs.Network.{LeastCost};
+ghost use Rattle.net_model.specs.Network.{arcs, LeastCost};
 ghost use Rattle.net_model.specs.Accepted.{AcceptedNet};
-ghost use Rattle.flow_negative_cycle.specs.Search.{QuietLabels};
 ghost use Rattle.net_theory.specs.Graph.{netWith};
-ghost use Rattle.flow_test.specs.FlowTest.{Given};
-ghost use Rattle.flow_feasible.specs.Answer.{Answer};
+ghost use Rattle.flow_negative_cycle.specs.Search.{PotentialLabels};
+ghost use Rattle.flow_feasible.specs.Answer.{Feasible};
 ghost use Rattle.flow_least.specs.Marked.{Marked};
-ghost use Rattle.flow_least.specs.Answers.{FirstFlow, Tested, MarkedIfLeast};
+ghost use Rattle.flow_least.specs.Answers.{FirstFlow, IsLeastCost, MarkedIfLeast};
 
 // A flow, and a least-cost one where the guess is right; false if there is none.
 fn starting_flow(
@@ -20,8 +19,11 @@ fn starting_flow(
     balances: &[i32],
     flow: &mut [u32],
 ) -> bool
-    requires { ⌜ Given (now balances) (now tails) (now heads) (now lows) (now ups) (now flow) × (length (now costs) ≡ length (now tails)) ⌝ }
-    ensures { λ r. ⌜ Answer (now (balances .entry)) (now (tails .entry)) (now (heads .entry)) (now (lows .entry)) (now (ups .entry)) (now (flow .exit)) r ⌝ }
+    requires { let N = netWith (now balances) (now tails) (now heads) (now lows) (now ups) (now costs) in
+        ⌜ AcceptedNet N × (length (now flow) ≡ arcs N) ⌝ }
+    ensures { λ r.
+        let N = netWith (now (balances .entry)) (now (tails .entry)) (now (heads .entry)) (now (lows .entry)) (now (ups .entry)) (now (costs .entry)) in
+        ⌜ Feasible N (now (flow .exit)) r ⌝ }
 {
     flow_simplex::guess(tails, heads, lows, ups, costs, balances, flow);
     flow_feasible::feasible(tails, heads, lows, ups, balances, flow)
@@ -37,15 +39,18 @@ fn mark(
     balances: &[i32],
     flow: &[u32],
     labels: &[i64],
-    tight: &mut [bool],
+    free: &mut [bool],
 )
-    requires { ⌜ AcceptedNet (netWith (now balances) (now tails) (now heads) (now lows) (now ups) (now costs)) × LeastCost (netWith (now balances) (now tails) (now heads) (now lows) (now ups) (now costs)) (now flow) × QuietLabels (netWith (now balances) (now tails) (now heads) (now lows) (now ups) (now costs)) (now flow) 1 (now labels) × (length (now tight) ≡ length (now tails)) ⌝ }
-    ensures { λ _. ⌜ Marked (netWith (now (balances .entry)) (now (tails .entry)) (now (heads .entry)) (now (lows .entry)) (now (ups .entry)) (now (costs .entry))) (now (tight .exit)) (now (flow .entry)) ⌝ }
+    requires { let N = netWith (now balances) (now tails) (now heads) (now lows) (now ups) (now costs) in
+        ⌜ AcceptedNet N × LeastCost N (now flow) × PotentialLabels N (now flow) 1 (now labels) × (length (now free) ≡ arcs N) ⌝ }
+    ensures { λ _.
+        let N = netWith (now (balances .entry)) (now (tails .entry)) (now (heads .entry)) (now (lows .entry)) (now (ups .entry)) (now (costs .entry)) in
+        ⌜ Marked N (now (free .exit)) (now (flow .entry)) ⌝ }
 {
-    flow_cost::mark_tight(tails, heads, costs, labels, tight);
+    flow_cost::mark_tight(tails, heads, costs, labels, free);
 }
 
-// The first flow, and its marks; false if there is none. A walk through a whole list may follow, so the marks are narrowed, which one step
+// The first flow, and its marks; false if there is none. The whole list may be gone through after it, so the marks are narrowed, which one step
 // (after `mark_if_least`) would not repay.
 pub fn first_flow(
     tails: &[u8],
@@ -55,16 +60,19 @@ pub fn first_flow(
     costs: &[i32],
     balances: &[i32],
     flow: &mut [u32],
-    tight: &mut [bool],
+    free: &mut [bool],
 ) -> bool
-    requires { ⌜ AcceptedNet (netWith (now balances) (now tails) (now heads) (now lows) (now ups) (now costs)) × (length (now flow) ≡ length (now tails)) × (length (now tight) ≡ length (now tails)) ⌝ }
-    ensures { λ r. ⌜ FirstFlow (netWith (now (balances .entry)) (now (tails .entry)) (now (heads .entry)) (now (lows .entry)) (now (ups .entry)) (now (costs .entry))) (now (flow .exit)) (now (tight .entry)) (now (tight .exit)) r ⌝ }
+    requires { let N = netWith (now balances) (now tails) (now heads) (now lows) (now ups) (now costs) in
+        ⌜ AcceptedNet N × (length (now flow) ≡ arcs N) × (length (now free) ≡ arcs N) ⌝ }
+    ensures { λ r.
+        let N = netWith (now (balances .entry)) (now (tails .entry)) (now (heads .entry)) (now (lows .entry)) (now (ups .entry)) (now (costs .entry)) in
+        ⌜ FirstFlow N (now (flow .exit)) (now (free .entry)) (now (free .exit)) r ⌝ }
 {
     if !starting_flow(tails, heads, lows, ups, costs, balances, flow) {
         return false;
     }
     let mut labels = [0i64; 64];
-    flow_cancel::cheapen(tails, heads, lows, ups, costs, flow, &mut labels);
+    flow_cancel::cancel_negative_cycles(tails, heads, lows, ups, costs, flow, &mut labels);
     mark(
         tails,
         heads,
@@ -74,10 +82,10 @@ pub fn first_flow(
         balances,
         flow,
         &labels,
-        tight,
+        free,
     );
-    flow_closure::unmark_fixed(tails, heads, lows, ups, tight, flow);
-    flow_order::minimise(tails, heads, lows, ups, tight, flow, 0);
+    flow_closure::unmark_fixed(tails, heads, lows, ups, free, flow);
+    flow_order::minimise(tails, heads, lows, ups, free, flow, 0);
     true
 }
 
@@ -92,8 +100,11 @@ fn is_least_cost(
     flow: &[u32],
     labels: &mut [i64],
 ) -> bool
-    requires { ⌜ AcceptedNet (netWith (now balances) (now tails) (now heads) (now lows) (now ups) (now costs)) × (length (now flow) ≡ length (now tails)) × (length (now labels) ≡ 64) ⌝ }
-    ensures { λ r. ⌜ Tested (netWith (now (balances .entry)) (now (tails .entry)) (now (heads .entry)) (now (lows .entry)) (now (ups .entry)) (now (costs .entry))) (now (flow .entry)) (now (labels .exit)) r ⌝ }
+    requires { let N = netWith (now balances) (now tails) (now heads) (now lows) (now ups) (now costs) in
+        ⌜ AcceptedNet N × (length (now flow) ≡ arcs N) × (length (now labels) ≡ 64) ⌝ }
+    ensures { λ r.
+        let N = netWith (now (balances .entry)) (now (tails .entry)) (now (heads .entry)) (now (lows .entry)) (now (ups .entry)) (now (costs .entry)) in
+        ⌜ IsLeastCost N (now (flow .entry)) (now (labels .exit)) r ⌝ }
 {
     if !flow_test::is_flow(tails, heads, lows, ups, balances, flow) {
         return false;
@@ -112,10 +123,13 @@ pub fn mark_if_least(
     costs: &[i32],
     balances: &[i32],
     flow: &[u32],
-    tight: &mut [bool],
+    free: &mut [bool],
 ) -> bool
-    requires { ⌜ AcceptedNet (netWith (now balances) (now tails) (now heads) (now lows) (now ups) (now costs)) × (length (now flow) ≡ length (now tails)) × (length (now tight) ≡ length (now tails)) ⌝ }
-    ensures { λ r. ⌜ MarkedIfLeast (netWith (now (balances .entry)) (now (tails .entry)) (now (heads .entry)) (now (lows .entry)) (now (ups .entry)) (now (costs .entry))) (now (flow .entry)) (now (tight .entry)) (now (tight .exit)) r ⌝ }
+    requires { let N = netWith (now balances) (now tails) (now heads) (now lows) (now ups) (now costs) in
+        ⌜ AcceptedNet N × (length (now flow) ≡ arcs N) × (length (now free) ≡ arcs N) ⌝ }
+    ensures { λ r.
+        let N = netWith (now (balances .entry)) (now (tails .entry)) (now (heads .entry)) (now (lows .entry)) (now (ups .entry)) (now (costs .entry)) in
+        ⌜ MarkedIfLeast N (now (flow .entry)) (now (free .entry)) (now (free .exit)) r ⌝ }
 {
     let mut labels = [0i64; 64];
     if !is_least_cost(tails, heads, lows, ups, costs, balances, flow, &mut labels) {
@@ -130,7 +144,7 @@ pub fn mark_if_least(
         balances,
         flow,
         &labels,
-        tight,
+        free,
     );
     true
 }

@@ -13,12 +13,13 @@ use Rattle.laws.specs.Members.{_∈_, Every, member-every}
 use Rattle.laws.specs.Ascending.{Distinct}
 use Rattle.laws.specs.Pigeonhole.{Twice, pigeon}
 use Rattle.net_model.specs.Network.{Net}
-use Rattle.net_model.specs.Residual.{codes, src, dst, stepCost, walkCost, Cycle}
-use Rattle.net_theory.specs.Room.{roomy}
-use Rattle.flow_relax.specs.Labels.{SmallGraph}
-use Rattle.flow_relax.proofs.Trips.{Trip, trip-walk}
+use Rattle.net_model.specs.Residual.{codes, src, dst, stepCost, walkCost, Cycle, CodeWalk}
+use Rattle.net_model.proofs.Walks.{walk-holds}
+use Rattle.net_theory.specs.ResidualCapacity.{hasCapacity}
+use Rattle.net_theory.specs.Limits.{SmallEnds}
+use Rattle.net_theory.proofs.ResidualCapacity.{hasCapacity-walk}
 use Rattle.flow_relax.proofs.Rounds.{AtMost}
-use Rattle.flow_negative_cycle.specs.Predecessors.{pred, back, backCost, Backs, Returns, Ends, Period, trail, Labelled}
+use Rattle.flow_negative_cycle.specs.Predecessors.{pred, back, backCost, Backs, Returns, BackEnds, Period, backCodes, Labelled}
 use Rattle.flow_negative_cycle.proofs.Relaxing.{back-in, slope}
 
 module _ (N : Net) (p : List ℕ) where
@@ -51,7 +52,7 @@ module _ (N : Net) (p : List ℕ) where
   alike v i j s e = back-add s i v ∙ ap (back N p s) e ∙ sym (back-add s j v)
 
   -- after 64 steps a way back is on a cycle
-  pub comes-round : SmallGraph N → (v : ℕ) → v < 64 → Backs N p 64 v → Returns N p (back N p 64 v)
+  pub comes-round : SmallEnds N → (v : ℕ) → v < 64 → Backs N p 64 v → Returns N p (back N p 64 v)
   comes-round ok v h b = close (pigeon 64 65 (λ i. back N p i v) (omega arith) (λ i l. back-in N ok p v 64 h b i (omega arith)))
     where
       close : Twice 65 (λ i. back N p i v) → Returns N p (back N p 64 v)
@@ -78,52 +79,48 @@ module _ (N : Net) (p : List ℕ) where
               let c : (m + 64 - w .j) + w .i ≡ m + 64 - (w .j - w .i) = omega (arith, w .less, w .in-range) in
               sym (back-add m 64 v) ∙ ap (λ k. back N p k v) a ∙ sym (alike v (w .i) (w .j) (m + 64 - w .j) (w .same)) ∙ ap (λ k. back N p k v) c
 
-  pub trail-more : (t x : ℕ) → trail N p (suc t) x ≡ trail N p t x ++ (pred p (back N p t x) ∷ [])
+  pub codes-more : (t x : ℕ) → backCodes N p (suc t) x ≡ backCodes N p t x ++ (pred p (back N p t x) ∷ [])
   unfolding back
-  trail-more zero x = refl
-  trail-more (suc t) x = ap {B = List ℕ} (λ r. pred p x ∷ r) (trail-more t (src N (pred p x)) ∙ ap (λ y. trail N p t (src N (pred p x)) ++ (pred p y ∷ [])) (sym (back-first t x)))
+  codes-more zero x = refl
+  codes-more (suc t) x = ap {B = List ℕ} (λ r. pred p x ∷ r) (codes-more t (src N (pred p x)) ∙ ap (λ y. backCodes N p t (src N (pred p x)) ++ (pred p y ∷ [])) (sym (back-first t x)))
 
-  pub trail-length : (t x : ℕ) → length (trail N p t x) ≡ t
-  trail-length zero x = refl
-  trail-length (suc t) x = ap suc (trail-length t (src N (pred p x)))
+  pub codes-length : (t x : ℕ) → length (backCodes N p t x) ≡ t
+  codes-length zero x = refl
+  codes-length (suc t) x = ap suc (codes-length t (src N (pred p x)))
 
-  pub trail-cost : (t x : ℕ) → walkCost N (trail N p t x) ≡ backCost N p t x
+  pub codes-cost : (t x : ℕ) → walkCost N (backCodes N p t x) ≡ backCost N p t x
   unfolding backCost
-  trail-cost zero x = refl
-  trail-cost (suc t) x = ap (λ z. stepCost N (pred p x) +ℤ z) (trail-cost t (src N (pred p x))) ∙ sym (cost-first t x)
+  codes-cost zero x = refl
+  codes-cost (suc t) x = ap (λ z. stepCost N (pred p x) +ℤ z) (codes-cost t (src N (pred p x))) ∙ sym (cost-first t x)
 
   -- fewer steps of a way back
   backs-first : (t x : ℕ) → Backs N p (suc t) x → Backs N p t (src N (pred p x))
   backs-first t x b i l = subst (λ y. pred p y < codes N) (back-first i x) (b (suc i) (omega arith))
 
-  -- the nodes that a trail comes to
-  trail-node : (t x y : ℕ) → y ∈ map (dst N) (trail N p t x) → ((w : ℕ) → w < 64 → pred p w < codes N → dst N (pred p w) ≡ w) → ((i : ℕ) → i < t → back N p i x < 64) → Backs N p t x → (i : ℕ) × (i < t) × (y ≡ back N p i x)
+  -- the nodes that it comes to
+  codes-node : (t x y : ℕ) → y ∈ map (dst N) (backCodes N p t x) → ((w : ℕ) → w < 64 → pred p w < codes N → dst N (pred p w) ≡ w) → ((i : ℕ) → i < t → back N p i x < 64) → Backs N p t x → (i : ℕ) × (i < t) × (y ≡ back N p i x)
   unfolding back
-  trail-node zero x y m ends inside b = absurd m
-  trail-node (suc t) x y (inl q) ends inside b = (0, omega arith, q ∙ ends x (inside 0 (omega arith)) (b 0 (omega arith)))
-  trail-node (suc t) x y (inr m) ends inside b =
-      let (i, l, e) = trail-node t (src N (pred p x)) y m ends (λ i l. subst (λ z. z < 64) (back-first i x) (inside (suc i) (omega arith))) (backs-first t x b) in
+  codes-node zero x y m ends inside b = absurd m
+  codes-node (suc t) x y (inl q) ends inside b = (0, omega arith, q ∙ ends x (inside 0 (omega arith)) (b 0 (omega arith)))
+  codes-node (suc t) x y (inr m) ends inside b =
+      let (i, l, e) = codes-node t (src N (pred p x)) y m ends (λ i l. subst (λ z. z < 64) (back-first i x) (inside (suc i) (omega arith))) (backs-first t x b) in
       (suc i, omega arith, e ∙ sym (back-first i x))
 
-module _ (N : Net) (f : List ℕ) (ok : SmallGraph N) (δ : ℕ) (d : List ℤ) (p : List ℕ) (L : Labelled N f δ d p) where
+module _ (N : Net) (f : List ℕ) (ok : SmallEnds N) (δ : ℕ) (d : List ℤ) (p : List ℕ) (L : Labelled N f δ d p) where
   inside : (x t : ℕ) → x < 64 → Backs N p t x → (i : ℕ) → i < t → back N p i x < 64
   inside x t h b i l = back-in N ok p x t h b i (omega arith)
 
-  pub trail-trip : (t x : ℕ) → x < 64 → Backs N p t x → Trip N f δ (back N p t x) x (trail N p t x)
+  pub codes-walk : (t x : ℕ) → x < 64 → Backs N p t x → CodeWalk N (hasCapacity N f δ) (back N p t x) x (backCodes N p t x)
   unfolding back
-  trail-trip zero x h b = refl
-  trail-trip (suc t) x h b =
+  codes-walk zero x h b = refl
+  codes-walk (suc t) x h b =
       let k = b 0 (omega arith) in (
         k,
-        L .room x h k,
+        L .capacity x h k,
         L .ends x h k,
-        subst (λ y. Trip N f δ y (src N (pred p x)) (trail N p t (src N (pred p x)))) (sym (back-first N p t x))
-            (trail-trip t (src N (pred p x)) (subst (λ z. z < 64) (back-first N p 0 x) (back-in N ok p x (suc t) h b 1 (omega arith))) (backs-first N p t x b)),
+        subst (λ y. CodeWalk N (hasCapacity N f δ) y (src N (pred p x)) (backCodes N p t (src N (pred p x)))) (sym (back-first N p t x))
+            (codes-walk t (src N (pred p x)) (subst (λ z. z < 64) (back-first N p 0 x) (back-in N ok p x (suc t) h b 1 (omega arith))) (backs-first N p t x b)),
       )
-
-  trip-room : (u v : ℕ) (cs : List ℕ) → Trip N f δ u v cs → Every (λ c. roomy N f δ c ≡ true) cs
-  trip-room u v [] w = tt
-  trip-room u v (c ∷ cs) (a, b, e, w) = (b, trip-room u (src N c) cs w)
 
   -- the nodes of one period are apart
   module _ (x t : ℕ) (P : Period N p x t) where
@@ -132,11 +129,11 @@ module _ (N : Net) (f : List ℕ) (ok : SmallGraph N) (δ : ℕ) (d : List ℤ) 
         P .first ((t - j) + i) (omega arith) (omega arith)
         (alike N p x i j (t - j) e ∙ ap (λ k. back N p k x) (omega arith) ∙ P .round .closes)
 
-    distinct-from : (s m : ℕ) → s + m ≡ t → Distinct (map (dst N) (trail N p m (back N p s x)))
+    distinct-from : (s m : ℕ) → s + m ≡ t → Distinct (map (dst N) (backCodes N p m (back N p s x)))
     unfolding back
     distinct-from s zero q = tt
     distinct-from s (suc m) q = (
-      member-every (λ b. b ≢ dst N (pred p (back N p s x))) (map (dst N) (trail N p m (src N (pred p (back N p s x))))) (λ y k e. clash y e (trail-node N p m (back N p (suc s) x) y k (L .ends) in-m backs-m)),
+      member-every (λ b. b ≢ dst N (pred p (back N p s x))) (map (dst N) (backCodes N p m (src N (pred p (back N p s x))))) (λ y k e. clash y e (codes-node N p m (back N p (suc s) x) y k (L .ends) in-m backs-m)),
       distinct-from (suc s) m (omega arith),
     )
       where
@@ -151,23 +148,23 @@ module _ (N : Net) (f : List ℕ) (ok : SmallGraph N) (δ : ℕ) (d : List ℤ) 
             apart s (i + suc s) (omega arith) (omega arith)
             (sym (L .ends (back N p s x) (inside x t (P .round .node) (P .round .steps) s (omega arith)) (P .round .steps s (omega arith))) ∙ sym e ∙ q′ ∙ sym (back-add N p i (suc s) x))
 
-    pub period-cycle : 0 < δ → Cycle N f (trail N p t x)
+    pub period-cycle : 0 < δ → Cycle N f (backCodes N p t x)
     unfolding back
     period-cycle h = record {
       node = x;
-      closed = trip-walk N f δ h x x (trail N p t x) (subst (λ y. Trip N f δ y x (trail N p t x)) (P .round .closes) (trail-trip t x (P .round .node) (P .round .steps)));
-      some = omega (arith, trail-length N p t x, P .round .some);
+      closed = hasCapacity-walk N f δ h x x (backCodes N p t x) (subst (λ y. CodeWalk N (hasCapacity N f δ) y x (backCodes N p t x)) (P .round .closes) (codes-walk t x (P .round .node) (P .round .steps)));
+      some = omega (arith, codes-length N p t x, P .round .some);
       simple = distinct-from 0 t (omega arith);
     }
 
-    pub period-room : Every (λ c. roomy N f δ c ≡ true) (trail N p t x)
-    period-room = trip-room (back N p t x) x (trail N p t x) (trail-trip t x (P .round .node) (P .round .steps))
+    pub period-capacity : Every (λ c. hasCapacity N f δ c ≡ true) (backCodes N p t x)
+    period-capacity = walk-holds (codes N) (src N) (dst N) (hasCapacity N f δ) (back N p t x) x (backCodes N p t x) (codes-walk t x (P .round .node) (P .round .steps))
 
-    pub period-negative : walkCost N (trail N p t x) <ℤ pos 0
-    period-negative = subst (λ z. z <ℤ pos 0) (sym (trail-cost N p t x)) (L .negative x t (P .round))
+    pub period-negative : walkCost N (backCodes N p t x) <ℤ pos 0
+    period-negative = subst (λ z. z <ℤ pos 0) (sym (codes-cost N p t x)) (L .negative x t (P .round))
 
   -- a way back that ends shows that the label is one of a walk; so a label that fell below every walk of k codes has a longer way back
-  pub ends-late : (x t k : ℕ) → x < 64 → Ends N p x t → (d₀ : List ℤ) → AtMost N f δ k d₀ → getD d x (pos 0) <ℤ getD d₀ x (pos 0) → k < t
+  pub ends-late : (x t k : ℕ) → x < 64 → BackEnds N p x t → (d₀ : List ℤ) → AtMost N f δ k d₀ → getD d x (pos 0) <ℤ getD d₀ x (pos 0) → k < t
   unfolding back
   ends-late x t k h e d₀ m lower = go (native.Mathlib.Decide.decLt k t)
     where
@@ -181,7 +178,7 @@ module _ (N : Net) (f : List ℕ) (ok : SmallGraph N) (δ : ℕ) (d : List ℤ) 
       short l =
           clash (backCost N p t x) (getD d (back N p t x) (pos 0)) (getD d x (pos 0)) (getD d₀ x (pos 0))
           (slope N p (λ w. getD d w (pos 0)) x t drops t (omega arith)) root
-          (subst (λ z. getD d₀ x (pos 0) ≤ℤ z) (trail-cost N p t x) (m (back N p t x) x (trail N p t x) (omega (arith, trail-length N p t x)) (trail-trip t x h (e .steps)))) lower
+          (subst (λ z. getD d₀ x (pos 0) ≤ℤ z) (codes-cost N p t x) (m (back N p t x) x (backCodes N p t x) (omega (arith, codes-length N p t x)) (codes-walk t x h (e .steps)))) lower
         where
           clash : (b r y z : ℤ) → (b +ℤ r) ≤ℤ y → r ≡ pos 0 → z ≤ℤ b → y <ℤ z → ⊥
           clash b r y z h q k l = given3 h q k (given l (simp lin (omega arith)))

@@ -17,13 +17,14 @@ use Rattle.laws.specs.Store.{set-cases}
 use Rattle.laws.specs.Pigeonhole.{Found, find}
 use Rattle.net_model.specs.Network.{Net}
 use Rattle.net_model.specs.Residual.{codes, src, dst, stepCost}
-use Rattle.net_theory.specs.Room.{roomy}
-use Rattle.flow_relax.specs.Labels.{SmallGraph, Relaxable, State, label, offer, better, relaxed, relaxedAll}
-use Rattle.flow_relax.proofs.Codes.{src-in, dst-in}
-use Rattle.flow_negative_cycle.specs.Predecessors.{pred, back, backCost, Backs, Round, Labelled}
+use Rattle.net_theory.specs.ResidualCapacity.{hasCapacity}
+use Rattle.net_theory.specs.Limits.{SmallEnds}
+use Rattle.net_theory.proofs.Codes.{src-in, dst-in}
+use Rattle.flow_relax.specs.Labels.{Relaxable, State, label, offer, better, relaxed, relaxedAll}
+use Rattle.flow_negative_cycle.specs.Predecessors.{pred, back, backCost, Backs, PredecessorCycle, Labelled}
 
 -- a way back along codes stays among the nodes
-pub back-in : (N : Net) → SmallGraph N → (p : List ℕ) (x t : ℕ) → x < 64 → Backs N p t x → (j : ℕ) → j ≤ t → back N p j x < 64
+pub back-in : (N : Net) → SmallEnds N → (p : List ℕ) (x t : ℕ) → x < 64 → Backs N p t x → (j : ℕ) → j ≤ t → back N p j x < 64
 unfolding back
 back-in N ok p x t h b zero l = h
 back-in N ok p x t h b (suc j) l = src-in N ok (pred p (back N p j x)) (b j (omega arith))
@@ -58,7 +59,7 @@ module _ (N : Net) (p : List ℕ) (e : ℕ → ℤ) (x t : ℕ)
 
 -- code c is better for its end
 module _ (N : Net) (f : List ℕ) (ok : Relaxable N f) (δ : ℕ) (d : List ℤ) (p : List ℕ) (L : Labelled N f δ d p) (c : ℕ) (in-range : c < codes N)
-    (room : roomy N f δ c ≡ true) (lower : (getD d (src N c) (pos 0) +ℤ stepCost N c) <ℤ getD d (dst N c) (pos 0)) where
+    (capacity : hasCapacity N f δ c ≡ true) (lower : (getD d (src N c) (pos 0) +ℤ stepCost N c) <ℤ getD d (dst N c) (pos 0)) where
   abbrev v : ℕ
   v = dst N c
 
@@ -69,7 +70,7 @@ module _ (N : Net) (f : List ℕ) (ok : Relaxable N f) (δ : ℕ) (d : List ℤ)
   p′ = set p v c
 
   end-in : v < 64
-  end-in = dst-in N (ok .graph) c in-range
+  end-in = dst-in N (ok .ends) c in-range
 
   in-labels : v < length d
   in-labels = omega (arith, end-in, L .labels-len)
@@ -114,12 +115,12 @@ module _ (N : Net) (f : List ℕ) (ok : Relaxable N f) (δ : ℕ) (d : List ℤ)
     same-cost zero l = refl
     same-cost (suc j) l = ap₂ _+ℤ_ (ap (stepCost N) (same-pred j l)) (same-cost j (omega arith))
 
-  negative′ : (x t : ℕ) → Round N p′ x t → backCost N p′ t x <ℤ pos 0
+  negative′ : (x t : ℕ) → PredecessorCycle N p′ x t → backCost N p′ t x <ℤ pos 0
   unfolding back
   negative′ x t r = go (find t (λ i. back N p′ i x) v)
     where
       node : (i : ℕ) → i ≤ t → back N p′ i x < 64
-      node i l = back-in N (ok .graph) p′ x t (r .node) (r .steps) i l
+      node i l = back-in N (ok .ends) p′ x t (r .node) (r .steps) i l
 
       drops : (i : ℕ) → i < t → (getD d (back N p′ (suc i) x) (pos 0) +ℤ stepCost N (pred p′ (back N p′ i x))) ≤ℤ getD d (back N p′ i x) (pos 0)
       drops i l = drop-any (back N p′ i x) (node i (omega arith)) (r .steps i l)
@@ -158,7 +159,7 @@ module _ (N : Net) (f : List ℕ) (ok : Relaxable N f) (δ : ℕ) (d : List ℤ)
     preds-len = length-set p v c ∙ L .preds-len;
     root = by-node (λ w. codes N ≤ pred p′ w → getD d′ w (pos 0) ≡ pos 0) (λ k. absurd (omega (arith, here)))
         (λ w h q k. getD-set-other d v w (getD d (src N c) (pos 0) +ℤ stepCost N c) (pos 0) q ∙ L .root w h (rw (other w q) at k));
-    room = by-node (λ w. pred p′ w < codes N → roomy N f δ (pred p′ w) ≡ true) (λ k. ap (roomy N f δ) here ∙ room) (λ w h q k. rw (other w q) (L .room w h (rw (other w q) at k)));
+    capacity = by-node (λ w. pred p′ w < codes N → hasCapacity N f δ (pred p′ w) ≡ true) (λ k. ap (hasCapacity N f δ) here ∙ capacity) (λ w h q k. rw (other w q) (L .capacity w h (rw (other w q) at k)));
     ends = by-node (λ w. pred p′ w < codes N → dst N (pred p′ w) ≡ w) (λ k. ap (dst N) here) (λ w h q k. rw (other w q) (L .ends w h (rw (other w q) at k)));
     offers = by-node (λ w. pred p′ w < codes N → (getD d′ (src N (pred p′ w)) (pos 0) +ℤ stepCost N (pred p′ w)) ≤ℤ getD d′ w (pos 0))
         (λ k. rw here (at-end (getD d′ (src N c) (pos 0)) (getD d (src N c) (pos 0)) (stepCost N c) (getD d′ v (pos 0)) (falls (src N c)) (getD-set-same d v (getD d (src N c) (pos 0) +ℤ stepCost N c) (pos 0) in-labels)))
@@ -180,7 +181,7 @@ labelled-relaxed N f ok δ s L c h = go (better N f δ c s) refl
   where
     go : (t : Bool) → better N f δ c s ≡ t → Labelled N f δ (cond t (set (s .labels) (dst N c) (offer N c s)) (s .labels)) (cond t (set (s .preds) (dst N c) c) (s .preds))
     go true e =
-        let (r, l) = and-true (roomy N f δ c) (ltZ (offer N c s) (label s (dst N c))) e in
+        let (r, l) = and-true (hasCapacity N f δ c) (ltZ (offer N c s) (label s (dst N c))) e in
         labelled-hit N f ok δ (s .labels) (s .preds) L c h r (ltZ-true (offer N c s) (label s (dst N c)) l)
     go false e = L
 

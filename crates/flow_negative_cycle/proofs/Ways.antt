@@ -10,11 +10,11 @@ use lib.Seq.{take-suc-set}
 use Rattle.laws.specs.Store.{drop-set-next}
 use Rattle.net_model.specs.Network.{Net, arcs}
 use Rattle.net_model.specs.Residual.{codes, src}
-use Rattle.flow_relax.specs.Labels.{SmallGraph}
-use Rattle.flow_relax.proofs.Codes.{src-in}
-use Rattle.flow_negative_cycle.specs.Predecessors.{pred, back, Backs, Returns, Ends, trail, Collected}
+use Rattle.net_theory.specs.Limits.{SmallEnds}
+use Rattle.net_theory.proofs.Codes.{src-in}
+use Rattle.flow_negative_cycle.specs.Predecessors.{pred, back, Backs, Returns, BackEnds, backCodes, Collects}
 use Rattle.flow_negative_cycle.proofs.Relaxing.{back-in}
-use Rattle.flow_negative_cycle.proofs.Cycles.{trail-more}
+use Rattle.flow_negative_cycle.proofs.Cycles.{codes-more}
 
 -- one step more of a way back
 backs-more : (N : Net) (p : List ℕ) (t x : ℕ) → Backs N p t x → pred p (back N p t x) < codes N → Backs N p (suc t) x
@@ -30,7 +30,7 @@ pub record Going (N : Net) (p : List ℕ) (v i w : ℕ) : Type 0 where
   pub is : w ≡ back N p i v
   pub steps : Backs N p i v
 
-module _ (N : Net) (ok : SmallGraph N) (p : List ℕ) where
+module _ (N : Net) (ok : SmallEnds N) (p : List ℕ) where
   pub arc-of : (c : ℕ) → c < codes N → (c / 2 < arcs N) × (c / 2 < length (N .heads))
   arc-of c h = (omega arith, omega (arith, ok .heads-len))
 
@@ -47,7 +47,7 @@ module _ (N : Net) (ok : SmallGraph N) (p : List ℕ) where
     steps = rw add-one (backs-more N p i v (g .steps) (subst (λ y. pred p y < codes N) (g .is) h));
   }
 
-  pub going-ends : (v i w : ℕ) → Going N p v i w → i < 64 → codes N ≤ pred p w → Ends N p v i
+  pub going-ends : (v i w : ℕ) → Going N p v i w → i < 64 → codes N ≤ pred p w → BackEnds N p v i
   going-ends v i w g l h = record { few = l; steps = g .steps; ends = subst (λ y. codes N ≤ pred p y) (g .is) h }
 
 pub record Collecting (N : Net) (p : List ℕ) (x : ℕ) (out₀ out : List ℕ) (w len : ℕ) : Type 0 where
@@ -56,10 +56,10 @@ pub record Collecting (N : Net) (p : List ℕ) (x : ℕ) (out₀ out : List ℕ)
   pub is : w ≡ back N p len x
   pub away : (i : ℕ) → 0 < i → i ≤ len → ¬ (back N p i x ≡ x)
   pub long : length out ≡ 64
-  pub are : take len out ≡ trail N p len x
+  pub are : take len out ≡ backCodes N p len x
   pub rest : drop len out ≡ drop len out₀
 
-module _ (N : Net) (ok : SmallGraph N) (p : List ℕ) (x : ℕ) where
+module _ (N : Net) (ok : SmallEnds N) (p : List ℕ) (x : ℕ) where
   pub collecting-none : (out : List ℕ) → length out ≡ 64 → Returns N p x → Collecting N p x out out x 0
   unfolding back
   collecting-none out h r = record { returns = r; early = r .round .some; is = refl; away = λ i l k. absurd (omega arith); long = h; are = refl; rest = refl }
@@ -71,13 +71,13 @@ module _ (N : Net) (ok : SmallGraph N) (p : List ℕ) (x : ℕ) where
     pub node : w < 64
     node = subst (λ y. y < 64) (sym (c .is)) (back-in N ok p x (c .returns .steps) (c .returns .round .node) (c .returns .round .steps) len (omega (arith, c .early)))
 
-    pub room : len < 64
-    room = omega (arith, c .early, c .returns .few)
+    pub capacity : len < 64
+    capacity = omega (arith, c .early, c .returns .few)
 
-    stored : take (suc len) (set out len (pred p w)) ≡ trail N p (suc len) x
+    stored : take (suc len) (set out len (pred p w)) ≡ backCodes N p (suc len) x
     stored =
-        take-suc-set out len (pred p w) (omega (arith, room, c .long))
-        ∙ ap (λ (l : List ℕ). l ++ (pred p w ∷ [])) (c .are) ∙ ap (λ y. trail N p len x ++ (pred p y ∷ [])) (c .is) ∙ sym (trail-more N p len x)
+        take-suc-set out len (pred p w) (omega (arith, capacity, c .long))
+        ∙ ap (λ (l : List ℕ). l ++ (pred p w ∷ [])) (c .are) ∙ ap (λ y. backCodes N p len x ++ (pred p y ∷ [])) (c .is) ∙ sym (codes-more N p len x)
 
     next-is : (w′ : ℕ) → w′ ≡ src N (pred p w) → w′ ≡ back N p (suc len) x
     unfolding back
@@ -102,9 +102,9 @@ module _ (N : Net) (ok : SmallGraph N) (p : List ℕ) (x : ℕ) where
         apart i l k (yes q) e′ = n (next-is w′ e ∙ ap (λ k. back N p k x) (sym q) ∙ e′)
         apart i l k (no q) e′ = c .away i l (omega arith) e′
 
-    pub collecting-done : (w′ : ℕ) → w′ ≡ src N (pred p w) → w′ ≡ x → Collected N p x out₀ (set out len (pred p w)) (len + 1)
+    pub collecting-done : (w′ : ℕ) → w′ ≡ src N (pred p w) → w′ ≡ x → Collects N p x out₀ (set out len (pred p w)) (len + 1)
     collecting-done w′ e q = record {
-      few = omega (arith, room);
+      few = omega (arith, capacity);
       period = rw add-one (record {
         round = record {
           node = c .returns .round .node;

@@ -4,15 +4,16 @@ ghost use mathlib.Core.List.{[]};
 ghost use Prim.Native.Nat.{ℕ, _≤_, _<_};
 ghost use lib.ListN.{length, getD};
 ghost use lib.IntN.{pos};
-ghost use Rattle.net_theory.specs.Graph.{costGraph};
-ghost use Rattle.flow_relax.specs.Labels.{SmallGraph, Relaxable};
-ghost use Rattle.flow_negative_cycle.specs.Predecessors.{Returns, WentBack, Collected};
-ghost use Rattle.flow_negative_cycle.specs.Search.{Searched};
+ghost use Rattle.net_theory.specs.Graph.{netWith};
+ghost use Rattle.net_theory.specs.Limits.{SmallEnds};
+ghost use Rattle.flow_relax.specs.Labels.{Relaxable};
+ghost use Rattle.flow_negative_cycle.specs.Predecessors.{Returns, GoesBack, Collects};
+ghost use Rattle.flow_negative_cycle.specs.Search.{FindsCycle};
 
 // The node 64 predecessors back from v, which is on a cycle; or 64, no node, where one without a predecessor is met.
 fn go_back(tails: &[u8], heads: &[u8], preds: &[u16], v: usize) -> usize
-    requires { ⌜ SmallGraph (costGraph (now tails) (now heads) [] [] []) × (length (now preds) ≡ 64) × (v < 64) ⌝ }
-    ensures { λ r. ⌜ WentBack (costGraph (now (tails .entry)) (now (heads .entry)) [] [] []) (now (preds .entry)) v r ⌝ }
+    requires { ⌜ SmallEnds (netWith [] (now tails) (now heads) [] [] []) × (length (now preds) ≡ 64) × (v < 64) ⌝ }
+    ensures { λ r. ⌜ GoesBack (netWith [] (now (tails .entry)) (now (heads .entry)) [] [] []) (now (preds .entry)) v r ⌝ }
 {
     let m = tails.len() + tails.len();
     let mut w = v;
@@ -28,8 +29,10 @@ fn go_back(tails: &[u8], heads: &[u8], preds: &[u16], v: usize) -> usize
 
 // The codes of the cycle through x, the last first. How many.
 fn collect(tails: &[u8], heads: &[u8], preds: &[u16], x: usize, out: &mut [usize]) -> usize
-    requires { ⌜ SmallGraph (costGraph (now tails) (now heads) [] [] []) × (length (now preds) ≡ 64) × (length (now out) ≡ 64) × Returns (costGraph (now tails) (now heads) [] [] []) (now preds) x ⌝ }
-    ensures { λ r. ⌜ Collected (costGraph (now (tails .entry)) (now (heads .entry)) [] [] []) (now (preds .entry)) x (now (out .entry)) (now (out .exit)) r ⌝ }
+    requires { let N = netWith [] (now tails) (now heads) [] [] [] in
+        ⌜ SmallEnds N × (length (now preds) ≡ 64) × (length (now out) ≡ 64) × Returns N (now preds) x ⌝ }
+    ensures { λ r. let N = netWith [] (now (tails .entry)) (now (heads .entry)) [] [] [] in
+        ⌜ Collects N (now (preds .entry)) x (now (out .entry)) (now (out .exit)) r ⌝ }
 {
     let mut w = x;
     let mut len = 0;
@@ -55,7 +58,7 @@ fn clear(labels: &mut [i64])
     }
 }
 
-// A residual cycle of negative cost with room for `need` more on each arc (for 1, any such cycle): its codes, the last first, and how many;
+// A residual cycle of negative cost with capacity for `need` more on each arc (for 1, any such cycle): its codes, the last first, and how many;
 // or 0, and labels that show that there is none.
 pub fn find_cycle(
     tails: &[u8],
@@ -68,8 +71,10 @@ pub fn find_cycle(
     labels: &mut [i64],
     out: &mut [usize],
 ) -> usize
-    requires { ⌜ Relaxable (costGraph (now tails) (now heads) (now lows) (now ups) (now costs)) (now flow) × (0 < need) × (need ≤ 1000000) × (length (now labels) ≡ 64) × (length (now out) ≡ 64) ⌝ }
-    ensures { λ r. ⌜ Searched (costGraph (now (tails .entry)) (now (heads .entry)) (now (lows .entry)) (now (ups .entry)) (now (costs .entry))) (now (flow .entry)) need (now (labels .exit)) (now (out .entry)) (now (out .exit)) r ⌝ }
+    requires { let N = netWith [] (now tails) (now heads) (now lows) (now ups) (now costs) in
+        ⌜ Relaxable N (now flow) × (0 < need) × (need ≤ 1000000) × (length (now labels) ≡ 64) × (length (now out) ≡ 64) ⌝ }
+    ensures { λ r. let N = netWith [] (now (tails .entry)) (now (heads .entry)) (now (lows .entry)) (now (ups .entry)) (now (costs .entry)) in
+        ⌜ FindsCycle N (now (flow .entry)) need (now (labels .exit)) (now (out .entry)) (now (out .exit)) r ⌝ }
 {
     clear(labels);
     let mut preds = [65535u16; 64];

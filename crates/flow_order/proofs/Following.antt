@@ -6,16 +6,17 @@ use Prim.Native.Nat.{ℕ, _-_, _≤_, _<_}
 use native.Mathlib.Omega.{arith}
 use lib.IntN.{ℤ}
 use Rattle.net_model.specs.Network.{Net, arcs}
-use Rattle.net_theory.specs.Order.{TopFrom, next-is, next-none}
-use Rattle.flow_arc.specs.Tight.{Tight}
+use Rattle.net_theory.specs.Order.{TopFrom}
+use Rattle.net_theory.proofs.Order.{next-is, next-none}
+use Rattle.flow_arc.specs.FreeMarks.{FreeMarks}
 use Rattle.flow_arc.specs.Changes.{RaisedByOne}
-use Rattle.flow_arc.proofs.Certified.{tight-any}
+use Rattle.flow_arc.proofs.Certified.{free-any}
 use Rattle.flow_arc.proofs.Lowering.{agree-trans}
 use Rattle.flow_order.specs.Minimising.{Minimised}
 use Rattle.flow_order.specs.Following.{Next}
 use Rattle.flow_order.proofs.Minimising.{agree-fewer}
 
-module _ (N : Net) (π : ℕ → ℤ) (tight : List Bool) (f : List ℕ) (ti : Tight N π tight f) where
+module _ (N : Net) (π : ℕ → ℤ) (free : List Bool) (f : List ℕ) (ti : FreeMarks N π free f) where
   pub next-no : (f′ : List ℕ) → TopFrom N 0 f → Next N f f′ false
   next-no f′ top = record {
     follows = λ e. absurd (let z : _≡_ {A = ℕ} 0 1 = cc in omega arith);
@@ -24,9 +25,9 @@ module _ (N : Net) (π : ℕ → ℤ) (tight : List Bool) (f : List ℕ) (ti : T
   }
 
   -- arc k - 1 is raised, and those from k on are as low as they can be
-  pub next-yes : (g f′ : List ℕ) (k : ℕ) → 0 < k → k ≤ arcs N → TopFrom N k f → RaisedByOne N f g (k - 1) → (Tight N π tight g → Minimised N g f′ k) → Next N f f′ true
+  pub next-yes : (g f′ : List ℕ) (k : ℕ) → 0 < k → k ≤ arcs N → TopFrom N k f → RaisedByOne N f g (k - 1) → (FreeMarks N π free g → Minimised N g f′ k) → Next N f f′ true
   next-yes g f′ k some in-k top u low =
-      let m = low (tight-any N π tight f g ti (u .least)) in
+      let m = low (free-any N π free f g ti (u .least)) in
       record {
         follows = λ _. next-is N (ti .well-formed) f f′ (k - 1) (ti .least)
             (record { in-range = omega arith; least-cost = m .least; same-before = agree-trans (k - 1) f g f′ (u .same) (agree-fewer (k - 1) k g f′ (omega arith) (m .same)); one-more = sym (m .same (k - 1) (omega arith)) ∙ u .one-more })

@@ -5,7 +5,7 @@ use Prim.Native.Nat.{ℕ, suc, _≤_, _<_}
 use native.Mathlib.Omega.{arith}
 use native.Mathlib.Decide.{decLt}
 use Rattle.net_model.specs.Network.{Net, arcs, LeastCost}
-use Rattle.net_theory.specs.Cuts.{Agree, NoLess}
+use Rattle.net_theory.specs.Order.{Agree, NoLess}
 use Rattle.flow_arc.specs.Changes.{Lowered}
 use Rattle.flow_arc.proofs.Lowering.{agree-trans}
 use Rattle.flow_order.specs.Minimising.{Minimised}

@@ -14,7 +14,7 @@ pub record Next (N : Net) (f f′ : List ℕ) (r : Bool) : Type 0 where
   pub least : r ≡ true → LeastCost N f′
   pub end : r ≡ false → nextFlow N f ≡ none
 
--- r is the count up to the cap, and f the flow that was met last: line r of the full list, counted from 1
-pub record Counts (N : Net) (cap r : ℕ) (f : List ℕ) : Type 0 where
+-- r is the count up to the cap, and f the flow that was met last: item r of the full list, counted from 1
+pub record CountsFlows (N : Net) (cap r : ℕ) (f : List ℕ) : Type 0 where
   pub counts : counted cap r ≡ countFlows N cap
   pub last : getElem? (fullList N) (r - 1) ≡ some f

@@ -1,3 +1,2 @@
-mod Codes
 mod Reaching
 mod Tracing

@@ -1,13 +1,14 @@
 // Searches in the residual network, and the paths that they find.
 // A residual arc is a code: 2a is arc a forward, 2a + 1 is arc a backward.
 ghost use mathlib.Core.Path.{_≡_};
-ghost use Prim.Native.Nat.{ℕ, _+_, _≤_, _<_};
-ghost use lib.ListN.{length, getD, take, drop};
-ghost use Rattle.net_model.specs.Residual.{src, dst};
-ghost use Rattle.net_theory.specs.Reach.{Spread, Falls, TracedAny};
-ghost use Rattle.net_theory.specs.Graph.{graph};
+ghost use mathlib.Core.List.{[]};
+ghost use Prim.Native.Nat.{_≤_, _<_};
+ghost use lib.ListN.{length};
+ghost use Rattle.net_model.specs.Network.{arcs};
+ghost use Rattle.net_theory.specs.Reach.{Spread};
+ghost use Rattle.net_theory.specs.Graph.{netWith};
 ghost use Rattle.net_theory.specs.Ready.{Searchable};
-ghost use Rattle.flow_path.specs.Reaching.{TreeOf, SpreadArc, RoundedOf, ReachedOf, Detoured};
+ghost use Rattle.flow_path.specs.Reaching.{NoneReached, SearchTree, SpreadArc, Round, Reach, Traceable, Trace, FindsWalk};
 
 // Whether a path was found: how many codes it has, or that there is none.
 pub enum Route {
@@ -58,8 +59,10 @@ fn spread_arc(
     count: usize,
     a: usize,
 ) -> usize
-    requires { ⌜ Searchable (length (now rank)) (graph (now tails) (now heads) (now lows) (now ups)) (now flow) (now free) × (length (now via) ≡ length (now rank)) × (count ≤ 64) × (a < length (now tails)) ⌝ }
-    ensures { λ r. ⌜ SpreadArc (graph (now (tails .entry)) (now (heads .entry)) (now (lows .entry)) (now (ups .entry))) (now (flow .entry)) (now (free .entry)) a (now (rank .entry)) (now (via .entry)) count (now (rank .exit)) (now (via .exit)) r ⌝ }
+    requires { let N = netWith [] (now tails) (now heads) (now lows) (now ups) [] in
+        ⌜ Searchable N (now flow) (now free) × (length (now rank) ≡ 64) × (length (now via) ≡ 64) × (count ≤ 64) × (a < arcs N) ⌝ }
+    ensures { λ r. let N = netWith [] (now (tails .entry)) (now (heads .entry)) (now (lows .entry)) (now (ups .entry)) [] in
+        ⌜ SpreadArc N (now (flow .entry)) (now (free .entry)) a (now (rank .entry)) (now (via .entry)) count (now (rank .exit)) (now (via .exit)) r ⌝ }
 {
     if !free[a] {
         return count;
@@ -88,8 +91,10 @@ fn round(
     via: &mut [usize],
     count: usize,
 ) -> usize
-    requires { ⌜ Searchable (length (now rank)) (graph (now tails) (now heads) (now lows) (now ups)) (now flow) (now free) × (t < length (now rank)) × TreeOf (length (now rank)) (graph (now tails) (now heads) (now lows) (now ups)) (now flow) (now free) s from (now rank) (now via) count ⌝ }
-    ensures { λ r. ⌜ RoundedOf (length (now (rank .entry))) (graph (now (tails .entry)) (now (heads .entry)) (now (lows .entry)) (now (ups .entry))) (now (flow .entry)) (now (free .entry)) s from t count (now (rank .exit)) (now (via .exit)) r ⌝ }
+    requires { let N = netWith [] (now tails) (now heads) (now lows) (now ups) [] in
+        ⌜ Searchable N (now flow) (now free) × (t < 64) × SearchTree N (now flow) (now free) s from (now rank) (now via) count ⌝ }
+    ensures { λ r. let N = netWith [] (now (tails .entry)) (now (heads .entry)) (now (lows .entry)) (now (ups .entry)) [] in
+        ⌜ Round N (now (flow .entry)) (now (free .entry)) s t from count (now (rank .exit)) (now (via .exit)) r ⌝ }
 {
     let mut n = count;
     let mut a = from;
@@ -104,18 +109,7 @@ fn round(
     n
 }
 
-// 0 at every node.
-fn clear(rank: &mut [usize])
-    ensures { λ _. ⌜ ((v : ℕ) → v < length (now (rank .exit)) → getD (now (rank .exit)) v 0 ≡ 0) ⌝ }
-{
-    let mut i = 0;
-    while i < rank.len() {
-        rank[i] = 0;
-        i += 1;
-    }
-}
-
-// The nodes reached from s over the free arcs from `from` on, until t is among them or there are no more. How many.
+// The nodes reached from s over the free arcs from `from` on, until t is among them or there are no more. How many. No node has a rank before.
 // rank is 0 at a node that is not reached, 1 at s, and grows in the order of reaching; via has the code that led to a node.
 fn reach(
     tails: &[u8],
@@ -130,10 +124,11 @@ fn reach(
     rank: &mut [usize],
     via: &mut [usize],
 ) -> usize
-    requires { ⌜ Searchable (length (now rank)) (graph (now tails) (now heads) (now lows) (now ups)) (now flow) (now free) × (from ≤ 512) × (s < length (now rank)) × (t < length (now rank)) × (length (now via) ≡ length (now rank)) ⌝ }
-    ensures { λ r. ⌜ ReachedOf (length (now (rank .entry))) (graph (now (tails .entry)) (now (heads .entry)) (now (lows .entry)) (now (ups .entry))) (now (flow .entry)) (now (free .entry)) s from t (now (rank .exit)) (now (via .exit)) r ⌝ }
+    requires { let N = netWith [] (now tails) (now heads) (now lows) (now ups) [] in
+        ⌜ Searchable N (now flow) (now free) × (s < 64) × (t < 64) × NoneReached (now rank) × (length (now via) ≡ 64) ⌝ }
+    ensures { λ r. let N = netWith [] (now (tails .entry)) (now (heads .entry)) (now (lows .entry)) (now (ups .entry)) [] in
+        ⌜ Reach N (now (flow .entry)) (now (free .entry)) s t from (now (rank .exit)) (now (via .exit)) r ⌝ }
 {
-    clear(rank);
     rank[s] = 1;
     let mut count = 1;
     loop {
@@ -171,8 +166,10 @@ fn trace(
     t: usize,
     codes: &mut [usize],
 ) -> usize
-    requires { ⌜ (length (now heads) ≡ length (now tails)) × (t < length (now rank)) × (0 < getD (now rank) t 0) × (length (now rank) ≤ length (now codes)) × Falls (length (now rank)) (length (now tails) + length (now tails)) (src (graph (now tails) (now heads) (now tails) (now tails))) (now rank) (now via) ⌝ }
-    ensures { λ r. ⌜ (r ≤ length (now (codes .exit))) × TracedAny (length (now (rank .entry))) (length (now (tails .entry)) + length (now (tails .entry))) (src (graph (now (tails .entry)) (now (heads .entry)) (now (tails .entry)) (now (tails .entry)))) (dst (graph (now (tails .entry)) (now (heads .entry)) (now (tails .entry)) (now (tails .entry)))) (now (rank .entry)) (now (via .entry)) t (λ s. s) (take r (now (codes .exit))) × (drop r (now (codes .exit)) ≡ drop r (now (codes .entry))) ⌝ }
+    requires { let N = netWith [] (now tails) (now heads) [] [] [] in
+        ⌜ Traceable N (now rank) (now via) t × (length (now codes) ≡ 64) ⌝ }
+    ensures { λ r. let N = netWith [] (now (tails .entry)) (now (heads .entry)) [] [] [] in
+        ⌜ Trace N (now (rank .entry)) (now (via .entry)) t (now (codes .entry)) (now (codes .exit)) r ⌝ }
 {
     let mut v = t;
     let mut len = 0;
@@ -188,7 +185,7 @@ fn trace(
 }
 
 // A path from s to t over the free arcs from `from` on, the last code first.
-pub fn detour(
+pub fn find_walk(
     tails: &[u8],
     heads: &[u8],
     lows: &[u32],
@@ -200,8 +197,10 @@ pub fn detour(
     from: usize,
     codes: &mut [usize],
 ) -> Route
-    requires { ⌜ Searchable 64 (graph (now tails) (now heads) (now lows) (now ups)) (now flow) (now free) × (from ≤ 512) × (s < 64) × (t < 64) × (length (now codes) ≡ 64) ⌝ }
-    ensures { λ r. ⌜ Detoured (graph (now (tails .entry)) (now (heads .entry)) (now (lows .entry)) (now (ups .entry))) (now (flow .entry)) (now (free .entry)) s t from (now (codes .entry)) (now (codes .exit)) r ⌝ }
+    requires { let N = netWith [] (now tails) (now heads) (now lows) (now ups) [] in
+        ⌜ Searchable N (now flow) (now free) × (s < 64) × (t < 64) × (length (now codes) ≡ 64) ⌝ }
+    ensures { λ r. let N = netWith [] (now (tails .entry)) (now (heads .entry)) (now (lows .entry)) (now (ups .entry)) [] in
+        ⌜ FindsWalk N (now (flow .entry)) (now (free .entry)) s t from (now (codes .entry)) (now (codes .exit)) r ⌝ }
 {
     let mut rank = [0usize; 64];
     let mut via = [0usize; 64];

@@ -14,7 +14,7 @@ use borrow.Author.Tests.{eq-eqb, eqb-true}
 use Rattle.laws.specs.Padded.{set-more}
 use Rattle.laws.specs.Tests.{and-true, true-and, or-cases, or-left, or-right}
 use Rattle.flow_preorder.specs.NodeSet.{has}
-use Rattle.flow_preorder.specs.Preorder.{leads, Preorder, Alone, Joined, JoinedRows, Extended}
+use Rattle.flow_preorder.specs.Preorder.{leads, Preorder, Alone, JoinedSet, JoinedRows, Extended}
 use Rattle.flow_preorder.proofs.NodeSet.{union-has, joined-yes, joined-no, none-has}
 
 -- rows come to an end
@@ -55,17 +55,17 @@ module _ (rows : List ℕ) (l : length rows ≡ 65) (h : (u : ℕ) → u < 64 �
 pub joined-start : (rows : List ℕ) (t p : ℕ) → JoinedRows rows rows t p 0
 joined-start rows t p = record { same-len = refl; done = λ v h. absurd (omega arith); rest = λ v h. refl }
 
-pub joined-step : (rows rows′ : List ℕ) (t p u r : ℕ) → u < length rows → JoinedRows rows rows′ t p u → Joined (getD rows′ u 0) t p r → JoinedRows rows (set rows′ u r) t p (u + 1)
+pub joined-step : (rows rows′ : List ℕ) (t p u r : ℕ) → u < length rows → JoinedRows rows rows′ t p u → JoinedSet (getD rows′ u 0) t p r → JoinedRows rows (set rows′ u r) t p (u + 1)
 joined-step rows rows′ t p u r h j e = record {
   same-len = length-set rows′ u r ∙ j .same-len;
-  done = set-more (λ v x. Joined (getD rows v 0) t p x) rows′ u r 0 (omega (arith, j .same-len)) (j .done) (subst (λ (s : ℕ). Joined s t p r) (j .rest u (omega arith)) e);
+  done = set-more (λ v x. JoinedSet (getD rows v 0) t p x) rows′ u r 0 (omega (arith, j .same-len)) (j .done) (subst (λ (s : ℕ). JoinedSet s t p r) (j .rest u (omega arith)) e);
   rest = λ v k. getD-set-other rows′ u v r 0 (λ q. omega arith) ∙ j .rest v (omega arith);
 }
 
 -- each row that has p gets what q leads to, and so does row 64
 pub record Stepped (rows rows′ : List ℕ) (p q : ℕ) : Type 0 where
   pub same-len : length rows′ ≡ length rows
-  pub done : (v : ℕ) → v < 64 → Joined (getD rows v 0) (getD rows q 0) p (getD rows′ v 0)
+  pub done : (v : ℕ) → v < 64 → JoinedSet (getD rows v 0) (getD rows q 0) p (getD rows′ v 0)
   pub last : (w : ℕ) → leads rows′ 64 w ≡ (leads rows 64 w || leads rows q w)
 
 module _ (rows : List ℕ) (p q : ℕ) (pre : Preorder rows) (hp : p < 64) (hq : q < 64) where
@@ -77,15 +77,15 @@ module _ (rows : List ℕ) (p q : ℕ) (pre : Preorder rows) (hp : p < 64) (hq :
   pub stepped-one : leads rows 64 p ≡ false → Stepped rows (set (set rows p (bitOr (getD rows p 0) (getD rows q 0))) 64 (bitOr (getD rows 64 0) (getD rows q 0))) p q
   stepped-one e = record {
     same-len = length-set (set rows p (bitOr (getD rows p 0) (getD rows q 0))) 64 (bitOr (getD rows 64 0) (getD rows q 0)) ∙ length-set rows p (bitOr (getD rows p 0) (getD rows q 0));
-    done = λ v h. subst (λ (r : ℕ). Joined (getD rows v 0) (getD rows q 0) p r) (sym (getD-set-other (set rows p (bitOr (getD rows p 0) (getD rows q 0))) 64 v _ 0 (λ n. omega arith))) (go v (ℕ-discrete v p) _ refl);
+    done = λ v h. subst (λ (r : ℕ). JoinedSet (getD rows v 0) (getD rows q 0) p r) (sym (getD-set-other (set rows p (bitOr (getD rows p 0) (getD rows q 0))) 64 v _ 0 (λ n. omega arith))) (go v (ℕ-discrete v p) _ refl);
     last = λ w. ap (λ r. has r w) (getD-set-same (set rows p (bitOr (getD rows p 0) (getD rows q 0))) 64 _ 0 (omega (arith, pre .rows-len, length-set rows p (bitOr (getD rows p 0) (getD rows q 0))))) ∙ union-has (getD rows 64 0) (getD rows q 0) w;
   }
     where
-      go : (v : ℕ) → Dec (v ≡ p) → (b : Bool) → leads rows v p ≡ b → Joined (getD rows v 0) (getD rows q 0) p (getD (set rows p (bitOr (getD rows p 0) (getD rows q 0))) v 0)
-      go v (yes d) b _ = subst (λ (i : ℕ). Joined (getD rows i 0) (getD rows q 0) p (getD (set rows p (bitOr (getD rows p 0) (getD rows q 0))) i 0)) (sym d)
-          (subst (λ (r : ℕ). Joined (getD rows p 0) (getD rows q 0) p r) (sym (getD-set-same rows p _ 0 (omega (arith, pre .rows-len)))) (λ w. joined-yes (getD rows p 0) (getD rows q 0) p w (pre .reflexive p hp)))
+      go : (v : ℕ) → Dec (v ≡ p) → (b : Bool) → leads rows v p ≡ b → JoinedSet (getD rows v 0) (getD rows q 0) p (getD (set rows p (bitOr (getD rows p 0) (getD rows q 0))) v 0)
+      go v (yes d) b _ = subst (λ (i : ℕ). JoinedSet (getD rows i 0) (getD rows q 0) p (getD (set rows p (bitOr (getD rows p 0) (getD rows q 0))) i 0)) (sym d)
+          (subst (λ (r : ℕ). JoinedSet (getD rows p 0) (getD rows q 0) p r) (sym (getD-set-same rows p _ 0 (omega (arith, pre .rows-len)))) (λ w. joined-yes (getD rows p 0) (getD rows q 0) p w (pre .reflexive p hp)))
       go v (no d) true t = absurd (⊎-elim (λ s. d s) (λ s. true≢false (sym s ∙ e)) (pre .met v p t))
-      go v (no d) false n = subst (λ (r : ℕ). Joined (getD rows v 0) (getD rows q 0) p r) (sym (getD-set-other rows p v _ 0 d)) (λ w. joined-no (getD rows v 0) (getD rows q 0) p w n)
+      go v (no d) false n = subst (λ (r : ℕ). JoinedSet (getD rows v 0) (getD rows q 0) p r) (sym (getD-set-other rows p v _ 0 d)) (λ w. joined-no (getD rows v 0) (getD rows q 0) p w n)
 
   module _ (rows′ : List ℕ) (j : Stepped rows rows′ p q) where
     -- what rows′ has

@@ -24,13 +24,13 @@ pub record Alone (rows : List ℕ) : Type 0 where
   pub itself : (u v : ℕ) → leads rows u v ≡ true → u ≡ v
 
 -- r is s, with all of t if p is in s
-abbrev pub Joined : ℕ → ℕ → ℕ → ℕ → Type 0
-Joined s t p r = (w : ℕ) → has r w ≡ (has s w || (has s p && has t w))
+abbrev pub JoinedSet : ℕ → ℕ → ℕ → ℕ → Type 0
+JoinedSet s t p r = (w : ℕ) → has r w ≡ (has s w || (has s p && has t w))
 
 -- so each of the first u rows; the others are the same
 pub record JoinedRows (rows rows′ : List ℕ) (t p u : ℕ) : Type 0 where
   pub same-len : length rows′ ≡ length rows
-  pub done : (v : ℕ) → v < u → Joined (getD rows v 0) t p (getD rows′ v 0)
+  pub done : (v : ℕ) → v < u → JoinedSet (getD rows v 0) t p (getD rows′ v 0)
   pub rest : (v : ℕ) → u ≤ v → getD rows′ v 0 ≡ getD rows v 0
 
 -- rows′ has what rows has, and the step from p to q if `on`, and what follows from it

@@ -6,7 +6,7 @@ ghost use Prim.Native.Nat.{ℕ, _<_};
 ghost use lib.Dec.{eqb};
 ghost use lib.ListN.{length};
 ghost use Rattle.flow_preorder.specs.NodeSet.{has};
-ghost use Rattle.flow_preorder.specs.Preorder.{Preorder, Alone, Joined, JoinedRows, Extended};
+ghost use Rattle.flow_preorder.specs.Preorder.{Preorder, Alone, JoinedSet, JoinedRows, Extended};
 
 // Whether v is in s.
 pub fn has(s: u64, v: usize) -> bool
@@ -27,7 +27,7 @@ fn only(v: usize) -> u64
 // s, with all of t if p is in s.
 fn joined(s: u64, t: u64, p: usize) -> u64
     requires { ⌜ p < 64 ⌝ }
-    ensures { λ r. ⌜ Joined s t p r ⌝ }
+    ensures { λ r. ⌜ JoinedSet s t p r ⌝ }
 {
     if has(s, p) {
         return s | t;

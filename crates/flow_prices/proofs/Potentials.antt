@@ -11,31 +11,31 @@ use Rattle.laws.specs.Range.{Bounded, bounded-add, bounded-more, bounded-zero, 
 use Rattle.net_model.specs.Network.{Net}
 use Rattle.net_model.specs.Residual.{src, dst, stepCost, Walk, walkCost}
 use Rattle.net_model.specs.Potential.{FeasiblePotential}
-use Rattle.net_theory.specs.Room.{roomy}
+use Rattle.net_theory.specs.ResidualCapacity.{hasCapacity}
+use Rattle.net_theory.proofs.Codes.{src-in, dst-in}
+use Rattle.net_theory.proofs.ResidualCapacity.{hasCapacity-usable, hasCapacity-walk, walk-hasCapacity}
 use Rattle.flow_relax.specs.Labels.{Relaxable}
-use Rattle.flow_relax.proofs.Codes.{src-in, dst-in, step-small}
-use Rattle.flow_relax.proofs.Trips.{roomy-usable, trip-walk}
-use Rattle.flow_prices.specs.Prices.{PriceLabels}
+use Rattle.flow_relax.proofs.StepCosts.{step-small}
+use Rattle.flow_prices.specs.Prices.{Prices}
 use Rattle.flow_prices.proofs.Shorten.{shorten}
-use Rattle.flow_prices.proofs.Pricing.{walk-trip}
 
-module _ (N : Net) (f : List ℕ) (ok : Relaxable N f) (d : List ℤ) (P : PriceLabels N f d) where
+module _ (N : Net) (f : List ℕ) (ok : Relaxable N f) (d : List ℤ) (P : Prices N f d) where
   -- a walk to where a residual arc starts, and that arc, lead to where it ends
-  labels-feasible : FeasiblePotential N (roomy N f 1) (λ v. getD d v (pos 0))
+  labels-feasible : FeasiblePotential N (hasCapacity N f 1) (λ v. getD d v (pos 0))
   labels-feasible c k r =
-      let (u, cs, w, e) = P .walked (src N c) (src-in N (ok .graph) c k) in
-      given2 (P .least u (dst N c) (c ∷ cs) (dst-in N (ok .graph) c k) (k, roomy-usable N f 1 c (omega arith) r, refl, w)) e (simp lin (omega arith))
+      let (u, cs, w, e) = P .walked (src N c) (src-in N (ok .ends) c k) in
+      given2 (P .least u (dst N c) (c ∷ cs) (dst-in N (ok .ends) c k) (k, hasCapacity-usable N f 1 c (omega arith) r, refl, w)) e (simp lin (omega arith))
 
   walk-small : (u v : ℕ) (cs : List ℕ) → Walk N f u v cs → Bounded (1000000 * length cs) (walkCost N cs)
   walk-small u v [] w = bounded-more (omega arith) bounded-zero
-  walk-small u v (c ∷ cs) w = bounded-more (omega arith) (bounded-add {A = 1000000} {B = 1000000 * length cs} {x = stepCost N c} {y = walkCost N cs} (step-small N f ok c (w .0)) (walk-small u (src N c) cs (w .3)))
+  walk-small u v (c ∷ cs) w = bounded-more (omega arith) (bounded-add {A = 1000000} {B = 1000000 * length cs} {x = stepCost N c} {y = walkCost N cs} (step-small N (ok .costs) c (w .0)) (walk-small u (src N c) cs (w .3)))
 
   -- a least walk need not have 64 arcs
   pub labels-small : (v : ℕ) → v < 64 → Bounded 64000000 (getD d v (pos 0))
   labels-small v h =
       let (u, cs, w, e) = P .walked v h in
-      let s = shorten N f 1 (ok .graph) (λ v. getD d v (pos 0)) labels-feasible u v cs h (walk-trip N f u v cs w) in
-      let x = trip-walk N f 1 (omega arith) u v (s .walk) (s .leads) in
+      let s = shorten N f 1 (ok .ends) (λ v. getD d v (pos 0)) labels-feasible u v cs h (walk-hasCapacity N f u v cs w) in
+      let x = hasCapacity-walk N f 1 (omega arith) u v (s .walk) (s .leads) in
       same (getD d v (pos 0)) (walkCost N (s .walk)) (walkCost N cs) e (s .costs) (P .least u v (s .walk) h x)
       (bounded-more (omega (arith, s .few)) (walk-small u v (s .walk) x))
     where

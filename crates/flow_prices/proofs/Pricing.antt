@@ -2,7 +2,7 @@
 use mathlib.Core.Path.{_≡_, refl, sym, subst, _∙_}
 use mathlib.Core.Bool.{Bool, true, false, cond}
 use mathlib.Core.List.{List, [], _∷_}
-use Prim.Native.Nat.{ℕ, zero, suc, _+_, _*_, _/_, _≤_, _<_}
+use Prim.Native.Nat.{ℕ, zero, suc, _+_, _*_, _≤_, _<_}
 use native.Mathlib.Omega.{arith}
 use native.Mathlib.Numerals.{add-one}
 use lib.ListN.{length, getD, set}
@@ -12,27 +12,22 @@ use Rattle.laws.specs.Linear.{lin, given, given2}
 use Rattle.laws.specs.Tests.{and-true}
 use Rattle.laws.specs.Store.{set-cases}
 use Rattle.net_model.specs.Network.{Net, WellFormed, nodes}
-use Rattle.net_model.specs.Residual.{codes, src, dst, Walk, walkCost, Price}
-use Rattle.net_theory.specs.Codes.{either-is}
-use Rattle.net_theory.specs.Graph.{netWith, costGraph}
-use Rattle.net_theory.specs.Room.{roomy}
+use Rattle.net_model.specs.Residual.{codes, src, dst, Walk, walkCost, Price, CodeWalk}
+use Rattle.net_theory.specs.Graph.{costed}
+use Rattle.net_theory.specs.ResidualCapacity.{hasCapacity}
+use Rattle.net_theory.proofs.Codes.{src-below, src-in, dst-in}
+use Rattle.net_theory.proofs.ResidualCapacity.{hasCapacity-walk, walk-hasCapacity}
 use Rattle.flow_relax.specs.Labels.{Relaxable, State, state, label, offer, better, relaxed, relaxedAll, Sized}
-use Rattle.flow_relax.specs.Potentials.{Settled}
+use Rattle.flow_relax.specs.Potentials.{HasPotential}
 use Rattle.flow_relax.proofs.Balances.{walk-whole, walk-bare, cost-whole}
-use Rattle.flow_relax.proofs.Codes.{src-in, dst-in}
-use Rattle.flow_relax.proofs.Trips.{usable-roomy, Trip, trip-walk}
 use Rattle.flow_relax.proofs.Rises.{rise}
-use Rattle.flow_relax.proofs.Rounds.{AtMost, all-length, zeros-at-most, zeros-sized, left-at-most, left-sized, left-quiet}
-use Rattle.flow_prices.specs.Prices.{PriceLabels}
+use Rattle.flow_relax.proofs.Rounds.{AtMost, all-length, zeros-at-most, zeros-sized, left-at-most, left-sized, left-unchanged}
+use Rattle.flow_prices.specs.Prices.{Prices}
 use Rattle.flow_prices.proofs.Shorten.{shorten}
-
-pub walk-trip : (N : Net) (f : List ℕ) (u v : ℕ) (cs : List ℕ) → Walk N f u v cs → Trip N f 1 u v cs
-walk-trip N f u v [] w = w
-walk-trip N f u v (c ∷ cs) (a, b, e, w) = (a, usable-roomy N f c b, e, walk-trip N f u (src N c) cs w)
 
 -- each label is the cost of a walk
 abbrev Walked : Net → List ℕ → List ℤ → Type 0
-Walked N f d = (v : ℕ) → v < 64 → (u : ℕ) × (cs : List ℕ) × Trip N f 1 u v cs × (walkCost N cs ≡ getD d v (pos 0))
+Walked N f d = (v : ℕ) → v < 64 → (u : ℕ) × (cs : List ℕ) × CodeWalk N (hasCapacity N f 1) u v cs × (walkCost N cs ≡ getD d v (pos 0))
 
 pub record Pricing (N : Net) (f : List ℕ) (d : List ℤ) (p : List ℕ) (k : ℕ) : Type 0 where
   pub upto : k ≤ 64
@@ -44,14 +39,14 @@ module _ (N : Net) (f : List ℕ) (ok : Relaxable N f) where
   one-walked : (s : State) (c : ℕ) → c < codes N → length (s .labels) ≡ 64 → Walked N f (s .labels) → Walked N f (relaxed N f 1 c s .labels)
   one-walked s c h len w = go (better N f 1 c s) refl
     where
-      offered : roomy N f 1 c ≡ true → (u : ℕ) × (cs : List ℕ) × Trip N f 1 u (src N c) cs × (walkCost N cs ≡ label s (src N c))
-          → (u : ℕ) × (cs : List ℕ) × Trip N f 1 u (dst N c) cs × (walkCost N cs ≡ offer N c s)
+      offered : hasCapacity N f 1 c ≡ true → (u : ℕ) × (cs : List ℕ) × CodeWalk N (hasCapacity N f 1) u (src N c) cs × (walkCost N cs ≡ label s (src N c))
+          → (u : ℕ) × (cs : List ℕ) × CodeWalk N (hasCapacity N f 1) u (dst N c) cs × (walkCost N cs ≡ offer N c s)
       offered r (u, cs, t, e) = (u, c ∷ cs, (h, r, refl, t), given e (simp lin (omega arith)))
 
       go : (t : Bool) → better N f 1 c s ≡ t → Walked N f (cond t (set (s .labels) (dst N c) (offer N c s)) (s .labels))
       go true e =
-          set-cases (λ j z. j < 64 → (u : ℕ) × (cs : List ℕ) × Trip N f 1 u j cs × (walkCost N cs ≡ z)) (s .labels) (dst N c) (offer N c s) (pos 0) (omega (arith, dst-in N (ok .graph) c h))
-          (λ _. offered (and-true (roomy N f 1 c) _ e .0) (w (src N c) (src-in N (ok .graph) c h))) (λ j q l. w j l)
+          set-cases (λ j z. j < 64 → (u : ℕ) × (cs : List ℕ) × CodeWalk N (hasCapacity N f 1) u j cs × (walkCost N cs ≡ z)) (s .labels) (dst N c) (offer N c s) (pos 0) (omega (arith, dst-in N (ok .ends) c h))
+          (λ _. offered (and-true (hasCapacity N f 1 c) _ e .0) (w (src N c) (src-in N (ok .ends) c h))) (λ j q l. w j l)
       go false e = w
 
   all-walked : (s : State) → length (s .labels) ≡ 64 → Walked N f (s .labels) → (r : ℕ) → r ≤ codes N → Walked N f (relaxedAll N f 1 r s .labels)
@@ -78,47 +73,40 @@ module _ (N : Net) (f : List ℕ) (ok : Relaxable N f) where
     })
 
     -- a round that changed nothing: no walk costs less
-    pub prices-quiet : last ≡ 64 → PriceLabels N f d′
-    prices-quiet q =
-        let (b, c) = left-quiet N f ok 1 d p (S .sized .labels-len) d′ p′ last e q in
-        subst (PriceLabels N f) (sym b) (record {
+    pub prices-unchanged : last ≡ 64 → Prices N f d′
+    prices-unchanged q =
+        let (b, c) = left-unchanged N f ok 1 d p (S .sized .labels-len) d′ p′ last e q in
+        subst (Prices N f) (sym b) (record {
           len = S .sized .labels-len;
-          walked = λ v h. (let (u, cs, t, e) = S .walked v h in (u, cs, trip-walk N f 1 (omega arith) u v cs t, e));
+          walked = λ v h. (let (u, cs, t, e) = S .walked v h in (u, cs, hasCapacity-walk N f 1 (omega arith) u v cs t, e));
           least = λ u v cs h w.
-              given2 (rise N f 1 (λ v. getD d v (pos 0)) c u v cs (walk-trip N f u v cs w)) (S .at-most u u [] (omega arith) refl) (simp lin (omega arith));
+              given2 (rise N f 1 (λ v. getD d v (pos 0)) c u v cs (walk-hasCapacity N f u v cs w)) (S .at-most u u [] (omega arith) refl) (simp lin (omega arith));
         })
 
   -- after 64 rounds no walk costs less, however long
-  pub prices-all : (d : List ℤ) (p : List ℕ) → Pricing N f d p 64 → Settled N f 1 → PriceLabels N f d
+  pub prices-all : (d : List ℤ) (p : List ℕ) → Pricing N f d p 64 → HasPotential N f 1 → Prices N f d
   prices-all d p S q = record {
     len = S .sized .labels-len;
-    walked = λ v h. (let (u, cs, t, e) = S .walked v h in (u, cs, trip-walk N f 1 (omega arith) u v cs t, e));
-    least = λ u v cs h w. (let r = shorten N f 1 (ok .graph) (q .potential) (q .feasible) u v cs h (walk-trip N f u v cs w) in
+    walked = λ v h. (let (u, cs, t, e) = S .walked v h in (u, cs, hasCapacity-walk N f 1 (omega arith) u v cs t, e));
+    least = λ u v cs h w. (let r = shorten N f 1 (ok .ends) (q .potential) (q .feasible) u v cs h (walk-hasCapacity N f u v cs w) in
         given2 (S .at-most u v (r .walk) (omega (arith, r .few)) (r .leads)) (r .costs) (simp lin (omega arith)));
   }
 
 -- the same of the network with its balances
-module _ (b : List ℤ) (t h l u : List ℕ) (c : List ℤ) (f : List ℕ) where
-  abbrev whole : Net
-  whole = netWith b t h l u c
-
+module _ (N : Net) (f : List ℕ) (ok : WellFormed N) where
   -- a walk to a node starts at a node
-  start-in : WellFormed whole → (x v : ℕ) (cs : List ℕ) → v < nodes whole → Walk whole f x v cs → x < nodes whole
-  start-in ok x v [] h w = rw w h
-  start-in ok x v (e ∷ cs) h w =
-      start-in ok x (src whole e) cs (either-is (λ y. y < nodes whole) e (getD t (e / 2) 0) (getD h′ (e / 2) 0) (ok .tail-in (e / 2) (omega (arith, w .0))) (ok .head-in (e / 2) (omega (arith, w .0)))) (w .3)
-    where
-      h′ : List ℕ
-      h′ = whole .heads
+  start-in : (x v : ℕ) (cs : List ℕ) → v < nodes N → Walk N f x v cs → x < nodes N
+  start-in x v [] h w = rw w h
+  start-in x v (e ∷ cs) h w = start-in x (src N e) cs (src-below (nodes N) N (ok .tail-in) (ok .head-in) e (w .0)) (w .3)
 
-  pub labels-price : WellFormed whole → nodes whole ≤ 64 → (d : List ℤ) → PriceLabels (costGraph t h l u c) f d → (v : ℕ) → v < nodes whole → Price whole f v (getD d v (pos 0))
-  labels-price ok few d P v k =
+  pub labels-price : nodes N ≤ 64 → (d : List ℤ) → Prices (costed N) f d → (v : ℕ) → v < nodes N → Price N f v (getD d v (pos 0))
+  labels-price few d P v k =
       let (x, cs, w, e) = P .walked v (omega arith) in
       record {
         from = x;
         walk = cs;
-        starts = start-in ok x v cs k (walk-whole b t h l u c f x v cs w);
-        leads = walk-whole b t h l u c f x v cs w;
-        costs = sym (cost-whole b t h l u c f cs) ∙ e;
-        least = λ y es _ w′. subst (λ z. getD d v (pos 0) ≤ℤ z) (cost-whole b t h l u c f es) (P .least y v es (omega arith) (walk-bare b t h l u c f y v es w′));
+        starts = start-in x v cs k (walk-whole N f x v cs w);
+        leads = walk-whole N f x v cs w;
+        costs = sym (cost-whole N cs) ∙ e;
+        least = λ y es _ w′. subst (λ z. getD d v (pos 0) ≤ℤ z) (cost-whole N es) (P .least y v es (omega arith) (walk-bare N f y v es w′));
       }

@@ -1,8 +1,9 @@
 // The price search: labels corrected in at most 64 rounds over the arcs, until they are the prices.
-ghost use Rattle.net_theory.specs.Graph.{costGraph};
+ghost use mathlib.Core.List.{[]};
+ghost use Rattle.net_theory.specs.Graph.{netWith};
 ghost use Rattle.flow_relax.specs.Labels.{Relaxable};
-ghost use Rattle.flow_relax.specs.Potentials.{Settled};
-ghost use Rattle.flow_prices.specs.Prices.{PriceLabels};
+ghost use Rattle.flow_relax.specs.Potentials.{HasPotential};
+ghost use Rattle.flow_prices.specs.Prices.{Prices};
 
 // The price of each node, for a flow without a negative cycle: the least cost of a residual walk that ends there.
 pub fn prices(
@@ -13,8 +14,9 @@ pub fn prices(
     costs: &[i32],
     flow: &[u32],
 ) -> [i64; 64]
-    requires { ⌜ Relaxable (costGraph (now tails) (now heads) (now lows) (now ups) (now costs)) (now flow) × Settled (costGraph (now tails) (now heads) (now lows) (now ups) (now costs)) (now flow) 1 ⌝ }
-    ensures { λ r. ⌜ PriceLabels (costGraph (now (tails .entry)) (now (heads .entry)) (now (lows .entry)) (now (ups .entry)) (now (costs .entry))) (now (flow .entry)) r ⌝ }
+    requires { let N = netWith [] (now tails) (now heads) (now lows) (now ups) (now costs) in ⌜ Relaxable N (now flow) × HasPotential N (now flow) 1 ⌝ }
+    ensures { λ r. let N = netWith [] (now (tails .entry)) (now (heads .entry)) (now (lows .entry)) (now (ups .entry)) (now (costs .entry)) in
+        ⌜ Prices N (now (flow .entry)) r ⌝ }
 {
     let mut least = [0i64; 64];
     let mut preds = [65535u16; 64];

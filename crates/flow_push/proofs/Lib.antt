@@ -1,5 +1,5 @@
 mod Codes
 mod Prefix
-pub mod LeastRoom
+pub mod LeastCapacity
 pub mod Pushing
 pub mod Lists

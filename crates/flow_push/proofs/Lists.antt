@@ -1,24 +1,18 @@
--- Pushing reads no heads: the same bounds, and the same room along a path, without them and with all that a network has.
+-- Pushing reads no balances, heads and costs: the same can be pushed, and the same capacity is along a path, whatever they are.
 use mathlib.Core.Path.{_≡_, refl}
 use mathlib.Core.List.{List, [], _∷_}
 use Prim.Native.Nat.{ℕ, min}
 use lib.IntN.{ℤ}
-use Rattle.net_theory.specs.Graph.{graph, netWith}
-use Rattle.net_theory.specs.Room.{roomOf}
-use Rattle.net_theory.specs.Push.{InBounds}
-use Rattle.net_theory.specs.Ready.{SmallBounds}
-use Rattle.flow_push.specs.Pushing.{roomAll}
+use Rattle.net_model.specs.Network.{Net}
+use Rattle.net_theory.specs.Graph.{netWith}
+use Rattle.net_theory.specs.ResidualCapacity.{residualCapacity}
+use Rattle.net_theory.proofs.Graph.{within-with}
+use Rattle.flow_push.specs.Pushing.{bottleneck, Pushable}
 
-module _ (t h l u : List ℕ) (f : List ℕ) where
-  pub bounds-without-heads : InBounds (graph t h l u) f → InBounds (graph t t l u) f
-  bounds-without-heads b = record { all-arcs = b .all-arcs; above = b .above; below = b .below }
+module _ (N : Net) (b : List ℤ) (h : List ℕ) (c : List ℤ) (f : List ℕ) where
+  pub pushable-with : (δ : ℕ) (cs : List ℕ) → Pushable N δ f cs → Pushable (netWith b (N .tails) h (N .lows) (N .ups) c) δ f cs
+  pushable-with δ cs p = record { within = within-with N b h c f (p .within); codes-in = p .codes-in; distinct = p .distinct; capacity = p .capacity }
 
-  pub bounds-with-heads : InBounds (graph t t l u) f → InBounds (graph t h l u) f
-  bounds-with-heads b = record { all-arcs = b .all-arcs; above = b .above; below = b .below }
-
-  pub small-without-heads : SmallBounds (graph t h l u) → SmallBounds (graph t t l u)
-  small-without-heads z = record { few = z .few; lows-len = z .lows-len; ups-len = z .ups-len; ups-small = z .ups-small }
-
-  pub room-net : (b c : List ℤ) (cap : ℕ) (cs : List ℕ) → roomAll (graph t t l u) f cap cs ≡ roomAll (netWith b t h l u c) f cap cs
-  room-net b c cap [] = refl
-  room-net b c cap (x ∷ cs) = room-net b c (min cap (roomOf (graph t t l u) f x)) cs
+  pub capacity-with : (cap : ℕ) (cs : List ℕ) → bottleneck N f cap cs ≡ bottleneck (netWith b (N .tails) h (N .lows) (N .ups) c) f cap cs
+  capacity-with cap [] = refl
+  capacity-with cap (x ∷ cs) = capacity-with (min cap (residualCapacity N f x)) cs

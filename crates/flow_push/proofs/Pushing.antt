@@ -7,9 +7,11 @@ use native.Mathlib.Omega.{arith}
 use lib.Dec.{eqb}
 use lib.ListN.{length, getD}
 use Rattle.net_model.specs.Network.{Net, arcs}
-use Rattle.net_theory.specs.Room.{roomy-forth, roomy-back}
-use Rattle.net_theory.specs.Push.{InBounds, one-bounds, others-room, pushOne, pushAll}
-use Rattle.net_theory.specs.Ready.{SmallBounds}
+use Rattle.net_theory.specs.Bounds.{InBounds}
+use Rattle.net_theory.specs.Push.{pushOne, pushAll}
+use Rattle.net_theory.specs.Limits.{SmallBounds}
+use Rattle.net_theory.proofs.ResidualCapacity.{hasCapacity-forth, hasCapacity-back}
+use Rattle.net_theory.proofs.PushOne.{one-bounds, others-capacity}
 use Rattle.flow_push.specs.Pushing.{Pushable}
 
 -- the loop of `push`: the codes that are left, and the numbers so far
@@ -19,10 +21,10 @@ pub record PushTurn (N : Net) (δ : ℕ) (goal cur rest : List ℕ) : Type 0 whe
 
 pushable-rest : (N : Net) (δ : ℕ) (f : List ℕ) (c : ℕ) (rest : List ℕ) → Pushable N δ f (c ∷ rest) → Pushable N δ (pushOne δ c f) rest
 pushable-rest N δ f c rest a = record {
-  bounds = one-bounds N δ f c (a .bounds) (a .codes-in .0) (a .room .0);
+  within = one-bounds N δ f c (a .within) (a .codes-in .0) (a .capacity .0);
   codes-in = a .codes-in .1;
   distinct = a .distinct .1;
-  room = others-room N δ f c (a .bounds) (a .codes-in .0) (a .room .0) rest (a .distinct .0) (a .room .1);
+  capacity = others-capacity N δ f c (a .within) (a .codes-in .0) (a .capacity .0) rest (a .distinct .0) (a .capacity .1);
 }
 
 pub push-step : (N : Net) (δ : ℕ) (goal cur l : List ℕ) (c : ℕ) (rest : List ℕ) → l ≡ c ∷ rest → PushTurn N δ goal cur l
@@ -42,8 +44,8 @@ push-asks N δ goal cur l c rest z e t = go (rw e at t)
     go t =
         let a = t .able in
         let k : c / 2 < arcs N = omega (arith, a .codes-in .0) in
-        (omega (arith, a .bounds .all-arcs), (λ p. omega (arith, roomy-forth N cur δ c (a .room .0) p, z .ups-small (c / 2) k)), λ p. omega (arith, roomy-back N cur δ c (a .room .0) p))
+        (omega (arith, a .within .all-arcs), (λ p. omega (arith, hasCapacity-forth N cur δ c (a .capacity .0) p, z .ups-small (c / 2) k)), λ p. omega (arith, hasCapacity-back N cur δ c (a .capacity .0) p))
 
 pub pushable-bounds : (N : Net) (δ : ℕ) (cs f : List ℕ) → Pushable N δ f cs → InBounds N (pushAll δ cs f)
-pushable-bounds N δ [] f a = a .bounds
+pushable-bounds N δ [] f a = a .within
 pushable-bounds N δ (c ∷ cs) f a = pushable-bounds N δ cs (pushOne δ c f) (pushable-rest N δ f c cs a)

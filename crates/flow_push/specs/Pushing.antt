@@ -7,17 +7,17 @@ use Rattle.laws.specs.Members.{Every}
 use Rattle.laws.specs.Ascending.{Distinct}
 use Rattle.net_model.specs.Network.{Net}
 use Rattle.net_model.specs.Residual.{codes}
-use Rattle.net_theory.specs.Room.{roomy, roomOf}
-use Rattle.net_theory.specs.Push.{InBounds}
+use Rattle.net_theory.specs.ResidualCapacity.{hasCapacity, residualCapacity}
+use Rattle.net_theory.specs.Bounds.{InBounds}
 
--- the least room along the codes, at most cap
-abbrev pub roomAll : Net → List ℕ → ℕ → List ℕ → ℕ
-roomAll N f cap [] = cap
-roomAll N f cap (c ∷ cs) = roomAll N f (min cap (roomOf N f c)) cs
+-- the least capacity along the codes, at most cap
+abbrev pub bottleneck : Net → List ℕ → ℕ → List ℕ → ℕ
+bottleneck N f cap [] = cap
+bottleneck N f cap (c ∷ cs) = bottleneck N f (min cap (residualCapacity N f c)) cs
 
 -- δ can go along the codes
 pub record Pushable (N : Net) (δ : ℕ) (f : List ℕ) (cs : List ℕ) : Type 0 where
-  pub bounds : InBounds N f
+  pub within : InBounds N f
   pub codes-in : Every (λ c. c < codes N) cs
   pub distinct : Distinct cs
-  pub room : Every (λ c. roomy N f δ c ≡ true) cs
+  pub capacity : Every (λ c. hasCapacity N f δ c ≡ true) cs

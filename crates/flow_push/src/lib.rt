@@ -2,20 +2,25 @@
 // A residual arc is a code: 2a is arc a forward, 2a + 1 is arc a backward.
 ghost use mathlib.Core.Path.{_≡_};
 ghost use mathlib.Core.Bool.{true, false};
+ghost use mathlib.Core.List.{[]};
 ghost use Prim.Native.Nat.{_+_, _-_, _/_, _%_, _≤_, _<_, min};
 ghost use lib.Dec.{eqb};
 ghost use lib.ListN.{length, getD, take};
 ghost use Rattle.laws.specs.Members.{Every};
-ghost use Rattle.net_theory.specs.Graph.{graph};
-ghost use Rattle.net_theory.specs.Room.{roomOf};
-ghost use Rattle.net_theory.specs.Push.{InBounds, pushOne, pushAll};
-ghost use Rattle.net_theory.specs.Ready.{SmallBounds};
-ghost use Rattle.flow_push.specs.Pushing.{roomAll, Pushable};
+ghost use Rattle.net_model.specs.Network.{arcs, low, up};
+ghost use Rattle.net_theory.specs.Graph.{netWith};
+ghost use Rattle.net_theory.specs.ResidualCapacity.{residualCapacity};
+ghost use Rattle.net_theory.specs.Bounds.{InBounds};
+ghost use Rattle.net_theory.specs.Push.{pushOne, pushAll};
+ghost use Rattle.net_theory.specs.Limits.{SmallBounds};
+ghost use Rattle.flow_push.specs.Pushing.{bottleneck, Pushable};
 
 // What can still go along code c.
-fn room_of(lows: &[u32], ups: &[u32], flow: &[u32], c: usize) -> u32
-    requires { ⌜ (c / 2 < length (now lows)) × (c / 2 < length (now ups)) × (c / 2 < length (now flow)) × (getD (now lows) (c / 2) 0 ≤ getD (now flow) (c / 2) 0) × (getD (now flow) (c / 2) 0 ≤ getD (now ups) (c / 2) 0) ⌝ }
-    ensures { λ r. ⌜ r ≡ roomOf (graph (now (ups .entry)) (now (ups .entry)) (now (lows .entry)) (now (ups .entry))) (now (flow .entry)) c ⌝ }
+fn residual_capacity(lows: &[u32], ups: &[u32], flow: &[u32], c: usize) -> u32
+    requires { let N = netWith [] [] [] (now lows) (now ups) [] in
+        ⌜ (c / 2 < length (now lows)) × (c / 2 < length (now ups)) × (c / 2 < length (now flow)) × (low N (c / 2) ≤ getD (now flow) (c / 2) 0)
+        × (getD (now flow) (c / 2) 0 ≤ up N (c / 2)) ⌝ }
+    ensures { λ r. ⌜ r ≡ residualCapacity (netWith [] [] [] (now (lows .entry)) (now (ups .entry)) []) (now (flow .entry)) c ⌝ }
 {
     let h = c / 2;
     let f = flow[h];
@@ -37,8 +42,8 @@ pub fn lesser(a: u32, b: u32) -> u32
     a
 }
 
-// The least room along the codes, at most cap.
-pub fn room(
+// The least capacity along the codes, at most cap.
+pub fn bottleneck(
     tails: &[u8],
     lows: &[u32],
     ups: &[u32],
@@ -47,14 +52,16 @@ pub fn room(
     len: usize,
     cap: u32,
 ) -> u32
-    requires { ⌜ (len ≤ length (now codes)) × SmallBounds (graph (now tails) (now tails) (now lows) (now ups)) × InBounds (graph (now tails) (now tails) (now lows) (now ups)) (now flow) × Every (λ c. c < length (now tails) + length (now tails)) (take len (now codes)) ⌝ }
-    ensures { λ r. ⌜ r ≡ roomAll (graph (now (tails .entry)) (now (tails .entry)) (now (lows .entry)) (now (ups .entry))) (now (flow .entry)) cap (take len (now (codes .entry))) ⌝ }
+    requires { let N = netWith [] (now tails) [] (now lows) (now ups) [] in
+        ⌜ (len ≤ length (now codes)) × SmallBounds N × InBounds N (now flow) × Every (λ c. c < arcs N + arcs N) (take len (now codes)) ⌝ }
+    ensures { λ r. let N = netWith [] (now (tails .entry)) [] (now (lows .entry)) (now (ups .entry)) [] in
+        ⌜ r ≡ bottleneck N (now (flow .entry)) cap (take len (now (codes .entry))) ⌝ }
 {
     let mut least = cap;
     let mut i = 0;
     while i < len {
         let c = codes[i];
-        let r = room_of(lows, ups, flow, c);
+        let r = residual_capacity(lows, ups, flow, c);
         least = lesser(least, r);
         i += 1;
     }
@@ -63,7 +70,8 @@ pub fn room(
 
 // d more along code c, whose arc then carries at most 1,000,000, the most that a bound may be.
 fn push_one(flow: &mut [u32], c: usize, d: u32)
-    requires { ⌜ (c / 2 < length (now flow)) × (eqb (c % 2) 0 ≡ true → getD (now flow) (c / 2) 0 + d ≤ 1000000) × (eqb (c % 2) 0 ≡ false → d ≤ getD (now flow) (c / 2) 0) ⌝ }
+    requires { ⌜ (c / 2 < length (now flow)) × (eqb (c % 2) 0 ≡ true → getD (now flow) (c / 2) 0 + d ≤ 1000000)
+        × (eqb (c % 2) 0 ≡ false → d ≤ getD (now flow) (c / 2) 0) ⌝ }
     ensures { λ _. ⌜ now (flow .exit) ≡ pushOne d c (now (flow .entry)) ⌝ }
 {
     let h = c / 2;
@@ -85,7 +93,8 @@ pub fn push(
     len: usize,
     d: u32,
 )
-    requires { ⌜ (len ≤ length (now codes)) × SmallBounds (graph (now tails) (now tails) (now lows) (now ups)) × Pushable (graph (now tails) (now tails) (now lows) (now ups)) d (now flow) (take len (now codes)) ⌝ }
+    requires { let N = netWith [] (now tails) [] (now lows) (now ups) [] in
+        ⌜ (len ≤ length (now codes)) × SmallBounds N × Pushable N d (now flow) (take len (now codes)) ⌝ }
     ensures { λ _. ⌜ now (flow .exit) ≡ pushAll d (take len (now (codes .entry))) (now (flow .entry)) ⌝ }
 {
     let mut i = 0;

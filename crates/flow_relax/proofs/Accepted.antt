@@ -1,29 +1,18 @@
--- An accepted network, with numbers within its bounds, is one over which labels can be corrected.
-use mathlib.Core.List.{List}
-use Prim.Native.Nat.{ℕ, _<_}
-use native.Mathlib.Omega.{arith}
-use lib.ListN.{length, getD}
-use lib.IntN.{ℤ, pos}
-use Rattle.laws.specs.Range.{Bounded, bounded-iff}
+-- An accepted network, with a flow within its bounds, is one over which labels can be corrected.
+use mathlib.Core.List.{List, []}
+use Prim.Native.Nat.{ℕ}
+use Rattle.net_model.specs.Network.{Net}
 use Rattle.net_model.specs.Accepted.{AcceptedNet}
-use Rattle.net_theory.specs.Graph.{netWith, costGraph}
-use Rattle.net_theory.specs.Push.{InBounds}
+use Rattle.net_theory.specs.Graph.{costed}
+use Rattle.net_theory.specs.Bounds.{InBounds}
+use Rattle.net_theory.proofs.Graph.{ends-with, bounds-with, costs-with, within-with}
+use Rattle.net_theory.proofs.Limits.{small-ends, small-bounds, small-costs}
 use Rattle.flow_relax.specs.Labels.{Relaxable}
 
-module _ (b : List ℤ) (t h l u : List ℕ) (c : List ℤ) (ok : AcceptedNet (netWith b t h l u c)) where
-  pub cost-small : (a : ℕ) → a < length t → Bounded 1000000 (getD c a (pos 0))
-  cost-small a k = let (p, q) = ok .cost-small a k in bounded-iff 1000000 (getD c a (pos 0)) .1 (q, p)
-
-  pub relaxable : (f : List ℕ) → InBounds (netWith b t h l u c) f → Relaxable (costGraph t h l u c) f
-  relaxable f bounds = record {
-    graph = record {
-      few = ok .few-arcs;
-      heads-len = ok .well-formed .heads-len;
-      tail-in = λ a k. omega (arith, ok .well-formed .tail-in a k, ok .few-nodes);
-      head-in = λ a k. omega (arith, ok .well-formed .head-in a k, ok .few-nodes);
-    };
-    small = record { few = ok .few-arcs; lows-len = ok .well-formed .lows-len; ups-len = ok .well-formed .ups-len; ups-small = ok .up-small };
-    bounds = record { all-arcs = bounds .all-arcs; above = bounds .above; below = bounds .below };
-    costs-len = ok .well-formed .costs-len;
-    cost-small = cost-small;
-  }
+pub accepted-relaxable : (N : Net) → AcceptedNet N → (f : List ℕ) → InBounds N f → Relaxable (costed N) f
+accepted-relaxable N ok f b = record {
+  ends = ends-with N [] (N .lows) (N .ups) (N .costs) (small-ends N ok);
+  bounds = bounds-with N [] (N .heads) (N .costs) (small-bounds N ok);
+  costs = costs-with N [] (N .heads) (N .lows) (N .ups) (small-costs N ok);
+  within = within-with N [] (N .heads) (N .costs) f b;
+}

@@ -7,7 +7,7 @@ use lib.Dec.{leb}
 use lib.ListN.{getD}
 use lib.IntN.{ℤ, negℤ, _+ℤ_}
 use lib.Signed.{ltZ}
-use Rattle.net_theory.specs.Codes.{even-code, even-arc, odd-code, odd-arc}
+use Rattle.net_theory.proofs.Codes.{even-code, even-arc, odd-code, odd-arc}
 use Rattle.net_model.specs.Network.{Net, tail, head, low, up, cost}
 use Rattle.flow_relax.specs.Labels.{State, label, setIf, relaxed}
 

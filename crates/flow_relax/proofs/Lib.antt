@@ -1,8 +1,7 @@
-pub mod Codes
+pub mod StepCosts
 mod Sums
 mod Arcs
 pub mod Accepted
 pub mod Balances
-pub mod Trips
 pub mod Rises
 pub mod Rounds

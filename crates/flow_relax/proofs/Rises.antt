@@ -9,13 +9,13 @@ use lib.Signed.{_≤ℤ_}
 use Rattle.laws.specs.Linear.{lin, given, given3}
 use Rattle.laws.specs.Members.{Every}
 use Rattle.net_model.specs.Network.{Net}
-use Rattle.net_model.specs.Residual.{src, dst, stepCost, Walk, walkCost}
+use Rattle.net_model.specs.Residual.{src, dst, stepCost, Walk, walkCost, CodeWalk, usable, codes}
 use Rattle.net_model.specs.Potential.{FeasiblePotential}
-use Rattle.net_theory.specs.Room.{roomy}
-use Rattle.flow_relax.proofs.Trips.{Trip}
+use Rattle.net_model.proofs.Walks.{walk-with}
+use Rattle.net_theory.specs.ResidualCapacity.{hasCapacity}
 
-module _ (N : Net) (f : List ℕ) (δ : ℕ) (π : ℕ → ℤ) (q : FeasiblePotential N (roomy N f δ) π) where
-  pub rise : (u v : ℕ) (cs : List ℕ) → Trip N f δ u v cs → (π v -ℤ π u) ≤ℤ walkCost N cs
+module _ (N : Net) (f : List ℕ) (δ : ℕ) (π : ℕ → ℤ) (q : FeasiblePotential N (hasCapacity N f δ) π) where
+  pub rise : (u v : ℕ) (cs : List ℕ) → CodeWalk N (hasCapacity N f δ) u v cs → (π v -ℤ π u) ≤ℤ walkCost N cs
   rise u v [] e = subst (λ x. (π x -ℤ π u) ≤ℤ pos 0) e (simp lin (omega arith))
   rise u v (c ∷ cs) (a, b, e, t) =
       sum (π v) (π (dst N c)) (π (src N c)) (π u) (stepCost N c) (walkCost N cs) (ap π (sym e)) (q c a b) (rise u (src N c) cs t)
@@ -23,9 +23,5 @@ module _ (N : Net) (f : List ℕ) (δ : ℕ) (π : ℕ → ℤ) (q : FeasiblePot
       sum : (y d s u c w : ℤ) → y ≡ d → d ≤ℤ (s +ℤ c) → (s -ℤ u) ≤ℤ w → (y -ℤ u) ≤ℤ (c +ℤ w)
       sum y d s u c w e h k = given3 e h k (simp lin (omega arith))
 
-  room-trip : (u v : ℕ) (cs : List ℕ) → Walk N f u v cs → Every (λ c. roomy N f δ c ≡ true) cs → Trip N f δ u v cs
-  room-trip u v [] w r = w
-  room-trip u v (c ∷ cs) (a, b, e, w) (r, rs) = (a, r, e, room-trip u (src N c) cs w rs)
-
-  pub closed-nonneg : (v : ℕ) (cs : List ℕ) → Walk N f v v cs → Every (λ c. roomy N f δ c ≡ true) cs → pos 0 ≤ℤ walkCost N cs
-  closed-nonneg v cs w r = given (rise v v cs (room-trip v v cs w r)) (simp lin (omega arith))
+  pub closed-nonneg : (v : ℕ) (cs : List ℕ) → Walk N f v v cs → Every (λ c. hasCapacity N f δ c ≡ true) cs → pos 0 ≤ℤ walkCost N cs
+  closed-nonneg v cs w r = given (rise v v cs (walk-with (codes N) (src N) (dst N) (usable N f) (hasCapacity N f δ) v v cs r w)) (simp lin (omega arith))

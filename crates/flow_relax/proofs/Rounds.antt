@@ -16,15 +16,15 @@ use Rattle.laws.specs.Range.{Bounded, bounded-add, bounded-more}
 use Rattle.laws.specs.Store.{set-cases}
 use Rattle.net_model.specs.Network.{Net}
 use Rattle.net_model.specs.Potential.{FeasiblePotential}
-use Rattle.net_model.specs.Residual.{codes, src, dst, stepCost, walkCost}
-use Rattle.net_theory.specs.Room.{roomy}
+use Rattle.net_model.specs.Residual.{codes, src, dst, stepCost, walkCost, CodeWalk}
+use Rattle.net_theory.specs.ResidualCapacity.{hasCapacity}
+use Rattle.net_theory.proofs.Codes.{src-in, dst-in}
 use Rattle.flow_relax.specs.Labels.{Relaxable, State, state, label, offer, better, relaxed, relaxedAll, Sized}
-use Rattle.flow_relax.proofs.Codes.{src-in, dst-in, step-small}
-use Rattle.flow_relax.proofs.Trips.{Trip}
+use Rattle.flow_relax.proofs.StepCosts.{step-small}
 
 -- no walk of at most k codes costs less than the label where it ends
 abbrev pub AtMost : Net → List ℕ → ℕ → ℕ → List ℤ → Type 0
-AtMost N f δ k d = (u v : ℕ) (cs : List ℕ) → length cs ≤ k → Trip N f δ u v cs → getD d v (pos 0) ≤ℤ walkCost N cs
+AtMost N f δ k d = (u v : ℕ) (cs : List ℕ) → length cs ≤ k → CodeWalk N (hasCapacity N f δ) u v cs → getD d v (pos 0) ≤ℤ walkCost N cs
 
 -- labels that are all 0
 pub zero-at : (n v : ℕ) → getD (replicate n (pos 0)) v (pos 0) ≡ pos 0
@@ -47,7 +47,7 @@ module _ (N : Net) (f : List ℕ) (ok : Relaxable N f) (δ : ℕ) where
   -- one code: by whether it is better
   module _ (s : State) (c : ℕ) (h : c < codes N) (len : length (s .labels) ≡ 64) where
     long : dst N c < length (s .labels)
-    long = omega (arith, dst-in N (ok .graph) c h)
+    long = omega (arith, dst-in N (ok .ends) c h)
 
     one-falls : (w : ℕ) → label (relaxed N f δ c s) w ≤ℤ label s w
     one-falls w = go (better N f δ c s) refl
@@ -55,10 +55,10 @@ module _ (N : Net) (f : List ℕ) (ok : Relaxable N f) (δ : ℕ) where
         go : (t : Bool) → better N f δ c s ≡ t → getD (cond t (set (s .labels) (dst N c) (offer N c s)) (s .labels)) w (pos 0) ≤ℤ label s w
         go true e =
             set-cases (λ j z. z ≤ℤ label s j) (s .labels) (dst N c) (offer N c s) (pos 0) long
-            (given (ltZ-true (offer N c s) (label s (dst N c)) (and-true (roomy N f δ c) _ e .1)) (simp lin (omega arith))) (λ j q. simp lin (omega arith)) w
+            (given (ltZ-true (offer N c s) (label s (dst N c)) (and-true (hasCapacity N f δ c) _ e .1)) (simp lin (omega arith))) (λ j q. simp lin (omega arith)) w
         go false e = simp lin (omega arith)
 
-    one-offer : roomy N f δ c ≡ true → label (relaxed N f δ c s) (dst N c) ≤ℤ offer N c s
+    one-offer : hasCapacity N f δ c ≡ true → label (relaxed N f δ c s) (dst N c) ≤ℤ offer N c s
     one-offer r = go (ltZ (offer N c s) (label s (dst N c))) refl
       where
         go : (t : Bool) → ltZ (offer N c s) (label s (dst N c)) ≡ t → label (relaxed N f δ c s) (dst N c) ≤ℤ offer N c s
@@ -88,7 +88,7 @@ module _ (N : Net) (f : List ℕ) (ok : Relaxable N f) (δ : ℕ) where
     all-falls (suc r) h w = given2 (one-falls (after r) r h (all-length r (omega arith)) w) (all-falls r (omega arith) w) (simp lin (omega arith))
 
     -- each code has made its offer
-    all-offers : (r : ℕ) → r ≤ codes N → (c : ℕ) → c < r → roomy N f δ c ≡ true → label (after r) (dst N c) ≤ℤ (label s (src N c) +ℤ stepCost N c)
+    all-offers : (r : ℕ) → r ≤ codes N → (c : ℕ) → c < r → hasCapacity N f δ c ≡ true → label (after r) (dst N c) ≤ℤ (label s (src N c) +ℤ stepCost N c)
     unfolding relaxedAll
     all-offers zero h c k e = absurd (omega arith)
     all-offers (suc r) h c k e = go (ℕ-discrete c r) (all-offers r (omega arith) c)
@@ -96,11 +96,11 @@ module _ (N : Net) (f : List ℕ) (ok : Relaxable N f) (δ : ℕ) where
         first : (a b o d s : ℤ) → a ≤ℤ o → o ≡ b +ℤ s → b ≤ℤ d → a ≤ℤ (d +ℤ s)
         first a b o d s h q k = given3 h q k (simp lin (omega arith))
 
-        go : Dec (c ≡ r) → (c < r → roomy N f δ c ≡ true → label (after r) (dst N c) ≤ℤ (label s (src N c) +ℤ stepCost N c))
+        go : Dec (c ≡ r) → (c < r → hasCapacity N f δ c ≡ true → label (after r) (dst N c) ≤ℤ (label s (src N c) +ℤ stepCost N c))
             → label (relaxed N f δ r (after r)) (dst N c) ≤ℤ (label s (src N c) +ℤ stepCost N c)
         go (yes q) deep =
             rw q (first (label (relaxed N f δ r (after r)) (dst N r)) (label (after r) (src N r)) (offer N r (after r)) (label s (src N r)) (stepCost N r)
-            (one-offer (after r) r h (all-length r (omega arith)) (subst (λ k. roomy N f δ k ≡ true) q e)) refl (all-falls r (omega arith) (src N r)))
+            (one-offer (after r) r h (all-length r (omega arith)) (subst (λ k. hasCapacity N f δ k ≡ true) q e)) refl (all-falls r (omega arith) (src N r)))
         go (no q) deep = given2 (one-falls (after r) r h (all-length r (omega arith)) (dst N c)) (deep (omega arith) e) (simp lin (omega arith))
 
     -- walks may be one code longer
@@ -112,36 +112,36 @@ module _ (N : Net) (f : List ℕ) (ok : Relaxable N f) (δ : ℕ) where
 
   -- whether anything changed, from a start with last = 64
   data Changed (d₀ : List ℤ) (r : ℕ) (s : State) : Type 0 where
-    quiet : s .last ≡ 64 → s .labels ≡ d₀ → ((c : ℕ) → c < r → roomy N f δ c ≡ true → getD d₀ (dst N c) (pos 0) ≤ℤ (getD d₀ (src N c) (pos 0) +ℤ stepCost N c)) → Changed d₀ r s
+    unchanged : s .last ≡ 64 → s .labels ≡ d₀ → ((c : ℕ) → c < r → hasCapacity N f δ c ≡ true → getD d₀ (dst N c) (pos 0) ≤ℤ (getD d₀ (src N c) (pos 0) +ℤ stepCost N c)) → Changed d₀ r s
     noisy : s .last < 64 → label s (s .last) <ℤ getD d₀ (s .last) (pos 0) → Changed d₀ r s
 
   changed-step : (d₀ : List ℤ) (r : ℕ) (s : State) → r < codes N → length (s .labels) ≡ 64 → ((w : ℕ) → label s w ≤ℤ getD d₀ w (pos 0)) → Changed d₀ r s → Changed d₀ (suc r) (relaxed N f δ r s)
   changed-step d₀ r s h len falls ch = go (better N f δ r s) refl
     where
       long : dst N r < length (s .labels)
-      long = omega (arith, dst-in N (ok .graph) r h)
+      long = omega (arith, dst-in N (ok .ends) r h)
 
-      no-better : roomy N f δ r && ltZ (offer N r s) (label s (dst N r)) ≡ false → roomy N f δ r ≡ true → label s (dst N r) ≤ℤ offer N r s
+      no-better : hasCapacity N f δ r && ltZ (offer N r s) (label s (dst N r)) ≡ false → hasCapacity N f δ r ≡ true → label s (dst N r) ≤ℤ offer N r s
       no-better e q = ltZ-false (offer N r s) (label s (dst N r)) (sym (ap (λ t. t && ltZ (offer N r s) (label s (dst N r))) q) ∙ e)
 
       still : better N f δ r s ≡ false → Changed d₀ r s → Changed d₀ (suc r) (state (s .labels) (s .preds) (s .last))
-      still e (quiet a b c) = quiet a b (λ k l q. offered k l q (ℕ-discrete k r))
+      still e (unchanged a b c) = unchanged a b (λ k l q. offered k l q (ℕ-discrete k r))
         where
-          offered : (k : ℕ) → k < suc r → roomy N f δ k ≡ true → Dec (k ≡ r) → getD d₀ (dst N k) (pos 0) ≤ℤ (getD d₀ (src N k) (pos 0) +ℤ stepCost N k)
-          offered k l q (yes p) = rw p (subst (λ d. getD d (dst N r) (pos 0) ≤ℤ (getD d (src N r) (pos 0) +ℤ stepCost N r)) b (no-better e (subst (λ k. roomy N f δ k ≡ true) p q)))
+          offered : (k : ℕ) → k < suc r → hasCapacity N f δ k ≡ true → Dec (k ≡ r) → getD d₀ (dst N k) (pos 0) ≤ℤ (getD d₀ (src N k) (pos 0) +ℤ stepCost N k)
+          offered k l q (yes p) = rw p (subst (λ d. getD d (dst N r) (pos 0) ≤ℤ (getD d (src N r) (pos 0) +ℤ stepCost N r)) b (no-better e (subst (λ k. hasCapacity N f δ k ≡ true) p q)))
           offered k l q (no p) = c k (omega arith) q
       still e (noisy a b) = noisy a b
 
       go : (t : Bool) → better N f δ r s ≡ t → Changed d₀ (suc r) (record { labels = cond t (set (s .labels) (dst N r) (offer N r s)) (s .labels); preds = cond t (set (s .preds) (dst N r) r) (s .preds); last = cond t (dst N r) (s .last) })
       go true e =
-          noisy (dst-in N (ok .graph) r h)
+          noisy (dst-in N (ok .ends) r h)
           (rw (getD-set-same (s .labels) (dst N r) (offer N r s) (pos 0) long)
-          (given2 (ltZ-true (offer N r s) (label s (dst N r)) (and-true (roomy N f δ r) _ e .1)) (falls (dst N r)) (simp lin (omega arith))))
+          (given2 (ltZ-true (offer N r s) (label s (dst N r)) (and-true (hasCapacity N f δ r) _ e .1)) (falls (dst N r)) (simp lin (omega arith))))
       go false e = still e ch
 
   round-changed : (d : List ℤ) (p : List ℕ) → length d ≡ 64 → (r : ℕ) → r ≤ codes N → Changed d r (relaxedAll N f δ r (state d p 64))
   unfolding relaxedAll
-  round-changed d p len zero h = quiet refl refl (λ c k. absurd (omega arith))
+  round-changed d p len zero h = unchanged refl refl (λ c k. absurd (omega arith))
   round-changed d p len (suc r) h =
       changed-step d r (relaxedAll N f δ r (state d p 64)) h (all-length (state d p 64) len r (omega arith)) (all-falls (state d p 64) len r (omega arith)) (round-changed d p len r (omega arith))
 
@@ -153,8 +153,8 @@ module _ (N : Net) (f : List ℕ) (ok : Relaxable N f) (δ : ℕ) where
       go true = record {
         labels-len = length-set (s .labels) (dst N c) (offer N c s) ∙ z .labels-len;
         preds-len = length-set (s .preds) (dst N c) c ∙ z .preds-len;
-        small = set-cases (λ j y. j < 64 → Bounded (B + 1000000) y) (s .labels) (dst N c) (offer N c s) (pos 0) (omega (arith, dst-in N (ok .graph) c h, z .labels-len))
-            (λ _. bounded-add (z .small (src N c) (src-in N (ok .graph) c h)) (step-small N f ok c h)) (λ j q l. bounded-more (omega arith) (z .small j l));
+        small = set-cases (λ j y. j < 64 → Bounded (B + 1000000) y) (s .labels) (dst N c) (offer N c s) (pos 0) (omega (arith, dst-in N (ok .ends) c h, z .labels-len))
+            (λ _. bounded-add (z .small (src N c) (src-in N (ok .ends) c h)) (step-small N (ok .costs) c h)) (λ j q l. bounded-more (omega arith) (z .small j l));
       }
       go false = sized-more (omega arith) z
 
@@ -171,17 +171,17 @@ module _ (N : Net) (f : List ℕ) (ok : Relaxable N f) (δ : ℕ) where
     pub left-sized : (k : ℕ) → Sized (1024000000 * k) d p → Sized (1024000000 * suc k) d′ p′
     left-sized k z =
         subst (λ (s : State). Sized (1024000000 * suc k) (s .labels) (s .preds)) (sym e)
-        (sized-more (omega (arith, ok .graph .few)) (all-sized (1024000000 * k) (state d p 64) (codes N) (omega arith) z))
+        (sized-more (omega (arith, ok .ends .few)) (all-sized (1024000000 * k) (state d p 64) (codes N) (omega arith) z))
 
     changed : Changed d (codes N) (state d′ p′ last)
     changed = subst (Changed d (codes N)) (sym e) (round-changed d p len (codes N) (omega arith))
 
     -- no label changed: the labels are a feasible potential
-    pub left-quiet : last ≡ 64 → (d′ ≡ d) × FeasiblePotential N (roomy N f δ) (λ v. getD d v (pos 0))
-    left-quiet q = go changed
+    pub left-unchanged : last ≡ 64 → (d′ ≡ d) × FeasiblePotential N (hasCapacity N f δ) (λ v. getD d v (pos 0))
+    left-unchanged q = go changed
       where
-        go : Changed d (codes N) (state d′ p′ last) → (d′ ≡ d) × FeasiblePotential N (roomy N f δ) (λ v. getD d v (pos 0))
-        go (quiet a b c) = (b, c)
+        go : Changed d (codes N) (state d′ p′ last) → (d′ ≡ d) × FeasiblePotential N (hasCapacity N f δ) (λ v. getD d v (pos 0))
+        go (unchanged a b c) = (b, c)
         go (noisy a b) = absurd (omega arith)
 
     -- or that of `last` fell
@@ -189,5 +189,5 @@ module _ (N : Net) (f : List ℕ) (ok : Relaxable N f) (δ : ℕ) where
     left-fell n = go changed
       where
         go : Changed d (codes N) (state d′ p′ last) → (last < 64) × (getD d′ last (pos 0) <ℤ getD d last (pos 0))
-        go (quiet a b c) = absurd (n a)
+        go (unchanged a b c) = absurd (n a)
         go (noisy a b) = (a, b)

@@ -1,32 +1,24 @@
--- Labels corrected over the residual arcs that have room for a given amount (Bellman and Ford).
+-- Labels corrected over the residual arcs that have capacity for a given amount (Bellman and Ford).
 use mathlib.Core.Path.{_≡_}
 use mathlib.Core.Bool.{Bool, cond, _&&_}
 use mathlib.Core.List.{List}
-use Prim.Native.Nat.{ℕ, zero, suc, _≤_, _<_}
+use Prim.Native.Nat.{ℕ, zero, suc, _<_}
 use lib.ListN.{length, getD, set}
 use lib.IntN.{ℤ, pos, _+ℤ_}
 use lib.Signed.{ltZ}
 use Rattle.laws.specs.Range.{Bounded}
-use Rattle.net_model.specs.Network.{Net, arcs, tail, head, cost}
+use Rattle.net_model.specs.Network.{Net}
 use Rattle.net_model.specs.Residual.{src, dst, stepCost}
-use Rattle.net_theory.specs.Push.{InBounds}
-use Rattle.net_theory.specs.Ready.{SmallBounds}
-use Rattle.net_theory.specs.Room.{roomy}
+use Rattle.net_theory.specs.Limits.{SmallEnds, SmallBounds, SmallCosts}
+use Rattle.net_theory.specs.Bounds.{InBounds}
+use Rattle.net_theory.specs.ResidualCapacity.{hasCapacity}
 
--- at most 512 arcs, with ends below 64
-pub record SmallGraph (N : Net) : Type 0 where
-  pub few : arcs N ≤ 512
-  pub heads-len : length (N .heads) ≡ arcs N
-  pub tail-in : (a : ℕ) → a < arcs N → tail N a < 64
-  pub head-in : (a : ℕ) → a < arcs N → head N a < 64
-
--- and as many small bounds, costs and numbers within the bounds
+-- what correcting labels asks: ends below 64, small bounds and costs, and a flow within the bounds
 pub record Relaxable (N : Net) (f : List ℕ) : Type 0 where
-  pub graph : SmallGraph N
-  pub small : SmallBounds N
-  pub bounds : InBounds N f
-  pub costs-len : length (N .costs) ≡ arcs N
-  pub cost-small : (a : ℕ) → a < arcs N → Bounded 1000000 (cost N a)
+  pub ends : SmallEnds N
+  pub bounds : SmallBounds N
+  pub costs : SmallCosts N
+  pub within : InBounds N f
 
 -- the labels of the nodes, the code that gave each its label (65535: none), and the node whose label fell last (64: none)
 pub record State : Type 0 where
@@ -45,7 +37,7 @@ abbrev pub offer : Net → ℕ → State → ℤ
 offer N c s = label s (src N c) +ℤ stepCost N c
 
 abbrev pub better : Net → List ℕ → ℕ → ℕ → State → Bool
-better N f δ c s = roomy N f δ c && ltZ (offer N c s) (label s (dst N c))
+better N f δ c s = hasCapacity N f δ c && ltZ (offer N c s) (label s (dst N c))
 
 -- label x and predecessor c for node v, if so
 abbrev pub setIf : Bool → ℕ → ℤ → ℕ → State → State

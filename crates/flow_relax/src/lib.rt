@@ -1,6 +1,7 @@
 // Labels of the nodes, corrected in rounds over the residual arcs of a flow (Bellman and Ford).
 ghost use mathlib.Core.Path.{_≡_};
 ghost use mathlib.Core.Bool.{_&&_};
+ghost use mathlib.Core.List.{[]};
 ghost use Prim.Native.Nat.{suc, _+_, _≤_, _<_};
 ghost use lib.ListN.{length, getD};
 ghost use lib.IntN.{pos, _+ℤ_};
@@ -8,8 +9,8 @@ ghost use lib.Signed.{ltZ};
 ghost use mir.Syntax.{w64};
 ghost use mir.Val.{SFits};
 ghost use Rattle.net_model.specs.Residual.{codes};
-ghost use Rattle.net_theory.specs.Graph.{costGraph};
-ghost use Rattle.flow_relax.specs.Labels.{Relaxable, state, setIf, relaxed, relaxedAll, Sized};
+ghost use Rattle.net_theory.specs.Graph.{netWith};
+ghost use Rattle.flow_relax.specs.Labels.{Relaxable, state, label, setIf, relaxed, relaxedAll, Sized};
 
 // The residual arc `code` from u to v, if it is on: a better label for v, or nothing. The node whose label fell last.
 fn relax(
@@ -23,7 +24,8 @@ fn relax(
     last: usize,
 ) -> usize
     requires { ⌜ (u < length (now labels)) × (v < length (now labels)) × (v < length (now preds)) × SFits w64 (getD (now labels) u (pos 0) +ℤ c) ⌝ }
-    ensures { λ r. ⌜ state (now (labels .exit)) (now (preds .exit)) r ≡ setIf (on && ltZ (getD (now (labels .entry)) u (pos 0) +ℤ c) (getD (now (labels .entry)) v (pos 0))) v (getD (now (labels .entry)) u (pos 0) +ℤ c) code (state (now (labels .entry)) (now (preds .entry)) last) ⌝ }
+    ensures { λ r. let s = state (now (labels .entry)) (now (preds .entry)) last in let x = label s u +ℤ c in
+        ⌜ state (now (labels .exit)) (now (preds .exit)) r ≡ setIf (on && ltZ x (label s v)) v x code s ⌝ }
 {
     if !on {
         return last;
@@ -53,8 +55,11 @@ fn relax_arc(
     a: usize,
     last: usize,
 ) -> usize
-    requires { ⌜ Relaxable (costGraph (now tails) (now heads) (now lows) (now ups) (now costs)) (now flow) × Sized 65536000000 (now labels) (now preds) × (a < length (now tails)) × (need ≤ 1000000) ⌝ }
-    ensures { λ r. ⌜ state (now (labels .exit)) (now (preds .exit)) r ≡ relaxed (costGraph (now (tails .entry)) (now (heads .entry)) (now (lows .entry)) (now (ups .entry)) (now (costs .entry))) (now (flow .entry)) need (suc (a + a)) (relaxed (costGraph (now (tails .entry)) (now (heads .entry)) (now (lows .entry)) (now (ups .entry)) (now (costs .entry))) (now (flow .entry)) need (a + a) (state (now (labels .entry)) (now (preds .entry)) last)) ⌝ }
+    requires { let N = netWith [] (now tails) (now heads) (now lows) (now ups) (now costs) in
+        ⌜ Relaxable N (now flow) × Sized 65536000000 (now labels) (now preds) × (a < length (now tails)) × (need ≤ 1000000) ⌝ }
+    ensures { λ r. let N = netWith [] (now (tails .entry)) (now (heads .entry)) (now (lows .entry)) (now (ups .entry)) (now (costs .entry)) in
+        let s = state (now (labels .entry)) (now (preds .entry)) last in let f = now (flow .entry) in
+        ⌜ state (now (labels .exit)) (now (preds .exit)) r ≡ relaxed N f need (suc (a + a)) (relaxed N f need (a + a) s) ⌝ }
 {
     let t = tails[a] as usize;
     let h = heads[a] as usize;
@@ -79,8 +84,11 @@ pub fn round(
     labels: &mut [i64],
     preds: &mut [u16],
 ) -> usize
-    requires { ⌜ Relaxable (costGraph (now tails) (now heads) (now lows) (now ups) (now costs)) (now flow) × Sized 64512000000 (now labels) (now preds) × (need ≤ 1000000) ⌝ }
-    ensures { λ r. ⌜ state (now (labels .exit)) (now (preds .exit)) r ≡ relaxedAll (costGraph (now (tails .entry)) (now (heads .entry)) (now (lows .entry)) (now (ups .entry)) (now (costs .entry))) (now (flow .entry)) need (codes (costGraph (now (tails .entry)) (now (heads .entry)) (now (lows .entry)) (now (ups .entry)) (now (costs .entry)))) (state (now (labels .entry)) (now (preds .entry)) 64) ⌝ }
+    requires { let N = netWith [] (now tails) (now heads) (now lows) (now ups) (now costs) in
+        ⌜ Relaxable N (now flow) × Sized 64512000000 (now labels) (now preds) × (need ≤ 1000000) ⌝ }
+    ensures { λ r. let N = netWith [] (now (tails .entry)) (now (heads .entry)) (now (lows .entry)) (now (ups .entry)) (now (costs .entry)) in
+        let s = state (now (labels .entry)) (now (preds .entry)) 64 in
+        ⌜ state (now (labels .exit)) (now (preds .exit)) r ≡ relaxedAll N (now (flow .entry)) need (codes N) s ⌝ }
 {
     let mut last = 64;
     for a in 0..tails.len() {

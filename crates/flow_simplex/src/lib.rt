@@ -1,14 +1,18 @@
 // A guess of a least-cost flow: the primal network simplex. Its numbers are unsigned and wrap, and all that is promised of the guess is
 // that it is within the bounds: whoever needs a flow tests it.
+ghost use mathlib.Core.Path.{_≡_};
+ghost use mathlib.Core.List.{[]};
 ghost use Prim.Native.Nat.{ℕ, _≤_, _<_};
-ghost use lib.ListN.{length, getD};
-ghost use Rattle.net_theory.specs.Graph.{graph};
-ghost use Rattle.net_theory.specs.Push.{InBounds};
+ghost use lib.ListN.{length};
+ghost use Rattle.net_model.specs.Network.{nodes, arcs, low, up};
+ghost use Rattle.net_theory.specs.Graph.{netWith};
+ghost use Rattle.net_theory.specs.Bounds.{InBounds};
 ghost use Rattle.flow_simplex.specs.Lengths.{SameLengths};
 
 // The nodes of the tree are those of the network and the root; arc m + v joins node v to the root. Code 2a is the arc a from its tail to
-// its head, 2a + 1 the same arc back. What an array says of a code: its head, its room, its cost. There are at most 2 × (512 + 64) codes; the
-// arrays have the next power of two of places, so that `% 2048` keeps any number within them. An array of 256 places is read by a u8.
+// its head, 2a + 1 the same arc back. What an array says of a code: its head, its residual capacity, its cost. There are at most
+// 2 × (512 + 64) codes; the arrays have the next power of two of places, so that `% 2048` keeps any number within them. An array of
+// 256 places is read by a u8.
 const ROOT: u8 = 64;
 
 // More than any path costs.
@@ -53,35 +57,35 @@ fn is_below(below: &[u64; 256], x: u8, v: u8) -> bool {
     (subtree_of(below, x) >> (v % 64)) & 1 == 1
 }
 
-// The price of x.
-fn price_of(price: &[u32; 256], x: u8) -> u32 {
-    price[x as usize]
+// The potential of x.
+fn potential_of(potential: &[u32; 256], x: u8) -> u32 {
+    potential[x as usize]
 }
 
-// The cost of the code at the prices.
-fn reduced(head: &[u8; 2048], cost: &[u32; 2048], price: &[u32; 256], code: usize) -> u32
+// The cost of the code at the potentials.
+fn reduced(head: &[u8; 2048], cost: &[u32; 2048], potential: &[u32; 256], code: usize) -> u32
     requires { ⌜ code < 2048 ⌝ }
 {
-    let from = price_of(price, head[back(code)]);
-    let to = price_of(price, head[code]);
+    let from = potential_of(potential, head[back(code)]);
+    let to = potential_of(potential, head[code]);
     std::num::wrapping_sub_u32(std::num::wrapping_add_u32(from, cost[code]), to)
 }
 
 // Sends d along the code.
-fn push(room: &mut [u32; 2048], code: usize, d: u32)
+fn push(capacity: &mut [u32; 2048], code: usize, d: u32)
     requires { ⌜ code < 2048 ⌝ }
 {
-    let left = std::num::wrapping_sub_u32(room[code], d);
-    room[code] = left;
+    let left = std::num::wrapping_sub_u32(capacity[code], d);
+    capacity[code] = left;
     let other = back(code);
-    let more = std::num::wrapping_add_u32(room[other], d);
-    room[other] = more;
+    let more = std::num::wrapping_add_u32(capacity[other], d);
+    capacity[other] = more;
 }
 
 // Sends d from x up to `join`.
 fn push_up(
     head: &[u8; 2048],
-    room: &mut [u32; 2048],
+    capacity: &mut [u32; 2048],
     up: &[usize; 256],
     from: u8,
     join: u8,
@@ -92,13 +96,13 @@ fn push_up(
         if x == join {
             return;
         }
-        push(room, up_from(up, x), d);
+        push(capacity, up_from(up, x), d);
         x = parent_of(head, up, x);
     }
 }
 
-// A path up the tree to the node `join`: `amount` can go along it, which is the room of the arc above the node `leave` or, if that is ROOT,
-// the most that was asked for.
+// A path up the tree to the node `join`: `amount` can go along it, which is the residual capacity of the arc above the node `leave` or,
+// if that is ROOT, the most that was asked for.
 struct PathToJoin {
     join: u8,
     leave: u8,
@@ -106,19 +110,19 @@ struct PathToJoin {
 }
 
 // What can go by the arc above x, upwards or down.
-fn tree_room(room: &[u32; 2048], up: &[usize; 256], x: u8, upwards: bool) -> u32 {
+fn tree_capacity(capacity: &[u32; 2048], up: &[usize; 256], x: u8, upwards: bool) -> u32 {
     let code = up_from(up, x);
     if upwards {
-        return room[code];
+        return capacity[code];
     }
-    room[back(code)]
+    capacity[back(code)]
 }
 
-// From `from` up to the join, the first node whose subtree has `to`, for at most `most`. Of the arcs with the least room, the last on
+// From `from` up to the join, the first node whose subtree has `to`, for at most `most`. Of the arcs with the least capacity, the last on
 // the cycle is taken: down from the join, by the entering arc, and up again. Then no tree comes back.
 fn path_to_join(
     head: &[u8; 2048],
-    room: &[u32; 2048],
+    capacity: &[u32; 2048],
     up: &[usize; 256],
     below: &[u64; 256],
     from: u8,
@@ -133,7 +137,7 @@ fn path_to_join(
         if is_below(below, x, to) {
             break;
         }
-        let r = tree_room(room, up, x, upwards);
+        let r = tree_capacity(capacity, up, x, upwards);
         if r < amount || (upwards && r == amount) {
             amount = r;
             leave = x;
@@ -159,7 +163,7 @@ struct Leaving {
 // What leaves the tree when e enters it.
 fn leaving_arc(
     head: &[u8; 2048],
-    room: &[u32; 2048],
+    capacity: &[u32; 2048],
     up: &[usize; 256],
     below: &[u64; 256],
     e: usize,
@@ -170,8 +174,8 @@ fn leaving_arc(
     let other = back(e);
     let u = head[other];
     let w = head[e];
-    let down = path_to_join(head, room, up, below, u, w, false, room[e]);
-    let above = path_to_join(head, room, up, below, w, u, true, down.amount);
+    let down = path_to_join(head, capacity, up, below, u, w, false, capacity[e]);
+    let above = path_to_join(head, capacity, up, below, w, u, true, down.amount);
     let join = above.join;
     let amount = above.amount;
     if above.leave == ROOT {
@@ -193,7 +197,7 @@ fn leaving_arc(
 // Sends d round the cycle of e, whose sides meet at `join`.
 fn push_round(
     head: &[u8; 2048],
-    room: &mut [u32; 2048],
+    capacity: &mut [u32; 2048],
     up: &[usize; 256],
     e: usize,
     join: u8,
@@ -204,9 +208,9 @@ fn push_round(
     if d == 0 {
         return;
     }
-    push(room, e, d);
-    push_up(head, room, up, head[back(e)], join, negated(d));
-    push_up(head, room, up, head[e], join, d);
+    push(capacity, e, d);
+    push_up(head, capacity, up, head[back(e)], join, negated(d));
+    push_up(head, capacity, up, head[e], join, d);
 }
 
 // Takes `part` out of the subtree of x where it is in it, and puts it in where it is not.
@@ -274,16 +278,16 @@ fn least_of(set: u64) -> usize
     (u64::trailing_zeros(set) % 64) as usize
 }
 
-// The prices of the nodes of `part`, changed by d.
-fn shift_prices(price: &mut [u32; 256], part: u64, d: u32) {
+// The potentials of the nodes of `part`, changed by d.
+fn shift_potentials(potential: &mut [u32; 256], part: u64, d: u32) {
     let mut rest = part;
     for _ in 0..64usize {
         if rest == 0 {
             return;
         }
         let v = least_of(rest);
-        let y = price[v];
-        price[v] = std::num::wrapping_add_u32(y, d);
+        let y = potential[v];
+        potential[v] = std::num::wrapping_add_u32(y, d);
         rest = rest & (rest - 1);
     }
 }
@@ -293,7 +297,7 @@ fn exchange(
     head: &[u8; 2048],
     cost: &[u32; 2048],
     up: &mut [usize; 256],
-    price: &mut [u32; 256],
+    potential: &mut [u32; 256],
     below: &mut [u64; 256],
     e: usize,
     leave: u8,
@@ -305,34 +309,34 @@ fn exchange(
     change_subtrees(head, up, below, parent_of(head, up, leave), join, part);
     change_subtrees(head, up, below, head[back(e)], join, part);
     update_parents(head, up, below, leave, part, e);
-    shift_prices(price, part, reduced(head, cost, price, e));
+    shift_potentials(potential, part, reduced(head, cost, potential, e));
 }
 
 // Lets e enter: sends round its cycle what can go, and takes an arc that is then full or empty out of the tree.
 fn pivot(
     head: &[u8; 2048],
-    room: &mut [u32; 2048],
+    capacity: &mut [u32; 2048],
     cost: &[u32; 2048],
     up: &mut [usize; 256],
-    price: &mut [u32; 256],
+    potential: &mut [u32; 256],
     below: &mut [u64; 256],
     e: usize,
 )
     requires { ⌜ e < 2048 ⌝ }
 {
-    let l = leaving_arc(head, room, up, below, e);
-    push_round(head, room, up, e, l.join, l.amount);
+    let l = leaving_arc(head, capacity, up, below, e);
+    push_round(head, capacity, up, e, l.join, l.amount);
     if l.leave != ROOT {
-        exchange(head, cost, up, price, below, l.into, l.leave, l.join);
+        exchange(head, cost, up, potential, below, l.into, l.leave, l.join);
     }
 }
 
-// The code of arc a that costs less at the prices.
-fn cheaper(head: &[u8; 2048], cost: &[u32; 2048], price: &[u32; 256], a: usize) -> usize
+// The code of arc a that costs less at the potentials.
+fn cheaper(head: &[u8; 2048], cost: &[u32; 2048], potential: &[u32; 256], a: usize) -> usize
     requires { ⌜ a < 1024 ⌝ }
     ensures { λ r. ⌜ r < 2048 ⌝ }
 {
-    if is_negative(reduced(head, cost, price, 2 * a)) {
+    if is_negative(reduced(head, cost, potential, 2 * a)) {
         return 2 * a;
     }
     2 * a + 1
@@ -341,22 +345,22 @@ fn cheaper(head: &[u8; 2048], cost: &[u32; 2048], price: &[u32; 256], a: usize) 
 // Whether arc a may enter: the cost falls by it.
 fn is_eligible(
     head: &[u8; 2048],
-    room: &[u32; 2048],
+    capacity: &[u32; 2048],
     cost: &[u32; 2048],
-    price: &[u32; 256],
+    potential: &[u32; 256],
     a: usize,
 ) -> bool
     requires { ⌜ a < 1024 ⌝ }
 {
-    room[cheaper(head, cost, price, a)] != 0 && reduced(head, cost, price, 2 * a) != 0
+    capacity[cheaper(head, cost, potential, a)] != 0 && reduced(head, cost, potential, 2 * a) != 0
 }
 
 // The first eligible arc from `from` on; `end` if there is none.
 fn first_eligible(
     head: &[u8; 2048],
-    room: &[u32; 2048],
+    capacity: &[u32; 2048],
     cost: &[u32; 2048],
-    price: &[u32; 256],
+    potential: &[u32; 256],
     from: usize,
     end: usize,
 ) -> usize
@@ -365,7 +369,7 @@ fn first_eligible(
 {
     let mut a = from;
     while a < end {
-        if is_eligible(head, room, cost, price, a) {
+        if is_eligible(head, capacity, cost, potential, a) {
             return a;
         }
         a += 1;
@@ -376,20 +380,20 @@ fn first_eligible(
 // The entering arc: the first eligible one, from `from` on and then from 0; m if there is none.
 fn entering_arc(
     head: &[u8; 2048],
-    room: &[u32; 2048],
+    capacity: &[u32; 2048],
     cost: &[u32; 2048],
-    price: &[u32; 256],
+    potential: &[u32; 256],
     from: usize,
     m: usize,
 ) -> usize
     requires { ⌜ (from ≤ m) × (m ≤ 1024) ⌝ }
     ensures { λ r. ⌜ r ≤ m ⌝ }
 {
-    let a = first_eligible(head, room, cost, price, from, m);
+    let a = first_eligible(head, capacity, cost, potential, from, m);
     if a < m {
         return a;
     }
-    let b = first_eligible(head, room, cost, price, 0, from);
+    let b = first_eligible(head, capacity, cost, potential, 0, from);
     if b < from {
         return b;
     }
@@ -399,10 +403,10 @@ fn entering_arc(
 // Pivots until no arc is eligible, 20,000 at most: some 1,300 are enough for a random network of 512 arcs.
 fn improve(
     head: &[u8; 2048],
-    room: &mut [u32; 2048],
+    capacity: &mut [u32; 2048],
     cost: &[u32; 2048],
     up: &mut [usize; 256],
-    price: &mut [u32; 256],
+    potential: &mut [u32; 256],
     below: &mut [u64; 256],
     m: usize,
 )
@@ -410,25 +414,25 @@ fn improve(
 {
     let mut from = 0;
     for _ in 0..20000usize {
-        let a = entering_arc(head, room, cost, price, from, m);
+        let a = entering_arc(head, capacity, cost, potential, from, m);
         if a >= m {
             return;
         }
         pivot(
             head,
-            room,
+            capacity,
             cost,
             up,
-            price,
+            potential,
             below,
-            cheaper(head, cost, price, a),
+            cheaper(head, cost, potential, a),
         );
         from = a + 1;
     }
 }
 
-// The balances, and their sum.
-fn copy_balances(balances: &[i32], excess: &mut [u32; 256]) -> u32
+// The excess of each node where no arc carries anything: its balance; and the sum of the balances.
+fn set_excess(balances: &[i32], excess: &mut [u32; 256]) -> u32
     requires { ⌜ length (now balances) ≤ 64 ⌝ }
 {
     let mut sum: u32 = 0;
@@ -453,7 +457,7 @@ fn carry(excess: &mut [u32; 256], t: u8, h: u8, x: u32) {
 // The two codes of arc a from t to h.
 fn set_arc(
     head: &mut [u8; 2048],
-    room: &mut [u32; 2048],
+    capacity: &mut [u32; 2048],
     cost: &mut [u32; 2048],
     a: usize,
     t: u8,
@@ -465,12 +469,12 @@ fn set_arc(
 {
     head[2 * a] = h;
     head[2 * a + 1] = t;
-    room[2 * a] = r;
+    capacity[2 * a] = r;
     cost[2 * a] = c;
     cost[2 * a + 1] = negated(c);
 }
 
-// The arcs of the network, with the room above the lower bounds; the lower bounds themselves are carried.
+// The arcs of the network, with what they can carry above the lower bounds; the lower bounds themselves are carried.
 fn set_arcs(
     tails: &[u8],
     heads: &[u8],
@@ -478,11 +482,12 @@ fn set_arcs(
     ups: &[u32],
     costs: &[i32],
     head: &mut [u8; 2048],
-    room: &mut [u32; 2048],
+    capacity: &mut [u32; 2048],
     cost: &mut [u32; 2048],
     excess: &mut [u32; 256],
 )
-    requires { ⌜ SameLengths (length (now tails)) (now tails) (now heads) (now lows) (now ups) (now costs) ⌝ }
+    requires { let N = netWith [] (now tails) (now heads) (now lows) (now ups) (now costs) in
+        ⌜ SameLengths N ⌝ }
 {
     let mut a = 0;
     while a < tails.len() {
@@ -492,7 +497,7 @@ fn set_arcs(
         let r = std::num::wrapping_sub_u32(ups[a], low);
         set_arc(
             head,
-            room,
+            capacity,
             cost,
             a,
             t,
@@ -509,9 +514,9 @@ fn set_arcs(
 // root to v.
 fn set_artificial_arc(
     head: &mut [u8; 2048],
-    room: &mut [u32; 2048],
+    capacity: &mut [u32; 2048],
     up: &mut [usize; 256],
-    price: &mut [u32; 256],
+    potential: &mut [u32; 256],
     below: &mut [u64; 256],
     x: u32,
     v: u8,
@@ -522,19 +527,19 @@ fn set_artificial_arc(
     let into = is_negative(x);
     let other = back(code);
     head[other] = v;
-    room[code] = if into { negated(x) } else { !x };
-    room[other] = x;
+    capacity[code] = if into { negated(x) } else { !x };
+    capacity[other] = x;
     up[v as usize] = code;
-    price[v as usize] = if into { BIG } else { negated(BIG) };
+    potential[v as usize] = if into { BIG } else { negated(BIG) };
     below[v as usize] = 1 << v;
 }
 
 // The initial tree: the root is the parent of every node.
 fn initial_tree(
     head: &mut [u8; 2048],
-    room: &mut [u32; 2048],
+    capacity: &mut [u32; 2048],
     up: &mut [usize; 256],
-    price: &mut [u32; 256],
+    potential: &mut [u32; 256],
     below: &mut [u64; 256],
     excess: &[u32; 256],
     m: usize,
@@ -546,9 +551,9 @@ fn initial_tree(
     while v < n {
         set_artificial_arc(
             head,
-            room,
+            capacity,
             up,
-            price,
+            potential,
             below,
             excess[v],
             v as u8,
@@ -561,7 +566,7 @@ fn initial_tree(
 // From the initial tree to the last pivot.
 fn solve(
     head: &mut [u8; 2048],
-    room: &mut [u32; 2048],
+    capacity: &mut [u32; 2048],
     cost: &[u32; 2048],
     excess: &[u32; 256],
     m: usize,
@@ -570,14 +575,23 @@ fn solve(
     requires { ⌜ (m ≤ 512) × (n ≤ 64) ⌝ }
 {
     let mut up = [0usize; 256];
-    let mut price = [0u32; 256];
+    let mut potential = [0u32; 256];
     let mut below = [u64::MAX; 256];
-    initial_tree(head, room, &mut up, &mut price, &mut below, excess, m, n);
-    improve(head, room, cost, &mut up, &mut price, &mut below, m);
+    initial_tree(
+        head,
+        capacity,
+        &mut up,
+        &mut potential,
+        &mut below,
+        excess,
+        m,
+        n,
+    );
+    improve(head, capacity, cost, &mut up, &mut potential, &mut below, m);
 }
 
-// Writes the room of each code after the last pivot; that of code 2a + 1 is what arc a carries above its lower bound. Where the balances do
-// not sum to 0 there is no flow, and `room` stays as it was.
+// Writes the residual capacity of each code after the last pivot; that of code 2a + 1 is what arc a carries above its lower bound. Where
+// the balances do not sum to 0 there is no flow, and `capacity` stays as it was.
 fn optimise(
     tails: &[u8],
     heads: &[u8],
@@ -585,12 +599,13 @@ fn optimise(
     ups: &[u32],
     costs: &[i32],
     balances: &[i32],
-    room: &mut [u32; 2048],
+    capacity: &mut [u32; 2048],
 )
-    requires { ⌜ SameLengths (length (now tails)) (now tails) (now heads) (now lows) (now ups) (now costs) × (length (now balances) ≤ 64) ⌝ }
+    requires { let N = netWith (now balances) (now tails) (now heads) (now lows) (now ups) (now costs) in
+        ⌜ SameLengths N × (nodes N ≤ 64) ⌝ }
 {
     let mut excess = [0u32; 256];
-    if copy_balances(balances, &mut excess) != 0 {
+    if set_excess(balances, &mut excess) != 0 {
         return;
     }
     let mut head = [ROOT; 2048];
@@ -602,11 +617,18 @@ fn optimise(
         ups,
         costs,
         &mut head,
-        room,
+        capacity,
         &mut cost,
         &mut excess,
     );
-    solve(&mut head, room, &cost, &excess, tails.len(), balances.len());
+    solve(
+        &mut head,
+        capacity,
+        &cost,
+        &excess,
+        tails.len(),
+        balances.len(),
+    );
 }
 
 // A list within the bounds, and mostly a least-cost flow where there is a flow.
@@ -619,10 +641,13 @@ pub fn guess(
     balances: &[i32],
     flow: &mut [u32],
 )
-    requires { ⌜ SameLengths (length (now flow)) (now tails) (now heads) (now lows) (now ups) (now costs) × (length (now balances) ≤ 64) × ((a : ℕ) → a < length (now flow) → getD (now lows) a 0 ≤ getD (now ups) a 0) ⌝ }
-    ensures { λ _. ⌜ InBounds (graph (now (tails .entry)) (now (heads .entry)) (now (lows .entry)) (now (ups .entry))) (now (flow .exit)) ⌝ }
+    requires { let N = netWith (now balances) (now tails) (now heads) (now lows) (now ups) (now costs) in
+        ⌜ SameLengths N × (nodes N ≤ 64) × (length (now flow) ≡ arcs N) × ((a : ℕ) → a < arcs N → low N a ≤ up N a) ⌝ }
+    ensures { λ _.
+        let N = netWith (now (balances .entry)) (now (tails .entry)) (now (heads .entry)) (now (lows .entry)) (now (ups .entry)) (now (costs .entry)) in
+        ⌜ InBounds N (now (flow .exit)) ⌝ }
 {
-    let mut room = [0u32; 2048];
-    optimise(tails, heads, lows, ups, costs, balances, &mut room);
-    flow_clamp::write_within(lows, ups, &room, flow);
+    let mut capacity = [0u32; 2048];
+    optimise(tails, heads, lows, ups, costs, balances, &mut capacity);
+    flow_clamp::write_within(lows, ups, &capacity, flow);
 }

@@ -8,14 +8,14 @@ use lib.Signed.{_≤ℤ_}
 use Rattle.laws.specs.Linear.{lin, given2}
 use Rattle.bytes_read.specs.Words.{ints}
 use Rattle.net_model.specs.Input.{rows}
-use Rattle.net_questions.specs.Questions.{lastNode}
+use Rattle.net_questions.specs.Questions.{lastNodeNumber}
 use Rattle.net_questions.specs.Arcs.{noArc}
 use Rattle.net_questions.proofs.Rows.{arcs-of}
 use Rattle.net_questions.proofs.Accepted.{Passed, Inside, good-arc, up-from}
-use Rattle.net_check.specs.Columns.{part, Column}
+use Rattle.net_check.specs.Columns.{numberAt, Column}
 
 module _ (bs xs : List ℕ) (ok : Passed bs xs) where
-  column : (place hi : ℕ) → place < 5 → ((a : ℕ) → a < length (rows (ints xs)) → Inside (pos 0) (pos hi) (part place (getD (rows (ints xs)) a noArc))) → Column xs place hi
+  column : (place hi : ℕ) → place < 5 → ((a : ℕ) → a < length (rows (ints xs)) → Inside (pos 0) (pos hi) (numberAt place (getD (rows (ints xs)) a noArc))) → Column xs place hi
   column place hi p f = record {
     placed = p;
     few = omega (arith, arcs-of xs, ok .arcs-fair .few);
@@ -23,13 +23,13 @@ module _ (bs xs : List ℕ) (ok : Passed bs xs) where
     at-most = λ a h. f a h .to;
   }
 
-  last-most : lastNode bs ≤ℤ pos 63
+  last-most : lastNodeNumber bs ≤ℤ pos 63
   last-most = within (length bs / 4 - 1) (omega (arith, ok .nodes-fair .few))
     where
       within : (n : ℕ) → n ≤ 63 → pos n ≤ℤ pos 63
       within n h = simp lin (omega arith)
 
-  end-inside : (z : ℤ) → Inside (pos 0) (lastNode bs) z → Inside (pos 0) (pos 63) z
+  end-inside : (z : ℤ) → Inside (pos 0) (lastNodeNumber bs) z → Inside (pos 0) (pos 63) z
   end-inside z i = record { from = i .from; to = given2 (i .to) last-most (simp lin (omega arith)) }
 
   pub tails-column : Column xs 0 63

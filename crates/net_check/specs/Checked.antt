@@ -9,7 +9,7 @@ use Rattle.net_model.specs.Network.{Net}
 use Rattle.net_model.specs.Input.{netOf}
 use Rattle.net_model.specs.Struct.{structOf}
 use Rattle.net_model.specs.declared.Network.{Network}
-use Rattle.net_questions.specs.Questions.{refusal, numberOf}
+use Rattle.net_questions.specs.Questions.{networkRefusal, numberOf}
 use Rattle.net_check.specs.declared.Checked.{Checked}
 
 abbrev pub noNet : Net
@@ -17,9 +17,9 @@ noNet = record { balances = []; tails = []; heads = []; lows = []; ups = []; cos
 
 -- the struct of the network that two lists of bytes are; that of no network with a refusal
 abbrev pub checkedNet : List ℕ → List ℕ → Network
-checkedNet bs xs = structOf (cond (eqb (refusal bs xs) 0) (netOf (ints bs) (ints xs)) noNet)
+checkedNet bs xs = structOf (cond (eqb (networkRefusal bs xs) 0) (netOf (ints bs) (ints xs)) noNet)
 
 -- what the check answers: the number of the verdict, and the struct
 pub record Checks (bs xs : List ℕ) (r : Checked) : Type 0 where
-  pub number : numberOf (r .verdict) ≡ refusal bs xs
+  pub number : numberOf (r .verdict) ≡ networkRefusal bs xs
   pub net-is : r .net ≡ checkedNet bs xs

@@ -8,9 +8,9 @@ ghost use Rattle.laws.specs.Padded.{padded};
 ghost use Rattle.bytes_read.specs.Words.{ints};
 ghost use Rattle.net_model.specs.Input.{rows, netOf};
 ghost use Rattle.net_model.specs.Struct.{structOf};
-ghost use Rattle.net_questions.specs.Questions.{refusal};
+ghost use Rattle.net_questions.specs.Questions.{networkRefusal};
 ghost use Rattle.net_check.specs.Checked.{noNet, Checks};
-ghost use Rattle.net_check.specs.Columns.{part, Column};
+ghost use Rattle.net_check.specs.Columns.{numberAt, Column};
 use net_model::Network;
 use net_questions::Verdict;
 
@@ -23,7 +23,7 @@ pub struct Checked {
 // The tails (place 0) or heads (place 1).
 fn ends_of(arcs: &[u8], place: usize) -> [u8; 512]
     requires { ⌜ Column (now arcs) place 63 ⌝ }
-    ensures { λ r. ⌜ r ≡ padded 512 0 (map (λ a. natAbs (part place a)) (rows (ints (now (arcs .entry))))) ⌝ }
+    ensures { λ r. ⌜ r ≡ padded 512 0 (map (λ a. natAbs (numberAt place a)) (rows (ints (now (arcs .entry))))) ⌝ }
 {
     let mut r = [0u8; 512];
     for a in 0..arcs.len() / 20 {
@@ -36,7 +36,7 @@ fn ends_of(arcs: &[u8], place: usize) -> [u8; 512]
 // The lower (place 2) or upper bounds (place 3).
 fn bounds_of(arcs: &[u8], place: usize) -> [u32; 512]
     requires { ⌜ Column (now arcs) place 1000000 ⌝ }
-    ensures { λ r. ⌜ r ≡ padded 512 0 (map (λ a. natAbs (part place a)) (rows (ints (now (arcs .entry))))) ⌝ }
+    ensures { λ r. ⌜ r ≡ padded 512 0 (map (λ a. natAbs (numberAt place a)) (rows (ints (now (arcs .entry))))) ⌝ }
 {
     let mut r = [0u32; 512];
     for a in 0..arcs.len() / 20 {
@@ -72,7 +72,7 @@ fn balances_of(balances: &[u8]) -> [i32; 64]
 
 // The struct of an accepted network.
 fn fill(balances: &[u8], arcs: &[u8]) -> Network
-    requires { ⌜ refusal (now balances) (now arcs) ≡ 0 ⌝ }
+    requires { ⌜ networkRefusal (now balances) (now arcs) ≡ 0 ⌝ }
     ensures { λ r. ⌜ r ≡ structOf (netOf (ints (now (balances .entry))) (ints (now (arcs .entry)))) ⌝ }
 {
     let given = balances_of(balances);

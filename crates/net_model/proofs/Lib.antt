@@ -1,4 +1,5 @@
 pub mod FullList
+pub mod Walks
 pub mod Prices
 pub mod Loops
 pub mod Struct

@@ -31,10 +31,18 @@ dst N c = either c (head N (c / 2)) (tail N (c / 2))
 abbrev pub stepCost : Net → ℕ → ℤ
 stepCost N c = either c (cost N (c / 2)) (negℤ (cost N (c / 2)))
 
--- a residual walk from u to v, as the list of its codes, the last one first
+-- a walk over numbered steps below hi, step c from sr c to ds c, each of them one that p holds of: from u to v, as the list of its steps, the last one first
+abbrev pub WalkOver : ℕ → (ℕ → ℕ) → (ℕ → ℕ) → (ℕ → Bool) → ℕ → ℕ → List ℕ → Type 0
+WalkOver hi sr ds p u v [] = u ≡ v
+WalkOver hi sr ds p u v (c ∷ cs) = (c < hi) × (p c ≡ true) × (ds c ≡ v) × WalkOver hi sr ds p u (sr c) cs
+
+-- a walk of the codes that p holds of
+abbrev pub CodeWalk : Net → (ℕ → Bool) → ℕ → ℕ → List ℕ → Type 0
+CodeWalk N p u v cs = WalkOver (codes N) (src N) (dst N) p u v cs
+
+-- a residual walk
 abbrev pub Walk : Net → List ℕ → ℕ → ℕ → List ℕ → Type 0
-Walk N f u v [] = u ≡ v
-Walk N f u v (c ∷ cs) = (c < codes N) × (usable N f c ≡ true) × (dst N c ≡ v) × Walk N f u (src N c) cs
+Walk N f u v cs = CodeWalk N (usable N f) u v cs
 
 abbrev pub walkCost : Net → List ℕ → ℤ
 walkCost N [] = pos 0

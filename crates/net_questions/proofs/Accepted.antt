@@ -17,7 +17,7 @@ use Rattle.net_model.specs.Network.{WellFormed, arcs}
 use Rattle.net_model.specs.Input.{rows, netOf}
 use Rattle.net_model.specs.Accepted.{AcceptedNet}
 use Rattle.net_model.specs.declared.Arc.{Arc}
-use Rattle.net_questions.specs.Questions.{inside, passes, fairBalance, fairNodes, fairArcs, lastNode, refusal}
+use Rattle.net_questions.specs.Questions.{inside, passes, fairBalance, fairNodes, fairArcs, lastNodeNumber, networkRefusal}
 use Rattle.net_questions.specs.Arcs.{noArc}
 use Rattle.net_questions.specs.declared.ArcQuestion.the-variants.{Ends, Bounds, Cost}
 use Rattle.net_questions.proofs.Rows.{FairNodes, FairArcs, fair-nodes, fair-arcs, arcs-of}
@@ -26,9 +26,9 @@ use Rattle.net_questions.proofs.Rows.{FairNodes, FairArcs, fair-nodes, 
 pub record Passed (bs xs : List ℕ) : Type 0 where
   pub nodes-fair : FairNodes (length bs)
   pub arcs-fair : FairArcs (length xs)
-  pub ends : all (passes Ends (lastNode bs)) (rows (ints xs)) ≡ true
-  pub bounds : all (passes Bounds (lastNode bs)) (rows (ints xs)) ≡ true
-  pub costs : all (passes Cost (lastNode bs)) (rows (ints xs)) ≡ true
+  pub ends : all (passes Ends (lastNodeNumber bs)) (rows (ints xs)) ≡ true
+  pub bounds : all (passes Bounds (lastNodeNumber bs)) (rows (ints xs)) ≡ true
+  pub costs : all (passes Cost (lastNodeNumber bs)) (rows (ints xs)) ≡ true
   pub balances : all fairBalance (ints bs) ≡ true
 
 -- one question: answered with yes, and the rest is 0 too
@@ -36,13 +36,13 @@ asked : (b : Bool) (k n : ℕ) → ask b (suc k) n ≡ 0 → (b ≡ true) × (n 
 asked true k n e = (refl, e)
 asked false k n e = absurd (omega arith)
 
-pub passed : (bs xs : List ℕ) → refusal bs xs ≡ 0 → Passed bs xs
+pub passed : (bs xs : List ℕ) → networkRefusal bs xs ≡ 0 → Passed bs xs
 passed bs xs e =
     let (a, e2) = asked (fairNodes (length bs)) 0 _ e in
     let (b, e3) = asked (fairArcs (length xs)) 1 _ e2 in
-    let (c, e4) = asked (all (passes Ends (lastNode bs)) (rows (ints xs))) 2 _ e3 in
-    let (d, e5) = asked (all (passes Bounds (lastNode bs)) (rows (ints xs))) 3 _ e4 in
-    let (f, e6) = asked (all (passes Cost (lastNode bs)) (rows (ints xs))) 4 _ e5 in
+    let (c, e4) = asked (all (passes Ends (lastNodeNumber bs)) (rows (ints xs))) 2 _ e3 in
+    let (d, e5) = asked (all (passes Bounds (lastNodeNumber bs)) (rows (ints xs))) 3 _ e4 in
+    let (f, e6) = asked (all (passes Cost (lastNodeNumber bs)) (rows (ints xs))) 4 _ e5 in
     let (g, e7) = asked (all fairBalance (ints bs)) 5 0 e6 in
     record { nodes-fair = fair-nodes (length bs) a; arcs-fair = fair-arcs (length xs) b; ends = c; bounds = d; costs = f; balances = g }
 
@@ -68,17 +68,17 @@ pub record GoodArc (last : ℤ) (r : Arc) : Type 0 where
   pub cost-in : Inside (negsuc 999999) (pos 1000000) (r .cost)
 
 module _ (bs xs : List ℕ) (ok : Passed bs xs) where
-  pub good-arc : (a : ℕ) → a < length (rows (ints xs)) → GoodArc (lastNode bs) (getD (rows (ints xs)) a noArc)
+  pub good-arc : (a : ℕ) → a < length (rows (ints xs)) → GoodArc (lastNodeNumber bs) (getD (rows (ints xs)) a noArc)
   good-arc a h =
       let r = getD (rows (ints xs)) a noArc in
-      let (t, u) = and-true (inside (pos 0) (lastNode bs) (r .tail)) (inside (pos 0) (lastNode bs) (r .head)) (all-at (passes Ends (lastNode bs)) (rows (ints xs)) noArc a (ok .ends) h) in
-      let (l, k) = and-true (inside (pos 0) (r .up) (r .low)) (leZ (r .up) (pos 1000000)) (all-at (passes Bounds (lastNode bs)) (rows (ints xs)) noArc a (ok .bounds) h) in
+      let (t, u) = and-true (inside (pos 0) (lastNodeNumber bs) (r .tail)) (inside (pos 0) (lastNodeNumber bs) (r .head)) (all-at (passes Ends (lastNodeNumber bs)) (rows (ints xs)) noArc a (ok .ends) h) in
+      let (l, k) = and-true (inside (pos 0) (r .up) (r .low)) (leZ (r .up) (pos 1000000)) (all-at (passes Bounds (lastNodeNumber bs)) (rows (ints xs)) noArc a (ok .bounds) h) in
       record {
-        tail-in = is-inside (pos 0) (lastNode bs) (r .tail) t;
-        head-in = is-inside (pos 0) (lastNode bs) (r .head) u;
+        tail-in = is-inside (pos 0) (lastNodeNumber bs) (r .tail) t;
+        head-in = is-inside (pos 0) (lastNodeNumber bs) (r .head) u;
         low-in = is-inside (pos 0) (r .up) (r .low) l;
         up-to = leZ-true (r .up) (pos 1000000) k;
-        cost-in = is-inside (negsuc 999999) (pos 1000000) (r .cost) (all-at (passes Cost (lastNode bs)) (rows (ints xs)) noArc a (ok .costs) h);
+        cost-in = is-inside (negsuc 999999) (pos 1000000) (r .cost) (all-at (passes Cost (lastNodeNumber bs)) (rows (ints xs)) noArc a (ok .costs) h);
       }
 
   pub up-from : (a : ℕ) → a < length (rows (ints xs)) → pos 0 ≤ℤ getD (rows (ints xs)) a noArc .up
@@ -94,8 +94,8 @@ module _ (bs xs : List ℕ) (ok : Passed bs xs) where
   in-rows : (a : ℕ) → a < arcs (netOf (ints bs) (ints xs)) → a < length (rows (ints xs))
   in-rows a h = omega (arith, arcs-are)
 
-  end-below : (z : ℤ) → Inside (pos 0) (lastNode bs) z → natAbs z < length (ints bs)
-  end-below z i = omega (arith, nodes-are, ok .nodes-fair .some, natAbs-le z (lastNode bs) (i .from) (i .to))
+  end-below : (z : ℤ) → Inside (pos 0) (lastNodeNumber bs) z → natAbs z < length (ints bs)
+  end-below z i = omega (arith, nodes-are, ok .nodes-fair .some, natAbs-le z (lastNodeNumber bs) (i .from) (i .to))
 
   well-formed : WellFormed (netOf (ints bs) (ints xs))
   well-formed =
@@ -125,5 +125,5 @@ module _ (bs xs : List ℕ) (ok : Passed bs xs) where
         balance-small = λ v h. (let i = is-inside (negsuc 999999999) (pos 1000000000) (getD (ints bs) v (pos 0)) (all-at fairBalance (ints bs) (pos 0) v (ok .balances) h) in (i .from, i .to));
       }
 
-pub accepted-net : (bs xs : List ℕ) → refusal bs xs ≡ 0 → AcceptedNet (netOf (ints bs) (ints xs))
+pub accepted-net : (bs xs : List ℕ) → networkRefusal bs xs ≡ 0 → AcceptedNet (netOf (ints bs) (ints xs))
 accepted-net bs xs e = accepted-of bs xs (passed bs xs e)

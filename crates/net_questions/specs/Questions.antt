@@ -39,17 +39,17 @@ abbrev pub fairBalance : ℤ → Bool
 fairBalance b = inside (negsuc 999999999) (pos 1000000000) b
 
 -- n − 1
-abbrev pub lastNode : List ℕ → ℤ
-lastNode bs = pos (length bs / 4 - 1)
+abbrev pub lastNodeNumber : List ℕ → ℤ
+lastNodeNumber bs = pos (length bs / 4 - 1)
 
 -- the number of the first question that a network fails, or 0
-abbrev pub refusal : List ℕ → List ℕ → ℕ
-refusal bs xs =
+abbrev pub networkRefusal : List ℕ → List ℕ → ℕ
+networkRefusal bs xs =
     ask (fairNodes (length bs)) 1
     (ask (fairArcs (length xs)) 2
-    (ask (all (passes Ends (lastNode bs)) (rows (ints xs))) 3
-    (ask (all (passes Bounds (lastNode bs)) (rows (ints xs))) 4
-    (ask (all (passes Cost (lastNode bs)) (rows (ints xs))) 5
+    (ask (all (passes Ends (lastNodeNumber bs)) (rows (ints xs))) 3
+    (ask (all (passes Bounds (lastNodeNumber bs)) (rows (ints xs))) 4
+    (ask (all (passes Cost (lastNodeNumber bs)) (rows (ints xs))) 5
     (ask (all fairBalance (ints bs)) 6
     0)))))
 

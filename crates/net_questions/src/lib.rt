@@ -6,7 +6,7 @@ ghost use lib.IntN.{pos};
 ghost use Rattle.laws.specs.Tests.{all};
 ghost use Rattle.bytes_read.specs.Words.{ints};
 ghost use Rattle.net_model.specs.Input.{rows};
-ghost use Rattle.net_questions.specs.Questions.{inside, passes, fairBalance, fairNodes, fairArcs, refusal, numberOf};
+ghost use Rattle.net_questions.specs.Questions.{inside, passes, fairBalance, fairNodes, fairArcs, networkRefusal, numberOf};
 ghost use Rattle.net_questions.specs.Arcs.{noArc};
 use net_model::Arc;
 
@@ -133,7 +133,7 @@ fn fair_arcs(bytes: usize) -> bool
 
 // Questions 1 to 6.
 pub fn judge(balances: &[u8], arcs: &[u8]) -> Verdict
-    ensures { λ r. ⌜ numberOf r ≡ refusal (now (balances .entry)) (now (arcs .entry)) ⌝ }
+    ensures { λ r. ⌜ numberOf r ≡ networkRefusal (now (balances .entry)) (now (arcs .entry)) ⌝ }
 {
     if !fair_nodes(balances.len()) {
         return Verdict::NodeCount;

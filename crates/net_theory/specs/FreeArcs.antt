@@ -1,26 +1,24 @@
--- The residual arcs of the arcs marked free: a path over them, a set of nodes that none of them leaves, and arcs that can and that cannot be raised or lowered by way of them.
+-- The residual arcs of the arcs marked free: a walk over them, a set of nodes that none of them leaves, and arcs that can and that cannot be raised or lowered by way of them.
 use mathlib.Core.Path.{_≡_}
 use mathlib.Core.Logic.{_⊎_}
 use mathlib.Core.List.{List}
 use mathlib.Core.Bool.{Bool, true, false, _&&_}
 use Prim.Native.Nat.{ℕ, _+_, _/_, _≤_, _<_}
 use lib.ListN.{getD}
-use Rattle.laws.specs.Members.{Every}
 use Rattle.laws.specs.Ascending.{Distinct}
+use Rattle.laws.specs.Members.{Every}
 use Rattle.net_model.specs.Network.{Net, tail, head, low, up}
-use Rattle.net_model.specs.Residual.{codes, usable, src, dst}
-use Rattle.net_theory.specs.Push.{Trail}
+use Rattle.net_model.specs.Residual.{codes, usable, src, dst, CodeWalk}
 
 -- code c can be used and its arc is free
 abbrev pub goes : Net → List ℕ → List Bool → ℕ → Bool
 goes N f free c = getD free (c / 2) false && usable N f c
 
--- cs, the last code first, leads from s to t over free arcs from `from` on
-pub record Path (N : Net) (f : List ℕ) (free : List Bool) (s t from : ℕ) (cs : List ℕ) : Type 0 where
-  pub trail : Trail N s t cs
+-- cs is a walk from s to t over free arcs from `from` on, and no code stands in it twice
+pub record FreeWalk (N : Net) (f : List ℕ) (free : List Bool) (s t from : ℕ) (cs : List ℕ) : Type 0 where
+  pub walk : CodeWalk N (goes N f free) s t cs
   pub distinct : Distinct cs
   pub low : Every (λ c. from + from ≤ c) cs
-  pub passes : Every (λ c. goes N f free c ≡ true) cs
 
 -- a set of nodes that has s and not t, and that no such code leaves
 pub record Blocked (N : Net) (f : List ℕ) (free : List Bool) (s t from : ℕ) : Type 0 where
@@ -29,12 +27,11 @@ pub record Blocked (N : Net) (f : List ℕ) (free : List Bool) (s t from : ℕ) 
   pub lacks : inside t ≡ false
   pub shut : (c : ℕ) → from + from ≤ c → c < codes N → goes N f free c ≡ true → inside (src N c) ≡ true → inside (dst N c) ≡ true
 
--- codes, the last one first, that lead from s to t over free arcs from `from` on
+-- a walk leads from s to t over free arcs from `from` on
 pub record Reaches (N : Net) (f : List ℕ) (free : List Bool) (s t from : ℕ) : Type 0 where
   pub codes : List ℕ
-  pub trail : Trail N s t codes
+  pub walk : CodeWalk N (goes N f free) s t codes
   pub low : Every (λ c. from + from ≤ c) codes
-  pub passes : Every (λ c. goes N f free c ≡ true) codes
 
 -- arc a is free, and not full, and its head leads to its tail over the free arcs from `from` on
 abbrev pub Raisable : Net → List ℕ → List Bool → ℕ → ℕ → Type 0

@@ -4,13 +4,14 @@ use Prim.Native.Nat.{ℕ}
 use lib.IntN.{ℤ}
 use Rattle.net_model.specs.Network.{Net}
 
+-- the network of the lists that a function is lent, with [] for each that it is not
 abbrev pub netWith : List ℤ → List ℕ → List ℕ → List ℕ → List ℕ → List ℤ → Net
 netWith b t h l u c = record { balances = b; tails = t; heads = h; lows = l; ups = u; costs = c }
 
--- without balances
-abbrev pub costGraph : List ℕ → List ℕ → List ℕ → List ℕ → List ℤ → Net
-costGraph t h l u c = netWith [] t h l u c
+-- N without balances and costs
+abbrev pub bare : Net → Net
+bare N = netWith [] (N .tails) (N .heads) (N .lows) (N .ups) []
 
--- without balances and costs
-abbrev pub graph : List ℕ → List ℕ → List ℕ → List ℕ → Net
-graph t h l u = costGraph t h l u []
+-- N without balances
+abbrev pub costed : Net → Net
+costed N = netWith [] (N .tails) (N .heads) (N .lows) (N .ups) (N .costs)

@@ -6,7 +6,7 @@ use native.Mathlib.Omega.{arith}
 use native.Mathlib.Nat.{sub-self}
 use lib.ListN.{length, length-append, length-drop, drop}
 use lib.Seq.{drop-drop}
-use Rattle.text_read.specs.Reader.{Parsed, fails, reads, Reader, more, upTo, many, Right}
+use Rattle.text_read.specs.Reader.{Parsed, fails, reads, Reader, more, upTo, many, ReadsFront}
 use Rattle.laws.specs.Suffix.{take-rest}
 use Rattle.text_read.proofs.Sequence.{part}
 
@@ -42,7 +42,7 @@ pub lines-none : {A : Type 0} (p : Reader A) (s : List ℕ) → Lines p s [] s
 unfolding before many
 lines-none p s = record { fuel = length s; enough = omega arith; is = refl; shorter = omega arith; part-is = rw sub-self }
 
-module _ {A : Type 0} {p : Reader A} {s : List ℕ} {done : List A} {t : List ℕ} {u : ℕ} {a : A} (d : Lines p s done t) (r : Right t (p t) u a) where
+module _ {A : Type 0} {p : Reader A} {s : List ℕ} {done : List A} {t : List ℕ} {u : ℕ} {a : A} (d : Lines p s done t) (r : ReadsFront t (p t) u a) where
   -- one more line
   pub lines-more : (u ≡ 0 → ⊥) → Lines p s (done ++ (a ∷ [])) (part t u)
   unfolding upTo

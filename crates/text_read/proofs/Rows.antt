@@ -5,12 +5,12 @@ use mathlib.Core.List.{List, [], _∷_}
 use native.Mathlib.Omega.{arith}
 use lib.ListN.{length, drop, getD, set, replicate, length-set, getD-replicate}
 use lib.Seq.{drop-cons, getD-set-same, getD-set-other, drop-set-lt}
-use Rattle.text_read.specs.Reader.{fails, _>>=_, _>>_, give, bytes, text, number, row, Right, RowRead}
+use Rattle.text_read.specs.Reader.{fails, _>>=_, _>>_, give, bytes, text, number, row, ReadsFront, RowRead}
 use Rattle.text_read.proofs.Runs.{absent}
 use Rattle.text_read.proofs.Sequence.{From, begin, mapped}
 
 -- a row of no numbers
-pub row-none : (head s : List ℕ) (n u : ℕ) → n ≡ 0 → Right s (text (bytes ")\n") s) u tt → RowRead s head n u (replicate 4 0)
+pub row-none : (head s : List ℕ) (n u : ℕ) → n ≡ 0 → ReadsFront s (text (bytes ")\n") s) u tt → RowRead s head n u (replicate 4 0)
 unfolding row _>>_
 row-none head s n u e r = record { right = rw e (mapped (text (bytes ")\n")) (λ _. []) s r); before = λ k h. getD-replicate 4 k 0 0 (omega arith); none = λ _. refl }
 

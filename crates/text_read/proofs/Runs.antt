@@ -9,15 +9,15 @@ use native.Mathlib.Nat.{not-suc-le-zero, pow-suc, lt-of-lt-of-le, pow-le-pow-rig
 use lib.ListN.{length, take, drop, getD, drop-of-length-le}
 use lib.Dec.{eqb, leb}
 use borrow.Author.Tests.{eq-eqb, ne-eqb, le-leb, lt-leb, leb-true, leb-false}
-use Rattle.text_read.specs.Reader.{Parsed, fails, reads, after, _>>=_, _>>_, give, guard, begins, text, front, run, digit, plain, valueFrom, number, short, wordByte, word, Right}
+use Rattle.text_read.specs.Reader.{Parsed, fails, reads, thenRead, _>>=_, _>>_, give, guard, begins, text, front, run, digit, plain, valueFrom, number, short, wordByte, word, ReadsFront}
 use Rattle.laws.specs.Tests.{and-true}
 use Rattle.laws.specs.Suffix.{drop-step}
 
 -- a form that is not there, and one that is
-pub absent : {A : Type 0} {s : List ℕ} {p : Parsed A} {a : A} → p ≡ fails → Right s p 0 a
+pub absent : {A : Type 0} {s : List ℕ} {p : Parsed A} {a : A} → p ≡ fails → ReadsFront s p 0 a
 absent e = record { absent = λ _. e; stands = λ z. absurd (z refl); within = omega arith }
 
-pub present : {A : Type 0} {s : List ℕ} {p : Parsed A} {u : ℕ} {a : A} → p ≡ reads a (drop u s) → 0 < u → u ≤ length s → Right s p u a
+pub present : {A : Type 0} {s : List ℕ} {p : Parsed A} {u : ℕ} {a : A} → p ≡ reads a (drop u s) → 0 < u → u ≤ length s → ReadsFront s p u a
 present e h k = record { absent = λ z. absurd (omega arith); stands = λ _. e; within = k }
 
 -- A fixed text.
@@ -44,11 +44,11 @@ begins-within [] s e = omega arith
 begins-within (a ∷ w) [] e = absurd (false≢true e)
 begins-within (a ∷ w) (b ∷ s) e = omega (arith, begins-within w s (and-true (eqb b a) (begins w s) e .1))
 
-pub text-absent : (w s : List ℕ) → begins w s ≡ false → Right s (text w s) 0 tt
+pub text-absent : (w s : List ℕ) → begins w s ≡ false → ReadsFront s (text w s) 0 tt
 unfolding text
 text-absent w s e = absent (rw (text, e))
 
-pub text-present : (w s : List ℕ) (i : ℕ) → begins w s ≡ true → i ≡ length w → 0 < i → Right s (text w s) i tt
+pub text-present : (w s : List ℕ) (i : ℕ) → begins w s ≡ true → i ≡ length w → 0 < i → ReadsFront s (text w s) i tt
 unfolding text
 text-present w s i e q h = present (rw (text, e, q)) h (omega (arith, begins-within w s e))
 
@@ -123,11 +123,11 @@ module _ (ds : List ℕ) where
       go false q = rw (q, ne-eqb (getD ds 0 0) 48 (e (leb-false (length ds) 1 q)))
 
 number-reads : (s : List ℕ) → plain (front digit s) ≡ true → number s ≡ reads (valueFrom 0 (front digit s)) (drop (length (front digit s)) s)
-unfolding number run guard give _>>=_ _>>_ after
+unfolding number run guard give _>>=_ _>>_ thenRead
 number-reads s e = rw e
 
 number-fails : (s : List ℕ) → plain (front digit s) ≡ false → number s ≡ fails
-unfolding number run guard give _>>=_ _>>_ after
+unfolding number run guard give _>>=_ _>>_ thenRead
 number-fails s e = rw e
 
 -- What the loop of `read_number` knows after i digits with the value v.
@@ -156,7 +156,7 @@ module _ {s : List ℕ} {v i : ℕ} (d : Digits s v i) where
   pub digits-room : (i ≡ 7 → ⊥) → v < 1000000
   digits-room n = lt-of-lt-of-le (d .small) (pow-le-pow-right {n = 10} (omega arith) {i = i} {j = 6} (omega (arith, d .few)))
 
-  pub number-long : i < length s → digit (getD s i 0) ≡ true → i ≡ 7 → Right s (number s) 0 0
+  pub number-long : i < length s → digit (getD s i 0) ≡ true → i ≡ 7 → ReadsFront s (number s) 0 0
   number-long h e n = absent (number-fails s (plain-long (front digit s) (omega (arith, passed-longer (d .passed) h e))))
 
   -- the digits end after i of them
@@ -167,10 +167,10 @@ module _ {s : List ℕ} {v i : ℕ} (d : Digits s v i) where
     first : 0 < i → getD (front digit s) 0 0 ≡ getD s 0 0
     first h = front-first digit s (rw count h)
 
-    pub number-zero : 1 < i → getD s 0 0 ≡ 48 → Right s (number s) 0 0
+    pub number-zero : 1 < i → getD s 0 0 ≡ 48 → ReadsFront s (number s) 0 0
     number-zero h z = absent (number-fails s (plain-zero (front digit s) (rw count h) (rw count (d .few)) (first (omega arith) ∙ z)))
 
-    pub number-right : (1 < i → getD s 0 0 ≡ 48 → ⊥) → Right s (number s) i v
+    pub number-right : (1 < i → getD s 0 0 ≡ 48 → ⊥) → ReadsFront s (number s) i v
     unfolding valueFrom
     number-right n =
         record {
@@ -182,21 +182,21 @@ module _ {s : List ℕ} {v i : ℕ} (d : Digits s v i) where
 
 -- A word.
 word-reads : (s : List ℕ) → short (front wordByte s) ≡ true → word s ≡ reads (front wordByte s) (drop (length (front wordByte s)) s)
-unfolding word run guard give _>>=_ _>>_ after
+unfolding word run guard give _>>=_ _>>_ thenRead
 word-reads s e = rw e
 
 word-fails : (s : List ℕ) → short (front wordByte s) ≡ false → word s ≡ fails
-unfolding word run guard give _>>=_ _>>_ after
+unfolding word run guard give _>>=_ _>>_ thenRead
 word-fails s e = rw e
 
 module _ {s : List ℕ} {i : ℕ} (d : Passed wordByte s i) where
-  pub word-long : i < length s → wordByte (getD s i 0) ≡ true → i ≡ 16 → Right s (word s) 0 []
+  pub word-long : i < length s → wordByte (getD s i 0) ≡ true → i ≡ 16 → ReadsFront s (word s) 0 []
   word-long h e n = absent (word-fails s (long (front wordByte s) (omega (arith, passed-longer d h e))))
     where
       long : (w : List ℕ) → 16 < length w → short w ≡ false
       long w h = rw (le-leb 1 (length w) (omega arith), lt-leb (length w) 16 h)
 
-  pub word-right : i ≤ 16 → front wordByte (drop i s) ≡ [] → Right s (word s) i (take i s)
+  pub word-right : i ≤ 16 → front wordByte (drop i s) ≡ [] → ReadsFront s (word s) i (take i s)
   word-right few e =
       record {
         absent = λ z. word-fails s (rw (count, z));

@@ -5,7 +5,7 @@ use mathlib.Core.List.{List}
 use native.Mathlib.Omega.{arith}
 use lib.ListN.{length, length-drop, take, drop}
 use lib.Seq.{drop-drop}
-use Rattle.text_read.specs.Reader.{Parsed, fails, reads, Reader, after, _>>=_, give, remaining, Right}
+use Rattle.text_read.specs.Reader.{Parsed, fails, reads, Reader, thenRead, _>>=_, give, remaining, ReadsFront}
 use Rattle.laws.specs.Suffix.{take-rest}
 use Rattle.text_read.proofs.Runs.{present}
 
@@ -24,11 +24,11 @@ pub record From {A : Type 0} (p : Parsed A) (k : Reader A) (s : List ℕ) (n : �
 
 module _ {A B : Type 0} (q : Reader A) (k : A → Reader B) where
   then-reads : (s : List ℕ) {a : A} {t : List ℕ} → q s ≡ reads a t → (q >>= k) s ≡ k a t
-  unfolding _>>=_ after
+  unfolding _>>=_ thenRead
   then-reads s e = rw e
 
   then-fails : (s : List ℕ) → q s ≡ fails → (q >>= k) s ≡ fails
-  unfolding _>>=_ after
+  unfolding _>>=_ thenRead
   then-fails s e = rw e
 
   module _ {p : Parsed B} {s : List ℕ} {n : ℕ} (f : From p (q >>= k) s n) where
@@ -42,19 +42,19 @@ module _ {A B : Type 0} (q : Reader A) (k : A → Reader B) where
           within = omega (arith, h′, length-drop n s, f .within);
         }
 
-    pub next-right : {a : A} {u : ℕ} → Right (part s n) (q (part s n)) u a → (u ≡ 0 → ⊥) → From p (k a) s (n + u)
+    pub next-right : {a : A} {u : ℕ} → ReadsFront (part s n) (q (part s n)) u a → (u ≡ 0 → ⊥) → From p (k a) s (n + u)
     next-right r z = next (r .stands z) (r .within)
 
     -- it does not stand there
-    pub stops : {a : A} {u : ℕ} → Right (part s n) (q (part s n)) u a → u ≡ 0 → p ≡ fails
+    pub stops : {a : A} {u : ℕ} → ReadsFront (part s n) (q (part s n)) u a → u ≡ 0 → p ≡ fails
     stops r z = f .is ∙ then-fails (drop n s) (rw take-rest at (r .absent z))
     -- the same of the first form
 
   module _ {p : Parsed B} {s : List ℕ} (f : From p (q >>= k) s 0) where
-    pub first : {a : A} {u : ℕ} → Right s (q s) u a → (u ≡ 0 → ⊥) → From p (k a) s u
+    pub first : {a : A} {u : ℕ} → ReadsFront s (q s) u a → (u ≡ 0 → ⊥) → From p (k a) s u
     first r z = record { is = f .is ∙ then-reads s (r .stands z); within = r .within }
 
-    pub first-stops : {a : A} {u : ℕ} → Right s (q s) u a → u ≡ 0 → p ≡ fails
+    pub first-stops : {a : A} {u : ℕ} → ReadsFront s (q s) u a → u ≡ 0 → p ≡ fails
     first-stops r z = f .is ∙ then-fails s (r .absent z)
 
 -- how many bytes are left
@@ -63,13 +63,13 @@ unfolding remaining
 skip k {s = s} {n = n} f = record { is = f .is ∙ then-reads remaining k (drop n s) refl ∙ rw length-drop; within = f .within }
 
 -- a form whose value is taken over
-pub mapped : {A B : Type 0} (q : Reader A) (f : A → B) (s : List ℕ) {u : ℕ} {a : A} → Right s (q s) u a → Right s ((q >>= (λ x. give (f x))) s) u (f a)
+pub mapped : {A B : Type 0} (q : Reader A) (f : A → B) (s : List ℕ) {u : ℕ} {a : A} → ReadsFront s (q s) u a → ReadsFront s ((q >>= (λ x. give (f x))) s) u (f a)
 unfolding give
 mapped q f s r =
     record { absent = λ z. then-fails q (λ x. give (f x)) s (r .absent z); stands = λ z. then-reads q (λ x. give (f x)) s (r .stands z); within = r .within }
 
 -- all is read
-pub ends : {A : Type 0} {a : A} {p : Parsed A} {s : List ℕ} {n : ℕ} → From p (give a) s n → 0 < n → Right s p n a
+pub ends : {A : Type 0} {a : A} {p : Parsed A} {s : List ℕ} {n : ℕ} → From p (give a) s n → 0 < n → ReadsFront s p n a
 unfolding give
 ends f h = present (f .is) h (f .within)
 

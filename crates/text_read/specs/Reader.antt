@@ -16,15 +16,15 @@ pub data Parsed (A : Type 0) : Type 0 where
 abbrev pub Reader : Type 0 → Type 0
 Reader A = List ℕ → Parsed A
 
-unfoldable pub after : {A B : Type 0} → Parsed A → (A → Reader B) → Parsed B
-after fails k = fails
-after (reads a s) k = k a s
+unfoldable pub thenRead : {A B : Type 0} → Parsed A → (A → Reader B) → Parsed B
+thenRead fails k = fails
+thenRead (reads a s) k = k a s
 
 infixl 20 _>>=_ _>>_
 -- "Each form is read from the rest of the book that follows the form before it."
 unfoldable pub _>>=_ : {A B : Type 0} → Reader A → (A → Reader B) → Reader B
-unfolding after
-_>>=_ p k s = after (p s) k
+unfolding thenRead
+_>>=_ p k s = thenRead (p s) k
 
 unfoldable pub _>>_ : {A B : Type 0} → Reader A → Reader B → Reader B
 _>>_ p q = p >>= (λ _. q)
@@ -126,7 +126,7 @@ unfoldable pub many : {A : Type 0} → Reader A → Reader (List A)
 many p s = upTo (length s) p s
 
 -- What a function answers that reads at the front of s, where p is what stands there: the bytes used, 0 if it is not there, and its value.
-pub record Right {A : Type 0} (s : List ℕ) (p : Parsed A) (used : ℕ) (a : A) : Type 0 where
+pub record ReadsFront {A : Type 0} (s : List ℕ) (p : Parsed A) (used : ℕ) (a : A) : Type 0 where
   pub absent : used ≡ 0 → p ≡ fails
   pub stands : (used ≡ 0 → ⊥) → p ≡ reads a (drop used s)
   pub within : used ≤ length s
@@ -134,6 +134,6 @@ pub record Right {A : Type 0} (s : List ℕ) (p : Parsed A) (used : ℕ) (a : A)
 -- What is answered of a row of n numbers, at most 4: they are the last n of four, and the numbers before them are 0; all four are 0 where
 -- there is no such row.
 pub record RowRead (s head : List ℕ) (n used : ℕ) (numbers : List ℕ) : Type 0 where
-  pub right : Right s (row head n s) used (drop (4 - n) numbers)
+  pub right : ReadsFront s (row head n s) used (drop (4 - n) numbers)
   pub before : (k : ℕ) → k < 4 - n → getD numbers k 0 ≡ 0
   pub none : used ≡ 0 → numbers ≡ replicate 4 0

@@ -2,7 +2,7 @@
 ghost use Prim.Native.Nat.{_<_, _≤_};
 ghost use mathlib.Core.Path.{_≡_};
 ghost use lib.ListN.{length, take};
-ghost use Rattle.text_read.specs.Reader.{digit, wordByte, text, number, word, Right, RowRead};
+ghost use Rattle.text_read.specs.Reader.{digit, wordByte, text, number, word, ReadsFront, RowRead};
 
 pub struct Number {
     pub value: u32,
@@ -18,7 +18,7 @@ pub struct Row {
 // The bytes of `head`.
 pub fn read_text(rest: &[u8], head: &[u8]) -> usize
     requires { ⌜ 0 < length (now head) ⌝ }
-    ensures { λ r. ⌜ Right (now (rest .entry)) (text (now (head .entry)) (now (rest .entry))) r tt ⌝ }
+    ensures { λ r. ⌜ ReadsFront (now (rest .entry)) (text (now (head .entry)) (now (rest .entry))) r tt ⌝ }
 {
     let mut i = 0;
     while i < head.len() {
@@ -47,7 +47,7 @@ fn is_word_byte(b: u8) -> bool
 
 // A number of 1 to 7 digits without a needless leading 0.
 fn read_number(rest: &[u8]) -> Number
-    ensures { λ r. ⌜ Right (now (rest .entry)) (number (now (rest .entry))) (r .used) (r .value) ⌝ }
+    ensures { λ r. ⌜ ReadsFront (now (rest .entry)) (number (now (rest .entry))) (r .used) (r .value) ⌝ }
 {
     let mut value: u32 = 0;
     let mut i: usize = 0;
@@ -72,7 +72,7 @@ fn read_number(rest: &[u8]) -> Number
 
 // A word of 1 to 16 letters and digits.
 pub fn read_word(rest: &[u8]) -> usize
-    ensures { λ r. ⌜ Right (now (rest .entry)) (word (now (rest .entry))) r (take r (now (rest .entry))) ⌝ }
+    ensures { λ r. ⌜ ReadsFront (now (rest .entry)) (word (now (rest .entry))) r (take r (now (rest .entry))) ⌝ }
 {
     let mut i: usize = 0;
     while i < rest.len() {

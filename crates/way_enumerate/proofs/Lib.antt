@@ -1,2 +1,2 @@
 mod Reading
-pub mod Walking
+pub mod Enumerating

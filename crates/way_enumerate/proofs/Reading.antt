@@ -18,7 +18,7 @@ use Rattle.way_theory.proofs.FullWays.{full-way}
 use Rattle.way_theory.proofs.WayBack.{way-back}
 use Rattle.way_theory.proofs.Matched.{way-cost, flow-back}
 use Rattle.way_theory.proofs.LineByLine.{first-matched, after-matched}
-use Rattle.way_enumerate.specs.WayWalk.{costShown}
+use Rattle.way_enumerate.specs.WayEnumerator.{wayItemCost}
 
 -- the member after another
 after-member : (v : List ℕ) (l : List (List ℕ)) (w : List ℕ) → after same-list (λ x. x) v l ≡ some w → w ∈ l
@@ -38,7 +38,7 @@ module _ (b : Book) where
   pub first-read : mapOption (wayOf b) (firstFlow (bookNet b)) ≡ firstWay b
   first-read = ap (mapOption (wayOf b)) (first-matched b) ∙ back (firstWay b) (first-member (fullWays b))
 
-  -- a line is the flow of the way that is read off it
+  -- an item is the flow of the way that is read off it
   module _ (f : List ℕ) (least : LeastCost (bookNet b) f) where
     pub next-read : mapOption (wayOf b) (nextFlow (bookNet b) f) ≡ nextWay b (wayOf b f)
     next-read =
@@ -47,5 +47,5 @@ module _ (b : Book) where
         ∙ ap (mapOption (wayOf b)) (after-matched b (wayOf b f) way)
         ∙ back (nextWay b (wayOf b f)) (after-member (wayOf b f) (fullWays b))
 
-    pub cost-read : costOf (bookNet b) f ≡ costShown b (some (wayOf b f))
+    pub cost-read : costOf (bookNet b) f ≡ wayItemCost b (some (wayOf b f))
     cost-read = let (way, is) = flow-back b f (least .flow) in ap (costOf (bookNet b)) (sym is) ∙ way-cost b (wayOf b f) way

@@ -1,1 +1,1 @@
-pub mod WayWalk
+pub mod WayEnumerator

@@ -16,14 +16,14 @@ use Rattle.way_theory.specs.BookNet.{bookNet}
 use Rattle.way_theory.specs.WayFlow.{flowOf, wayOf}
 use Rattle.way_theory.proofs.Matched.{flow-back}
 use Rattle.way_theory.proofs.Given.{given-least}
-use Rattle.way_flow.specs.Arcs.{Ends, ReadsWay, LaysFlow}
+use Rattle.way_flow.specs.Arcs.{ArcEnds, ReadsWay, LaysFlow}
 use Rattle.way_flow.proofs.Laying.{flow-long}
 
 -- the ends of a struct that holds the book's network
-pub ends-of : (b : Book) → WithinLimits b → (r : Network) → netIn r ≡ bookNet b → Ends b (size b) (take (r .arcs) (r .tails)) (take (r .arcs) (r .heads))
+pub ends-of : (b : Book) → WithinLimits b → (r : Network) → netIn r ≡ bookNet b → ArcEnds b (size b) (take (r .arcs) (r .tails)) (take (r .arcs) (r .heads))
 ends-of b ok r e = record { limits = ok; entries-are = refl; tails-are = ap (λ (N : Net). N .tails) e; heads-are = ap (λ (N : Net). N .heads) e }
 
-module _ (b : Book) (e : ℕ) (tails heads : List ℕ) (h : Ends b e tails heads) where
+module _ (b : Book) (e : ℕ) (tails heads : List ℕ) (h : ArcEnds b e tails heads) where
   pub reads-flow : (flow way : List ℕ) → ReadsWay e tails heads flow way → IsFlow (bookNet b) flow → way ≡ padded 28 0 (wayOf b flow)
   reads-flow flow way r f = let (w, q) = flow-back b flow f in r .each b h (wayOf b flow) w (sym q)
 

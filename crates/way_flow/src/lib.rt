@@ -5,7 +5,7 @@ ghost use Prim.Native.Nat.{_-_, _/_, _≤_, _<_};
 ghost use lib.Dec.{eqb};
 ghost use lib.ListN.{length, set};
 ghost use Rattle.way_theory.specs.Ways.{times};
-ghost use Rattle.way_theory.specs.WayFlow.{hit};
+ghost use Rattle.way_theory.specs.WayFlow.{oneIfSame};
 ghost use Rattle.way_flow.specs.Arcs.{HasEnds, HasFlow, ReadsWay, FlowAt, LaysFlow};
 
 // An arc that carries 1 from node t to node h, noted in the way: entry (h + 1) / 2 has predecessor t / 2.
@@ -32,8 +32,8 @@ pub fn way_of(e: usize, tails: &[u8], heads: &[u8], flow: &[u32]) -> [u32; 28]
 }
 
 // 1 where the two numbers are one.
-fn hit(a: u32, b: u32) -> u32
-    ensures { λ r. ⌜ r ≡ hit a b ⌝ }
+fn one_if_same(a: u32, b: u32) -> u32
+    ensures { λ r. ⌜ r ≡ oneIfSame a b ⌝ }
 {
     if a == b { 1 } else { 0 }
 }
@@ -45,7 +45,7 @@ fn times(way: &[u32], i: u32) -> u32
 {
     let mut n = 0u32;
     for k in 0..way.len() {
-        n += hit(way[k], i);
+        n += one_if_same(way[k], i);
     }
     n
 }
@@ -72,7 +72,7 @@ fn flow_at<'a>(
     let joins = tails.len() - (2 * e + 1);
     if k < joins {
         let j = ((heads[k] - 1) / 2) as usize;
-        return hit((tails[k] / 2) as u32, way[j]);
+        return one_if_same((tails[k] / 2) as u32, way[j]);
     }
     let row = k - joins;
     if row < e {

@@ -19,7 +19,7 @@ use Rattle.book_lines.proofs.Table.{fair-parts, table-at}
 use Rattle.book_form.specs.Book.{Book}
 use Rattle.book_form.proofs.Judging.{column-at}
 use Rattle.way_theory.specs.Follow.{size, entryAt, stay, link, inTime}
-use Rattle.way_theory.specs.Ways.{offer}
+use Rattle.way_theory.specs.Ways.{predecessorCost}
 use Rattle.way_theory.proofs.Fair.{FairEntry, fair-entry}
 use Rattle.way_joins.specs.declared.Join.the-variants.{No, At}
 use Rattle.way_joins.specs.Tables.{Tables, HasTables}
@@ -114,27 +114,27 @@ module _ (b : Book) (fee e : ℕ) (ticks costs instruments starts finishes : Lis
     pub ticks-small : getD ticks ((p - 1) * 16 + (q - 1)) 0 ≤ 1000001
     ticks-small = rw ticks-at (valueOf-high (λ m. m .ticks + 1) 1000001 (moveOf (b .moves) p q) (λ m e. (let h = fair-parts m (T .limits .fair-moves p q m e) .ticks-high in omega arith)))
 
-  pub join-opening : (i j : ℕ) → i ≡ 0 → At fee ≡ joinOf (offer b i j)
+  pub join-opening : (i j : ℕ) → i ≡ 0 → At fee ≡ joinOf (predecessorCost b i j)
   join-opening i j z = rw z (ap At (T .fee-is))
 
   -- the join from i to j
   module _ (i j : ℕ) (i-low : 1 ≤ i) (i-high : i ≤ size b) (j-low : 1 ≤ j) (j-high : j ≤ size b) where
-    offer-apart : ¬ (i ≡ j) → offer b i j ≡ inTime (link (b .moves) (entryAt b i .instrument) (entryAt b j .instrument)) (entryAt b i .finish) (entryAt b j .start)
-    offer-apart = go i i-low
+    predecessor-cost-apart : ¬ (i ≡ j) → predecessorCost b i j ≡ inTime (link (b .moves) (entryAt b i .instrument) (entryAt b j .instrument)) (entryAt b i .finish) (entryAt b j .start)
+    predecessor-cost-apart = go i i-low
       where
-        go : (i : ℕ) → 1 ≤ i → ¬ (i ≡ j) → offer b i j ≡ inTime (link (b .moves) (entryAt b i .instrument) (entryAt b j .instrument)) (entryAt b i .finish) (entryAt b j .start)
+        go : (i : ℕ) → 1 ≤ i → ¬ (i ≡ j) → predecessorCost b i j ≡ inTime (link (b .moves) (entryAt b i .instrument) (entryAt b j .instrument)) (entryAt b i .finish) (entryAt b j .start)
         go zero h n = absurd (omega arith)
         go (suc i) h n = rw (ne-eqb (suc i) j n)
 
-    pub join-self : i ≡ j → No ≡ joinOf (offer b i j)
+    pub join-self : i ≡ j → No ≡ joinOf (predecessorCost b i j)
     join-self = go i i-low
       where
-        go : (i : ℕ) → 1 ≤ i → i ≡ j → No ≡ joinOf (offer b i j)
+        go : (i : ℕ) → 1 ≤ i → i ≡ j → No ≡ joinOf (predecessorCost b i j)
         go zero h e = absurd (omega arith)
         go (suc i) h e = rw (eq-eqb (suc i) j e)
 
     pub join-told : ¬ (i ≡ j) → (p q : ℕ) → p ≡ getD instruments (i - 1) 0 → q ≡ getD instruments (j - 1) 0
-        → joinOf (inTime (linkBy p q (getD ticks ((p - 1) * 16 + (q - 1)) 0) (getD costs ((p - 1) * 16 + (q - 1)) 0)) (getD finishes (i - 1) 0) (getD starts (j - 1) 0)) ≡ joinOf (offer b i j)
+        → joinOf (inTime (linkBy p q (getD ticks ((p - 1) * 16 + (q - 1)) 0) (getD costs ((p - 1) * 16 + (q - 1)) 0)) (getD finishes (i - 1) 0) (getD starts (j - 1) 0)) ≡ joinOf (predecessorCost b i j)
     join-told n p q w f =
         let u = w ∙ instrument-at i i-low i-high in
         let v = f ∙ instrument-at j j-low j-high in
@@ -145,7 +145,7 @@ module _ (b : Book) (fee e : ℕ) (ticks costs instruments starts finishes : Lis
           costs-at p q (rw u (g .instrument-low)) (rw u (g .instrument-high)) (rw v (h .instrument-low)) (rw v (h .instrument-high)),
           finish-at i i-low i-high,
           start-at j j-low j-high,
-          offer-apart n,
+          predecessor-cost-apart n,
           u,
           v,
         )

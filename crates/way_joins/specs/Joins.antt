@@ -8,7 +8,7 @@ use lib.Dec.{eqb}
 use Rattle.book_lines.specs.declared.moves.Move.{Move}
 use Rattle.book_form.specs.Book.{Book}
 use Rattle.way_theory.specs.Follow.{stay}
-use Rattle.way_theory.specs.Ways.{offer}
+use Rattle.way_theory.specs.Ways.{predecessorCost}
 use Rattle.way_joins.specs.declared.Join.{Join}
 use Rattle.way_joins.specs.declared.Join.the-variants.{No, At}
 use Rattle.way_joins.specs.Tables.{Tables}
@@ -27,4 +27,4 @@ linkBy a b t c = cond (eqb a b) (some stay) (moveBy t c)
 
 -- the join from i to j, or the opening of j where i is 0, of each book that the tables hold
 pub record Joins (fee e : ℕ) (ticks costs instruments starts finishes : List ℕ) (i j : ℕ) (r : Join) : Type 0 where
-  pub each : (b : Book) → Tables b fee e ticks costs instruments starts finishes → r ≡ joinOf (offer b i j)
+  pub each : (b : Book) → Tables b fee e ticks costs instruments starts finishes → r ≡ joinOf (predecessorCost b i j)

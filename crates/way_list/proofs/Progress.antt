@@ -1,4 +1,4 @@
--- How far a listing is: the ways before are written, and the walk stands on the first of those that are left.
+-- How far a listing is: the ways before are written, and the enumerator stands on the first of those that are left.
 use mathlib.Core.Path.{_≡_, refl, sym, ap, subst, _∙_}
 use mathlib.Core.List.{List, [], _∷_, _++_, append-assoc, append-nil}
 use mathlib.Core.Option.{Option, none, some}
@@ -7,9 +7,9 @@ use native.Mathlib.Omega.{arith}
 use lib.ListN.{length, take, length-append}
 use lib.Seq.{take-at, take-all}
 use borrow.Author.Tests.{le-leb, lt-leb}
-use Rattle.laws.specs.After.{Apart}
+use Rattle.laws.specs.After.{Apart, after-in, one-on}
 use Rattle.laws.specs.Ascending.{ascending-apart}
-use Rattle.laws.specs.Count.{counted, after-in, one-on}
+use Rattle.laws.specs.Count.{counted}
 use Rattle.laws.specs.Equality.{same-list}
 use Rattle.laws.specs.Lexicographic.{_<lex_, lex-irrefl, lex-trans}
 use Rattle.laws.specs.Members.{first?, none-some}
@@ -55,7 +55,7 @@ module _ (b : Book) (before : List ℕ) (at : ℕ) (out : List ℕ) (k n : ℕ) 
           record {
             done = p .done ++ (w ∷ []);
             left = l;
-            whole = one-on same-list (λ x. x) (fullWays b) (apart b) (p .done) l w e′;
+            whole = one-on (fullWays b) (p .done) l w e′;
             count = omega (arith, length-append (p .done) (w ∷ []), p .count);
             stands = after-in same-list (λ x. x) (fullWays b) (apart b) (p .done) l w e′;
             written = subst (λ (t : List ℕ). Appended before at t out′ k′) (sym (lines-more (p .done) w)) (appended-then (p .written) a);

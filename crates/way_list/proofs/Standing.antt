@@ -1,4 +1,4 @@
--- The way that a walk stands on: which it is, and how long its line is.
+-- The way that an enumerator stands on: which it is, and how long its line is.
 use mathlib.Core.Path.{_≡_, sym, ap, subst, _∙_}
 use mathlib.Core.List.{List}
 use mathlib.Core.Option.{none, some}
@@ -8,8 +8,8 @@ use lib.ListN.{length, take}
 use Rattle.laws.specs.Image.{mapOption}
 use Rattle.laws.specs.Members.{every-map}
 use Rattle.laws.specs.Padded.{take-padded}
-use Rattle.flow_enumerate.specs.Enumerator.{flowIn, lineAt}
-use Rattle.flow_enumerate.specs.declared.Place.the-variants.{Line}
+use Rattle.flow_enumerate.specs.Enumerator.{stateFlow, itemAt}
+use Rattle.flow_enumerate.specs.declared.Place.the-variants.{Item}
 use Rattle.flow_enumerate.proofs.Steps.{NoLine}
 use Rattle.text_write.specs.Appended.{Appended}
 use Rattle.text_write.specs.Lines.{wayLine}
@@ -20,42 +20,42 @@ use Rattle.way_theory.specs.Ways.{IsWay}
 use Rattle.way_theory.specs.WayFlow.{wayOf}
 use Rattle.way_theory.proofs.Laid.{joined-small}
 use Rattle.way_theory.proofs.Matched.{flow-back}
-use Rattle.way_enumerate.specs.WayWalk.{Walks, wayAt, Tells}
-use Rattle.way_enumerate.specs.declared.WayWalk.{WayWalk}
-use Rattle.way_enumerate.proofs.Walking.{on-flow}
+use Rattle.way_enumerate.specs.WayEnumerator.{Enumerates, wayAt, Tells}
+use Rattle.way_enumerate.specs.declared.WayEnumerator.{WayEnumerator}
+use Rattle.way_enumerate.proofs.Enumerating.{on-flow}
 use Rattle.way_list.specs.WayListing.{ListsOne}
 
-abbrev pub shown : Book → WayWalk → List ℕ
-shown b s = wayOf b (flowIn (s .walk))
+abbrev pub shown : Book → WayEnumerator → List ℕ
+shown b s = wayOf b (stateFlow (s .flows))
 
-pub off-way : (b : Book) (s : WayWalk) → NoLine (s .walk .place) → wayAt b s ≡ none
-off-way b s h = ap (mapOption (wayOf b)) (h (flowIn (s .walk)))
+pub off-way : (b : Book) (s : WayEnumerator) → NoLine (s .flows .place) → wayAt b s ≡ none
+off-way b s h = ap (mapOption (wayOf b)) (h (stateFlow (s .flows)))
 
-module _ (b : Book) (s : WayWalk) (on : s .walk .place ≡ Line) where
+module _ (b : Book) (s : WayEnumerator) (on : s .flows .place ≡ Item) where
   pub on-way : wayAt b s ≡ some (shown b s)
-  on-way = ap (λ p. mapOption (wayOf b) (lineAt p (flowIn (s .walk)))) on
+  on-way = ap (λ p. mapOption (wayOf b) (itemAt p (stateFlow (s .flows)))) on
 
-  module _ (walks : Walks b s) where
+  module _ (enumerates : Enumerates b s) where
     is-way : IsWay b (shown b s)
-    is-way = flow-back b (flowIn (s .walk)) (on-flow b s walks on) .0
+    is-way = flow-back b (stateFlow (s .flows)) (on-flow b s enumerates on) .0
 
     pub shown-few : length (shown b s) ≤ 28
-    shown-few = omega (arith, is-way .all-entries, walks .limits .few)
+    shown-few = omega (arith, is-way .all-entries, enumerates .limits .few)
 
     pub line-short : length (wayLine (shown b s)) ≤ 90
     line-short =
         way-size (shown b s) shown-few
-        (every-map (λ p. p ≤ size b) (λ p. p ≤ 28) (shown b s) (λ p h. omega (arith, walks .limits .few)) (joined-small b 1 (shown b s) (is-way .joined)))
+        (every-map (λ p. p ≤ size b) (λ p. p ≤ 28) (shown b s) (λ p h. omega (arith, enumerates .limits .few)) (joined-small b 1 (shown b s) (is-way .joined)))
 
     pub told : (r : List ℕ) → Tells s r → take (s .entries) r ≡ shown b s
     told r t =
-        ap (λ k. take k r) (walks .entries-are ∙ sym (is-way .all-entries))
-        ∙ ap (take (length (shown b s))) (t .each b walks (shown b s) on-way)
+        ap (λ k. take k r) (enumerates .entries-are ∙ sym (is-way .all-entries))
+        ∙ ap (take (length (shown b s))) (t .each b enumerates (shown b s) on-way)
         ∙ take-padded 28 0 (shown b s)
 
-pub lists-one : (s : WayWalk) → s .walk .place ≡ Line → (r : List ℕ) → Tells s r → (before : List ℕ) (at : ℕ) (after : List ℕ) (k : ℕ) → Appended before at (wayLine (take (s .entries) r)) after k
+pub lists-one : (s : WayEnumerator) → s .flows .place ≡ Item → (r : List ℕ) → Tells s r → (before : List ℕ) (at : ℕ) (after : List ℕ) (k : ℕ) → Appended before at (wayLine (take (s .entries) r)) after k
     → ListsOne s before at after k
-lists-one s on r t before at after k a = record { each = λ b walks w e. subst (λ (v : List ℕ). Appended before at (wayLine v) after k) (same b walks w e) a }
+lists-one s on r t before at after k a = record { each = λ b enumerates w e. subst (λ (v : List ℕ). Appended before at (wayLine v) after k) (same b enumerates w e) a }
   where
-    same : (b : Book) → Walks b s → (w : List ℕ) → wayAt b s ≡ some w → take (s .entries) r ≡ w
-    same b walks w e = let q : some (shown b s) ≡ some w = sym (on-way b s on) ∙ e in told b s on walks r t ∙ cc
+    same : (b : Book) → Enumerates b s → (w : List ℕ) → wayAt b s ≡ some w → take (s .entries) r ≡ w
+    same b enumerates w e = let q : some (shown b s) ≡ some w = sym (on-way b s on) ∙ e in told b s on enumerates r t ∙ cc

@@ -8,19 +8,19 @@ use lib.ListN.{length, take}
 use lib.IntN.{pos}
 use Rattle.laws.specs.Count.{counted}
 use Rattle.laws.specs.Members.{first?, none-some}
-use Rattle.flow_enumerate.specs.declared.Place.the-variants.{Line}
+use Rattle.flow_enumerate.specs.declared.Place.the-variants.{Item}
 use Rattle.text_write.specs.Lines.{costLine}
 use Rattle.book_form.specs.Book.{Book}
 use Rattle.book_form.specs.WithinLimits.{WithinLimits}
 use Rattle.way_theory.specs.Ways.{wayCost}
 use Rattle.way_theory.specs.FullWays.{fullWays, firstWay}
-use Rattle.way_theory.specs.BookNet.{price}
+use Rattle.way_theory.specs.BookNet.{arcCost}
 use Rattle.way_theory.proofs.Blocks.{along}
-use Rattle.way_theory.proofs.Matched.{price-sum}
-use Rattle.way_theory.proofs.Accepted.{price-small}
-use Rattle.way_enumerate.specs.WayWalk.{Walks, costShown}
-use Rattle.way_enumerate.specs.declared.WayWalk.{WayWalk}
-use Rattle.way_enumerate.proofs.Walking.{cost-held}
+use Rattle.way_theory.proofs.Matched.{arc-cost-sum}
+use Rattle.way_theory.proofs.Accepted.{arc-cost-small}
+use Rattle.way_enumerate.specs.WayEnumerator.{Enumerates, wayItemCost}
+use Rattle.way_enumerate.specs.declared.WayEnumerator.{WayEnumerator}
+use Rattle.way_enumerate.proofs.Enumerating.{cost-held}
 use Rattle.way_list.specs.WayListing.{wayLines, lastLine, listWays, waysText}
 use Rattle.way_list.proofs.Progress.{allLines}
 use Rattle.way_list.proofs.Standing.{shown, on-way, shown-few}
@@ -38,11 +38,11 @@ along-most f h j [] = omega arith
 along-most f h j (p ∷ w) = omega (arith, h p j, along-most f h (suc j) w)
 
 cost-small : (b : Book) → WithinLimits b → (w : List ℕ) → length w ≤ 28 → wayCost b w ≤ 28000000
-cost-small b ok w h = omega (arith, price-sum b 1 w, along-most (λ p k. price b p k) (price-small b ok) 1 w)
+cost-small b ok w h = omega (arith, arc-cost-sum b 1 w, along-most (λ p k. arcCost b p k) (arc-cost-small b ok) 1 w)
 
-module _ (b : Book) (s : WayWalk) (on : s .walk .place ≡ Line) (walks : Walks b s) where
-  pub cost-is : s .walk .cost ≡ pos (wayCost b (shown b s))
-  cost-is = cost-held b s walks ∙ ap (costShown b) (on-way b s on)
+module _ (b : Book) (s : WayEnumerator) (on : s .flows .place ≡ Item) (enumerates : Enumerates b s) where
+  pub cost-is : s .flows .cost ≡ pos (wayCost b (shown b s))
+  cost-is = cost-held b s enumerates ∙ ap (wayItemCost b) (on-way b s on)
 
   pub cost-few : wayCost b (shown b s) ≤ 28000000
-  cost-few = cost-small b (walks .limits) (shown b s) (shown-few b s on walks)
+  cost-few = cost-small b (enumerates .limits) (shown b s) (shown-few b s on enumerates)

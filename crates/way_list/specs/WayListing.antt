@@ -10,9 +10,9 @@ use Rattle.text_write.specs.Lines.{costLine, wayLine, endLine, moreLine, noneLi
 use Rattle.book_form.specs.Book.{Book}
 use Rattle.way_theory.specs.Ways.{wayCost}
 use Rattle.way_theory.specs.FullWays.{fullWays, firstWay}
-use Rattle.flow_enumerate.specs.declared.Place.the-variants.{Line}
-use Rattle.way_enumerate.specs.WayWalk.{Walks, wayAt}
-use Rattle.way_enumerate.specs.declared.WayWalk.{WayWalk}
+use Rattle.flow_enumerate.specs.declared.Place.the-variants.{Item}
+use Rattle.way_enumerate.specs.WayEnumerator.{Enumerates, wayAt}
+use Rattle.way_enumerate.specs.declared.WayEnumerator.{WayEnumerator}
 
 -- "`(way ..)` with the E predecessors for each way"
 abbrev pub wayLines : List (List ℕ) → List ℕ
@@ -33,21 +33,21 @@ listWays cost (w ∷ l) = costLine (cost w) ++ (wayLines (take 1000 (w ∷ l)) +
 abbrev pub waysText : Book → List ℕ
 waysText b = listWays (wayCost b) (fullWays b)
 
--- a walk that stands on the first way of a book
-pub record OnFirst (s : WayWalk) : Type 0 where
+-- an enumerator that stands on the first way of a book
+pub record OnFirst (s : WayEnumerator) : Type 0 where
   pub book : Book
-  pub walks : Walks book s
+  pub enumerates : Enumerates book s
   pub first : wayAt book s ≡ firstWay book
-  pub on : s .walk .place ≡ Line
+  pub on : s .flows .place ≡ Item
 
--- what the functions write, of each book that is walked: the line of the way that the walk stands on
-pub record ListsOne (s : WayWalk) (before : List ℕ) (at : ℕ) (after : List ℕ) (r : ℕ) : Type 0 where
-  pub each : (b : Book) → Walks b s → (w : List ℕ) → wayAt b s ≡ some w → Appended before at (wayLine w) after r
+-- what the functions write, of each book that is walked: the line of the way that the enumerator stands on
+pub record ListsOne (s : WayEnumerator) (before : List ℕ) (at : ℕ) (after : List ℕ) (r : ℕ) : Type 0 where
+  pub each : (b : Book) → Enumerates b s → (w : List ℕ) → wayAt b s ≡ some w → Appended before at (wayLine w) after r
 
--- all lines after `(cost C)`, of a walk that stands on the first way
-pub record ListsFrom (s : WayWalk) (before : List ℕ) (at : ℕ) (after : List ℕ) (r : ℕ) : Type 0 where
-  pub each : (b : Book) → Walks b s → wayAt b s ≡ firstWay b → Appended before at (wayLines (take 1000 (fullWays b)) ++ lastLine (counted 1000 (length (fullWays b)))) after r
+-- all lines after `(cost C)`, of an enumerator that stands on the first way
+pub record ListsFrom (s : WayEnumerator) (before : List ℕ) (at : ℕ) (after : List ℕ) (r : ℕ) : Type 0 where
+  pub each : (b : Book) → Enumerates b s → wayAt b s ≡ firstWay b → Appended before at (wayLines (take 1000 (fullWays b)) ++ lastLine (counted 1000 (length (fullWays b)))) after r
 
--- the whole text, of a walk that stands on the first way
-pub record Lists (s : WayWalk) (before after : List ℕ) (r : ℕ) : Type 0 where
-  pub each : (b : Book) → Walks b s → wayAt b s ≡ firstWay b → Appended before 0 (waysText b) after r
+-- the whole text, of an enumerator that stands on the first way
+pub record Lists (s : WayEnumerator) (before after : List ℕ) (r : ℕ) : Type 0 where
+  pub each : (b : Book) → Enumerates b s → wayAt b s ≡ firstWay b → Appended before 0 (waysText b) after r

@@ -9,7 +9,7 @@ use Rattle.laws.specs.Rows.{row-length}
 use Rattle.book_form.specs.Book.{Book}
 use Rattle.way_theory.specs.Follow.{size}
 use Rattle.way_theory.specs.FullWays.{numbers}
-use Rattle.way_theory.specs.BookNet.{Arc, sources, joinArc, joinArcs, entryArc, endArc, lastArc, bookArcs}
+use Rattle.way_theory.specs.BookNet.{BookArc, sources, joinArc, joinArcs, entryArc, endArc, lastArc, bookArcs}
 use Rattle.way_theory.proofs.Rows.{rows-length}
 use Rattle.way_network.proofs.Padding.{padded-set, padded-more}
 
@@ -28,15 +28,15 @@ module _ (first : ℕ) where
       ∙ ap (padded 512 0) (append-assoc (replicate first 0) (replicate k 1) (1 ∷ []) ∙ ap (λ t. replicate first 0 ++ t) (replicate-append-replicate k 1 1))
 
 -- f is d of every arc of l
-module _ (f : Arc → ℕ) (d : ℕ) where
-  abbrev Same : List Arc → Type 0
+module _ (f : BookArc → ℕ) (d : ℕ) where
+  abbrev Same : List BookArc → Type 0
   Same l = map f l ≡ replicate (length l) d
 
-  same-row : (g : ℕ → Arc) → ((i : ℕ) → f (g i) ≡ d) → (l : List ℕ) → Same (map g l)
+  same-row : (g : ℕ → BookArc) → ((i : ℕ) → f (g i) ≡ d) → (l : List ℕ) → Same (map g l)
   same-row g e [] = refl
   same-row g e (i ∷ l) = ap₂ (λ a t. a ∷ t) (e i) (same-row g e l)
 
-  same-append : (k l : List Arc) → Same k → Same l → Same (k ++ l)
+  same-append : (k l : List BookArc) → Same k → Same l → Same (k ++ l)
   same-append k l p q =
       map-append f k l ∙ ap₂ _++_ p q ∙ replicate-append-replicate (length k) (length l) d ∙ ap (λ n. replicate n d) (sym (length-append k l))
 
@@ -45,16 +45,16 @@ module _ (f : Arc → ℕ) (d : ℕ) where
   same-joins b e (suc n) j = same-append (map (joinArc b j) (sources b j)) (joinArcs b n (suc j)) (same-row (joinArc b j) (λ i. e i j) (sources b j)) (same-joins b e n (suc j))
 
 module _ (b : Book) (m e : ℕ) (n : e ≡ size b) (all : m + e + e + 1 ≡ length (bookArcs b)) where
-  abbrev joins : List Arc
+  abbrev joins : List BookArc
   joins = joinArcs b (size b) 1
 
-  abbrev entries : List Arc
+  abbrev entries : List BookArc
   entries = map entryArc (numbers b)
 
-  abbrev ends : List Arc
+  abbrev ends : List BookArc
   ends = map (endArc b) (numbers b)
 
-  abbrev rest : List Arc
+  abbrev rest : List BookArc
   rest = ends ++ (lastArc b ∷ [])
 
   joins-length : length joins ≡ m
@@ -68,7 +68,7 @@ module _ (b : Book) (m e : ℕ) (n : e ≡ size b) (all : m + e + e + 1 ≡ leng
 
   pub lows-are : m + e + e + 1 ≤ 512 → padded 512 0 (map (λ a. a .low) (bookArcs b)) ≡ padded 512 0 (replicate m 0 ++ replicate e 1)
   lows-are few =
-      let low : Arc → ℕ = λ a. a .low in
+      let low : BookArc → ℕ = λ a. a .low in
       let z = same-append low 0 ends (lastArc b ∷ []) (same-row low 0 (endArc b) (λ i. refl) (numbers b)) refl in
       let r : length rest ≡ e + 1 = length-append ends (lastArc b ∷ []) ∙ ap (λ k. k + 1) ends-length in
       ap (padded 512 0) (map-append low joins (entries ++ rest)
@@ -79,7 +79,7 @@ module _ (b : Book) (m e : ℕ) (n : e ≡ size b) (all : m + e + e + 1 ≡ leng
 
   pub ups-are : padded 512 0 (map (λ a. a .up) (bookArcs b)) ≡ padded 512 0 (replicate (m + 2 * e) 1 ++ (b .players ∷ []))
   ups-are =
-      let up : Arc → ℕ = λ a. a .up in
+      let up : BookArc → ℕ = λ a. a .up in
       let z = same-append up 1 joins (entries ++ ends) (same-joins up 1 b (λ i j. refl) (size b) 1) (same-append up 1 entries ends (same-row up 1 entryArc (λ i. refl) (numbers b)) (same-row up 1 (endArc b) (λ i. refl) (numbers b))) in
       let k : length (joins ++ (entries ++ ends)) ≡ m + 2 * e = omega (arith, length-append joins (entries ++ ends), length-append entries ends, joins-length, entries-length, ends-length) in
       ap (padded 512 0) (ap (map up) (ap (λ t. joins ++ t) (sym (append-assoc entries ends (lastArc b ∷ []))) ∙ sym (append-assoc joins (entries ++ ends) (lastArc b ∷ [])))

@@ -12,7 +12,7 @@ use Rattle.net_model.specs.declared.Network.{Network}
 use Rattle.net_model.specs.Struct.{netIn, Sound}
 use Rattle.net_model.proofs.Struct.{struct-of, struct-sound}
 use Rattle.book_form.specs.Book.{Book, parse}
-use Rattle.book_form.specs.Questions.{refusal}
+use Rattle.book_form.specs.Questions.{bookRefusal}
 use Rattle.book_form.specs.Checked.{checkedBook}
 use Rattle.book_form.specs.declared.CheckedBook.{CheckedBook}
 use Rattle.book_form.proofs.WithinLimits.{within-limits}
@@ -22,7 +22,7 @@ use Rattle.way_theory.proofs.Accepted.{accepted-net}
 use Rattle.way_network.specs.Held.{Holds}
 use Rattle.way_network.specs.Arrays.{MakesNet}
 
-pub held : (s : List ℕ) → refusal s ≡ 0 → (b : Book) × (parse s ≡ some b) × Holds b (checkedBook s)
+pub held : (s : List ℕ) → bookRefusal s ≡ 0 → (b : Book) × (parse s ≡ some b) × Holds b (checkedBook s)
 held s e = go (parse s) refl
   where
     no-form : (t : Bool) → ¬ (ask t 11 12 ≡ 0)

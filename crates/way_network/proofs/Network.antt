@@ -11,7 +11,7 @@ use Rattle.net_model.specs.Struct.{structOf}
 use Rattle.book_form.specs.Book.{Book}
 use Rattle.book_form.specs.declared.CheckedBook.{CheckedBook}
 use Rattle.way_theory.specs.Follow.{size}
-use Rattle.way_theory.specs.BookNet.{Arc, balancesOf, sources, joinArc, joinArcs, entryArc, endArc, lastArc, bookArcs, bookNet}
+use Rattle.way_theory.specs.BookNet.{BookArc, balancesOf, sources, joinArc, joinArcs, entryArc, endArc, lastArc, bookArcs, bookNet}
 use Rattle.way_theory.proofs.Nodes.{count-arcs, nodes-count}
 use Rattle.way_theory.proofs.Rows.{rows-length}
 use Rattle.way_theory.proofs.Size.{arcs-few}
@@ -20,11 +20,11 @@ use Rattle.way_network.specs.Held.{Holds, Held}
 use Rattle.way_network.proofs.Bounds.{lows-are, ups-are}
 use Rattle.way_network.specs.Arrays.{Arrays, Long, rowsBy, Progress, AddsJoins, AddsRows, blank, AddsAll, MakesNet}
 
-pub progress-room : (l : List Arc) (A : Arrays) (m : ℕ) (ahead : List Arc) → Progress l A m ahead → m + length ahead ≡ length l
+pub progress-room : (l : List BookArc) (A : Arrays) (m : ℕ) (ahead : List BookArc) → Progress l A m ahead → m + length ahead ≡ length l
 progress-room l A m ahead p = ap (λ k. m + length k) (sym (p .is-ahead)) ∙ omega (arith, length-drop m l, p .upto)
 
 -- the arcs behind the joins
-abbrev pub rowsOf : Book → List Arc
+abbrev pub rowsOf : Book → List BookArc
 rowsOf b = rowsBy (size b) (b .players)
 
 pub blank-long : (A : Arrays) → A ≡ blank → Long A

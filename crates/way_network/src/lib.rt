@@ -11,7 +11,7 @@ ghost use Rattle.laws.specs.Padded.{padded};
 ghost use Rattle.way_theory.specs.Ways.{oneIf};
 ghost use Rattle.way_joins.specs.Tables.{HasTables};
 ghost use Rattle.way_network.specs.Held.{Held};
-ghost use Rattle.way_network.specs.Arrays.{arrays, arcWith, Long, put, isJoin, costIn, putIf, IsRow, AddsRows, AddsJoins, blank, AddsAll, MakesNet};
+ghost use Rattle.way_network.specs.Arrays.{arrays, arcWith, Long, putArc, isJoin, joinCost, putIf, IsRow, AddsRows, AddsJoins, blank, AddsAll, MakesNet};
 
 // An arc in the types of the arrays, without its bounds.
 struct NetworkArc {
@@ -35,7 +35,9 @@ fn arc_of(tail: usize, head: usize, cost: u32) -> NetworkArc
 // An arc, put at m.
 fn put_arc(a: NetworkArc, tails: &mut [u8], heads: &mut [u8], costs: &mut [i32], m: usize)
     requires { ⌜ Long (arrays (now tails) (now heads) (now costs)) × (m < 512) ⌝ }
-    ensures { λ _. ⌜ arrays (now (tails .exit)) (now (heads .exit)) (now (costs .exit)) ≡ put (arrays (now (tails .entry)) (now (heads .entry)) (now (costs .entry))) m a ⌝ }
+    ensures { λ _.
+        let before = arrays (now (tails .entry)) (now (heads .entry)) (now (costs .entry)) in
+        ⌜ arrays (now (tails .exit)) (now (heads .exit)) (now (costs .exit)) ≡ putArc before m a ⌝ }
 {
     let cost = a.cost;
     tails[m] = a.tail;
@@ -53,8 +55,10 @@ fn put_join(
     costs: &mut [i32],
     m: usize,
 ) -> usize
-    requires { ⌜ Long (arrays (now tails) (now heads) (now costs)) × (m < 512) × (i ≤ 28) × (1 ≤ j) × (j ≤ 28) × (costIn o ≤ 1000000) ⌝ }
-    ensures { λ r. ⌜ (arrays (now (tails .exit)) (now (heads .exit)) (now (costs .exit)) ≡ putIf o i j (arrays (now (tails .entry)) (now (heads .entry)) (now (costs .entry))) m) × (r ≡ m + oneIf (isJoin o)) ⌝ }
+    requires { ⌜ Long (arrays (now tails) (now heads) (now costs)) × (m < 512) × (i ≤ 28) × (1 ≤ j) × (j ≤ 28) × (joinCost o ≤ 1000000) ⌝ }
+    ensures { λ r.
+        let before = arrays (now (tails .entry)) (now (heads .entry)) (now (costs .entry)) in
+        ⌜ (arrays (now (tails .exit)) (now (heads .exit)) (now (costs .exit)) ≡ putIf o i j before m) × (r ≡ m + oneIf (isJoin o)) ⌝ }
 {
     match o {
         Join::No => m,
@@ -71,7 +75,7 @@ fn put_joins<'a>(
     fee: u32,
     e: usize,
     ticks: &'a [u32],
-    prices: &'a [u32],
+    move_costs: &'a [u32],
     instruments: &'a [u32],
     starts: &'a [u32],
     finishes: &'a [u32],
@@ -81,14 +85,29 @@ fn put_joins<'a>(
     costs: &mut [i32],
     m: usize,
 ) -> usize
-    requires { ⌜ HasTables fee e (now ticks) (now prices) (now instruments) (now starts) (now finishes) × (1 ≤ j) × (j ≤ e) × Long (arrays (now tails) (now heads) (now costs)) × (m ≤ 463) ⌝ }
-    ensures { λ r. ⌜ AddsJoins fee e (now (ticks .entry)) (now (prices .entry)) (now (instruments .entry)) (now (starts .entry)) (now (finishes .entry)) j (arrays (now (tails .entry)) (now (heads .entry)) (now (costs .entry))) m (arrays (now (tails .exit)) (now (heads .exit)) (now (costs .exit))) r ⌝ }
+    requires { ⌜ HasTables fee e (now ticks) (now «move_costs») (now instruments) (now starts) (now finishes)
+        × (1 ≤ j) × (j ≤ e) × Long (arrays (now tails) (now heads) (now costs)) × (m ≤ 463) ⌝ }
+    ensures { λ r.
+        let before = arrays (now (tails .entry)) (now (heads .entry)) (now (costs .entry)) in
+        let after = arrays (now (tails .exit)) (now (heads .exit)) (now (costs .exit)) in
+        ⌜ AddsJoins fee e (now (ticks .entry)) (now («move_costs» .entry)) (now (instruments .entry)) (now (starts .entry)) (now (finishes .entry))
+        j before m after r ⌝ }
 {
     let mut at = m;
     let mut i = e + 1;
     while i > 0 {
         i -= 1;
-        let o = way_joins::join_of(fee, e, ticks, prices, instruments, starts, finishes, i, j);
+        let o = way_joins::join_of(
+            fee,
+            e,
+            ticks,
+            move_costs,
+            instruments,
+            starts,
+            finishes,
+            i,
+            j,
+        );
         at = put_join(o, i, j, tails, heads, costs, at);
     }
     at
@@ -113,7 +132,9 @@ fn row_arc(e: usize, k: usize) -> NetworkArc
 // The arcs behind the joins, put from m on.
 fn put_rows(e: usize, tails: &mut [u8], heads: &mut [u8], costs: &mut [i32], m: usize)
     requires { ⌜ Long (arrays (now tails) (now heads) (now costs)) × (e ≤ 28) × (m + 2 * e < 512) ⌝ }
-    ensures { λ _. ⌜ AddsRows e (arrays (now (tails .entry)) (now (heads .entry)) (now (costs .entry))) m (arrays (now (tails .exit)) (now (heads .exit)) (now (costs .exit))) (m + e + e + 1) ⌝ }
+    ensures { λ _.
+        let before = arrays (now (tails .entry)) (now (heads .entry)) (now (costs .entry)) in
+        ⌜ AddsRows e before m (arrays (now (tails .exit)) (now (heads .exit)) (now (costs .exit))) (m + e + e + 1) ⌝ }
 {
     for k in 0..2 * e + 1 {
         let a = row_arc(e, k);
@@ -160,7 +181,7 @@ fn put_arcs<'a>(
     fee: u32,
     e: usize,
     ticks: &'a [u32],
-    prices: &'a [u32],
+    move_costs: &'a [u32],
     instruments: &'a [u32],
     starts: &'a [u32],
     finishes: &'a [u32],
@@ -168,8 +189,11 @@ fn put_arcs<'a>(
     heads: &mut [u8],
     costs: &mut [i32],
 ) -> usize
-    requires { ⌜ HasTables fee e (now ticks) (now prices) (now instruments) (now starts) (now finishes) × (arrays (now tails) (now heads) (now costs) ≡ blank) ⌝ }
-    ensures { λ r. ⌜ AddsAll fee e (now (ticks .entry)) (now (prices .entry)) (now (instruments .entry)) (now (starts .entry)) (now (finishes .entry)) (arrays (now (tails .exit)) (now (heads .exit)) (now (costs .exit))) r ⌝ }
+    requires { ⌜ HasTables fee e (now ticks) (now «move_costs») (now instruments) (now starts) (now finishes)
+        × (arrays (now tails) (now heads) (now costs) ≡ blank) ⌝ }
+    ensures { λ r.
+        let after = arrays (now (tails .exit)) (now (heads .exit)) (now (costs .exit)) in
+        ⌜ AddsAll fee e (now (ticks .entry)) (now («move_costs» .entry)) (now (instruments .entry)) (now (starts .entry)) (now (finishes .entry)) after r ⌝ }
 {
     let mut m = 0;
     let mut j = 1;
@@ -178,7 +202,7 @@ fn put_arcs<'a>(
             fee,
             e,
             ticks,
-            prices,
+            move_costs,
             instruments,
             starts,
             finishes,
@@ -202,7 +226,7 @@ pub fn network_of(book: CheckedBook) -> Network
     let e = book.count;
     let players = book.players;
     let ticks = book.ticks;
-    let prices = book.costs;
+    let move_costs = book.costs;
     let instruments = book.instruments;
     let starts = book.starts;
     let finishes = book.finishes;
@@ -213,7 +237,7 @@ pub fn network_of(book: CheckedBook) -> Network
         book.fee,
         e,
         &ticks,
-        &prices,
+        &move_costs,
         &instruments,
         &starts,
         &finishes,

@@ -17,7 +17,7 @@ use Rattle.book_form.specs.Book.{Book}
 use Rattle.book_form.specs.WithinLimits.{WithinLimits}
 use Rattle.way_theory.specs.Follow.{size, entryAt, stay, link, arrival, inTime}
 use Rattle.way_theory.specs.Ways.{orNone}
-use Rattle.way_theory.specs.BookNet.{price, bookArcs, bookNet}
+use Rattle.way_theory.specs.BookNet.{arcCost, bookArcs, bookNet}
 use Rattle.way_theory.proofs.Nodes.{Place, origin, odd, even, last, place, noArc, nodes-count, balance-inner, balance-last}
 use Rattle.way_theory.proofs.Arcs.{arc-holds, part-holds, well-formed}
 use Rattle.way_theory.proofs.Fair.{cost-high}
@@ -46,9 +46,9 @@ module _ (book : Book) (ok : WithinLimits book) where
       go true k = pick (leb (arrival stay finish) start)
       go false k = k
 
-  pub price-small : (i j : ℕ) → price book i j ≤ 1000000
-  price-small zero j = ok .fee-high
-  price-small (suc i) j = go (eqb (suc i) j) (link-small (entryAt book (suc i) .instrument) (entryAt book j .instrument) (entryAt book (suc i) .finish) (entryAt book j .start))
+  pub arc-cost-small : (i j : ℕ) → arcCost book i j ≤ 1000000
+  arc-cost-small zero j = ok .fee-high
+  arc-cost-small (suc i) j = go (eqb (suc i) j) (link-small (entryAt book (suc i) .instrument) (entryAt book j .instrument) (entryAt book (suc i) .finish) (entryAt book j .start))
     where
       road : Option ℕ
       road = inTime (link (book .moves) (entryAt book (suc i) .instrument) (entryAt book j .instrument)) (entryAt book (suc i) .finish) (entryAt book j .start)
@@ -77,6 +77,6 @@ module _ (book : Book) (ok : WithinLimits book) where
             let k = arc-holds book (λ a. a .low ≤ a .up) (record { joins = λ i j h k l. omega arith; entries = λ j h k. omega arith; ends = λ j h k. omega arith; last = omega arith }) a h in omega arith);
         up-small = part-holds book (λ a. a .up) (λ u. u ≤ 1000000) (record { joins = λ i j h k l. omega arith; entries = λ j h k. omega arith; ends = λ j h k. omega arith; last = omega (arith, ok .players-high) }) 0 refl;
         cost-small = part-holds book (λ a. pos (a .cost)) (λ c. (negℤ (pos 1000000) ≤ℤ c) × (c ≤ℤ pos 1000000))
-            (record { joins = λ i j h k l. fair-cost (price book i j) (price-small i j); entries = λ j h k. fair-cost 0 (omega arith); ends = λ j h k. fair-cost 0 (omega arith); last = fair-cost 0 (omega arith) }) (pos 0) refl;
+            (record { joins = λ i j h k l. fair-cost (arcCost book i j) (arc-cost-small i j); entries = λ j h k. fair-cost 0 (omega arith); ends = λ j h k. fair-cost 0 (omega arith); last = fair-cost 0 (omega arith) }) (pos 0) refl;
         balance-small = λ v h. fair-balance v (place (size book) v (omega (arith, nodes-count book)));
       }

@@ -12,26 +12,26 @@ use Rattle.net_model.specs.Network.{WellFormed, nodes, arcs}
 use Rattle.book_form.specs.Book.{Book}
 use Rattle.way_theory.specs.Follow.{size}
 use Rattle.way_theory.specs.FullWays.{numbers}
-use Rattle.way_theory.specs.BookNet.{Arc, joinArc, joinArcs, entryArc, endArc, lastArc, bookArcs, bookNet}
+use Rattle.way_theory.specs.BookNet.{BookArc, joinArc, joinArcs, entryArc, endArc, lastArc, bookArcs, bookNet}
 use Rattle.way_theory.proofs.Blocks.{joins-member}
 use Rattle.way_theory.proofs.Nodes.{noArc, count-arcs, nodes-count}
 
 module _ (book : Book) where
   -- what holds of every arc
-  pub record OfArcs (P : Arc → Type 0) : Type 0 where
+  pub record OfArcs (P : BookArc → Type 0) : Type 0 where
     pub joins : (i j : ℕ) → i ≤ size book → 1 ≤ j → j ≤ size book → P (joinArc book j i)
     pub entries : (j : ℕ) → 1 ≤ j → j ≤ size book → P (entryArc j)
     pub ends : (j : ℕ) → 1 ≤ j → j ≤ size book → P (endArc book j)
     pub last : P (lastArc book)
 
-  module _ (P : Arc → Type 0) (holds : OfArcs P) where
-    row-holds : (k : ℕ → Arc) → ((j : ℕ) → 1 ≤ j → j ≤ size book → P (k j)) → (a : Arc) → a ∈ map k (numbers book) → P a
+  module _ (P : BookArc → Type 0) (holds : OfArcs P) where
+    row-holds : (k : ℕ → BookArc) → ((j : ℕ) → 1 ≤ j → j ≤ size book → P (k j)) → (a : BookArc) → a ∈ map k (numbers book) → P a
     row-holds k h a m =
         let (j, l, q) = member-map k (numbers book) a m in
         let b = from-member (size book) 1 j l in
         subst P (sym q) (h j (b .0) (omega arith))
 
-    all-hold : (a : Arc) → a ∈ bookArcs book → P a
+    all-hold : (a : BookArc) → a ∈ bookArcs book → P a
     all-hold a m = one (append-cases (joinArcs book (size book) 1) (map entryArc (numbers book) ++ (map (endArc book) (numbers book) ++ (lastArc book ∷ []))) a m)
       where
         three : (a ∈ map (endArc book) (numbers book)) ⊎ (a ∈ (lastArc book ∷ [])) → P a
@@ -51,7 +51,7 @@ module _ (book : Book) where
     arc-holds k h = all-hold (getD (bookArcs book) k noArc) (getD-member (bookArcs book) k noArc (subst (λ n. k < n) (count-arcs book) h))
 
   -- of a number that arcs have, as the network holds it
-  pub part-holds : {A : Type 0} (part : Arc → A) (Q : A → Type 0) → OfArcs (λ a. Q (part a)) → (d : A) → d ≡ part noArc → (k : ℕ) → k < arcs (bookNet book) → Q (getD (map part (bookArcs book)) k d)
+  pub part-holds : {A : Type 0} (part : BookArc → A) (Q : A → Type 0) → OfArcs (λ a. Q (part a)) → (d : A) → d ≡ part noArc → (k : ℕ) → k < arcs (bookNet book) → Q (getD (map part (bookArcs book)) k d)
   part-holds part Q holds d e k h =
       subst Q (sym (subst (λ d. getD (map part (bookArcs book)) k d ≡ part (getD (bookArcs book) k noArc)) (sym e) (List·getD-map part (bookArcs book) k noArc)))
       (arc-holds (λ a. Q (part a)) holds k h)

@@ -16,9 +16,9 @@ use Rattle.laws.specs.Totals.{total, weigh, weigh-append, weigh-none, weigh-one
 use Rattle.book_form.specs.Book.{Book}
 use Rattle.way_theory.specs.Follow.{size}
 use Rattle.way_theory.specs.Ways.{permits, Joined}
-use Rattle.way_theory.specs.BookNet.{Arc, down, sources, joinArc, joinArcs}
-use Rattle.way_theory.specs.WayFlow.{hit, marked, joinFlow}
-use Rattle.way_theory.proofs.Hits.{hit-same, hit-other, Above, marked-one}
+use Rattle.way_theory.specs.BookNet.{BookArc, down, sources, joinArc, joinArcs}
+use Rattle.way_theory.specs.WayFlow.{oneIfSame, marked, joinFlow}
+use Rattle.way_theory.proofs.OneIfSame.{same-one, other-none, Above, marked-one}
 
 -- a list beside two lists, cut where they meet
 pub split : {A : Type 0} (l k : List A) (f : List ℕ) → length f ≡ length (l ++ k)
@@ -35,7 +35,7 @@ zeros [] [] p e t h = refl
 zeros [] (x ∷ g) p e t h = absurd (omega arith)
 zeros (a ∷ l) [] p e t h = absurd (omega arith)
 zeros (a ∷ l) (x ∷ g) p e t h =
-    cons-same x (hit a p) g (marked p l) (let z = hit-other a p (h a (inl refl)) in omega arith) (zeros l g p (suc-inj e) (omega arith) (λ b m. h b (inr m)))
+    cons-same x (oneIfSame a p) g (marked p l) (let z = other-none a p (h a (inl refl)) in omega arith) (zeros l g p (suc-inj e) (omega arith) (λ b m. h b (inr m)))
 
 pub unmark : (l g : List ℕ) → Ascending Above l → length g ≡ length l → total g ≡ 1 → (p : ℕ) × (p ∈ l) × (g ≡ marked p l)
 unmark [] [] h e t = absurd (omega arith)
@@ -44,9 +44,9 @@ unmark (a ∷ l) [] h e t = absurd (omega arith)
 unmark (a ∷ l) (zero ∷ g) h e t =
     let (p, m, q) = unmark l g (h .1) (suc-inj e) (omega arith) in
     let b = every-member (Above a) l (h .0) p m in
-    (p, inr m, cons-same 0 (hit a p) g (marked p l) (sym (hit-other a p (λ z. omega arith))) q)
+    (p, inr m, cons-same 0 (oneIfSame a p) g (marked p l) (sym (other-none a p (λ z. omega arith))) q)
 unmark (a ∷ l) (suc zero ∷ g) h e t =
-    (a, inl refl, cons-same 1 (hit a a) g (marked a l) (sym (hit-same a a refl)) (zeros l g a (suc-inj e) (omega arith) (λ b m. (let k = every-member (Above a) l (h .0) b m in λ z. omega arith))))
+    (a, inl refl, cons-same 1 (oneIfSame a a) g (marked a l) (sym (same-one a a refl)) (zeros l g a (suc-inj e) (omega arith) (λ b m. (let k = every-member (Above a) l (h .0) b m in λ z. omega arith))))
 unmark (a ∷ l) (suc (suc x) ∷ g) h e t = absurd (omega arith)
 
 lex-prefix : (l x y : List ℕ) → x <lex y → (l ++ x) <lex (l ++ y)
@@ -56,10 +56,10 @@ lex-prefix (a ∷ l) x y h = inr (refl, lex-prefix l x y h)
 marked-less : (l : List ℕ) (p q : ℕ) (x y : List ℕ) → Ascending Above l → q ∈ l → p < q → (marked p l ++ x) <lex (marked q l ++ y)
 marked-less [] p q x y h m k = absurd m
 marked-less (a ∷ l) p q x y h (inl e) k =
-    inl (let u = hit-other a p (λ z. omega arith) in let v = hit-same a q (sym e) in omega arith)
+    inl (let u = other-none a p (λ z. omega arith) in let v = same-one a q (sym e) in omega arith)
 marked-less (a ∷ l) p q x y h (inr m) k =
     let b = every-member (Above a) l (h .0) q m in
-    inr (hit-other a p (λ z. omega arith) ∙ sym (hit-other a q (λ z. omega arith)), marked-less l p q x y (h .1) m k)
+    inr (other-none a p (λ z. omega arith) ∙ sym (other-none a q (λ z. omega arith)), marked-less l p q x y (h .1) m k)
 
 -- the predecessors that an entry may have
 down-member : (n p : ℕ) → p ∈ down n → p ≤ n
@@ -86,11 +86,11 @@ along ψ j [] = 0
 along ψ j (p ∷ w) = ψ p j + along ψ (suc j) w
 
 -- whether an arc leaves node v, whether it goes there
-abbrev pub outOf : ℕ → Arc → ℕ
-outOf v a = hit (a .tail) v
+abbrev pub outOf : ℕ → BookArc → ℕ
+outOf v a = oneIfSame (a .tail) v
 
-abbrev pub into : ℕ → Arc → ℕ
-into v a = hit (a .head) v
+abbrev pub into : ℕ → BookArc → ℕ
+into v a = oneIfSame (a .head) v
 
 module _ (book : Book) where
   pub sources-fall : (j : ℕ) → Ascending Above (sources book j)
@@ -103,7 +103,7 @@ module _ (book : Book) where
   source-permits j p m = let (d, e) = kept (λ i. permits book i j) (down (size book)) p m in (down-member (size book) p d, e)
 
   block-length : (j p : ℕ) → length (marked p (sources book j)) ≡ length (map (joinArc book j) (sources book j))
-  block-length j p = length-map (sources book j) (λ i. hit i p) ∙ sym (length-map (sources book j) (joinArc book j))
+  block-length j p = length-map (sources book j) (λ i. oneIfSame i p) ∙ sym (length-map (sources book j) (joinArc book j))
 
   pub joinFlow-length : (j : ℕ) (w : List ℕ) → length (joinFlow book j w) ≡ length (joinArcs book (length w) j)
   joinFlow-length j [] = refl
@@ -112,7 +112,7 @@ module _ (book : Book) where
       ∙ ap₂ _+_ (block-length j p) (joinFlow-length (suc j) w)
       ∙ sym (length-append (map (joinArc book j) (sources book j)) (joinArcs book (length w) (suc j)))
 
-  pub joins-member : (n s : ℕ) (a : Arc) → a ∈ joinArcs book n s → (i : ℕ) × (j : ℕ) × (s ≤ j) × (j < s + n) × (i ≤ size book) × (a ≡ joinArc book j i)
+  pub joins-member : (n s : ℕ) (a : BookArc) → a ∈ joinArcs book n s → (i : ℕ) × (j : ℕ) × (s ≤ j) × (j < s + n) × (i ≤ size book) × (a ≡ joinArc book j i)
   joins-member zero s a m = absurd m
   joins-member (suc n) s a m =
       step (joins-member n (suc s) a) (append-cases (map (joinArc book s) (sources book s)) (joinArcs book n (suc s)) a m)
@@ -123,11 +123,11 @@ module _ (book : Book) where
       step deep (inl m) = let (i, k, q) = member-map (joinArc book s) (sources book s) a m in (i, s, omega arith, omega arith, source-permits s i k .0, q)
       step deep (inr m) = let (i, j, h, k, l, q) = deep m in (i, j, omega arith, omega arith, l, q)
 
-  pub joins-none : (φ : Arc → ℕ) (n s : ℕ) (g : List ℕ) → ((i j : ℕ) → s ≤ j → j < s + n → φ (joinArc book j i) ≡ 0) → weigh φ (joinArcs book n s) g ≡ 0
+  pub joins-none : (φ : BookArc → ℕ) (n s : ℕ) (g : List ℕ) → ((i j : ℕ) → s ≤ j → j < s + n → φ (joinArc book j i) ≡ 0) → weigh φ (joinArcs book n s) g ≡ 0
   joins-none φ n s g h =
       weigh-none φ (joinArcs book n s) g (λ a m. (let (i, j, b, k, l, q) = joins-member n s a m in ap φ q ∙ h i j b k))
 
-  pub weigh-joins : (φ : Arc → ℕ) (j : ℕ) (w : List ℕ) → Joined book j w
+  pub weigh-joins : (φ : BookArc → ℕ) (j : ℕ) (w : List ℕ) → Joined book j w
       → weigh φ (joinArcs book (length w) j) (joinFlow book j w) ≡ along (λ p k. φ (joinArc book k p)) j w
   weigh-joins φ j [] h = refl
   weigh-joins φ j (p ∷ w) h =
@@ -150,25 +150,25 @@ module _ (book : Book) where
       let o = source-permits s p m in
       (p ∷ w, ap suc d, (o .0, o .1, f), q ∙ ap₂ _++_ r t)
     where
-      here : List Arc
+      here : List BookArc
       here = map (joinArc book s) (sources book s)
 
-      rest : List Arc
+      rest : List BookArc
       rest = joinArcs book n (suc s)
 
       whole : (x : List ℕ) → length x ≡ length here → total x ≡ weigh (into (2 * s - 1)) here x
       whole x k =
           sym (weigh-map (into (2 * s - 1)) (joinArc book s) (sources book s) x
-          ∙ weigh-ones (λ i. into (2 * s - 1) (joinArc book s i)) (sources book s) x (k ∙ length-map (sources book s) (joinArc book s)) (λ i m. hit-same (2 * s - 1) (2 * s - 1) refl))
+          ∙ weigh-ones (λ i. into (2 * s - 1) (joinArc book s i)) (sources book s) x (k ∙ length-map (sources book s) (joinArc book s)) (λ i m. same-one (2 * s - 1) (2 * s - 1) refl))
 
       later : (y : List ℕ) → weigh (into (2 * s - 1)) rest y ≡ 0
-      later y = joins-none (into (2 * s - 1)) n (suc s) y (λ i j c d. hit-other (2 * j - 1) (2 * s - 1) (λ z. omega arith))
+      later y = joins-none (into (2 * s - 1)) n (suc s) y (λ i j c d. other-none (2 * j - 1) (2 * s - 1) (λ z. omega arith))
 
       apart : (j : ℕ) → suc s ≤ j → (x y : List ℕ) → length x ≡ length here → weigh (into (2 * j - 1)) (here ++ rest) (x ++ y) ≡ 1 → weigh (into (2 * j - 1)) rest y ≡ 1
       apart j c x y k u =
           let none : weigh (into (2 * j - 1)) here x ≡ 0 =
           weigh-map (into (2 * j - 1)) (joinArc book s) (sources book s) x
-          ∙ weigh-none (λ i. into (2 * j - 1) (joinArc book s i)) (sources book s) x (λ i m. hit-other (2 * s - 1) (2 * j - 1) (λ z. omega arith)) in
+          ∙ weigh-none (λ i. into (2 * j - 1) (joinArc book s i)) (sources book s) x (λ i m. other-none (2 * s - 1) (2 * j - 1) (λ z. omega arith)) in
           omega (arith, weigh-append (into (2 * j - 1)) here rest x y k)
 
   -- the order of ways is the order of their joins

@@ -13,7 +13,7 @@ use Rattle.laws.specs.Within.{Within, within, within-member}
 use Rattle.net_model.specs.Network.{Net, WellFormed, nodes, netOut, balance, IsFlow}
 use Rattle.net_model.specs.FullList.{bounds, isBalanced, flowList}
 use Rattle.net_model.proofs.FullList.{flow-member}
-use Rattle.way_theory.specs.BookNet.{Arc, entryArc}
+use Rattle.way_theory.specs.BookNet.{BookArc, entryArc}
 
 -- a flow: numbers within the bounds that balance
 module _ (N : Net) (ok : WellFormed N) (f : List ℕ) where
@@ -27,22 +27,22 @@ module _ (N : Net) (ok : WellFormed N) (f : List ℕ) where
   unfolding flowList
   flow-bounds h = within-member (bounds (N .lows) (N .ups)) f .0 (kept (isBalanced N) (within (bounds (N .lows) (N .ups))) f (flow-member N ok f .1 h) .0)
 
-abbrev pub Bounds : List Arc → List ℕ → Type 0
+abbrev pub Bounds : List BookArc → List ℕ → Type 0
 Bounds l f = Within (bounds (map (λ a. a .low) l) (map (λ a. a .up) l)) f
 
-pub bounds-append : (l k : List Arc) (f g : List ℕ) → Bounds l f → Bounds k g → Bounds (l ++ k) (f ++ g)
+pub bounds-append : (l k : List BookArc) (f g : List ℕ) → Bounds l f → Bounds k g → Bounds (l ++ k) (f ++ g)
 bounds-append [] k [] g h b = b
 bounds-append [] k (x ∷ f) g h b = absurd h
 bounds-append (a ∷ l) k [] g h b = absurd h
 bounds-append (a ∷ l) k (x ∷ f) g h b = (h .0, h .1, bounds-append l k f g (h .2) b)
 
-pub bounds-split : (l k : List Arc) (f g : List ℕ) → length f ≡ length l → Bounds (l ++ k) (f ++ g) → Bounds l f × Bounds k g
+pub bounds-split : (l k : List BookArc) (f g : List ℕ) → length f ≡ length l → Bounds (l ++ k) (f ++ g) → Bounds l f × Bounds k g
 bounds-split [] k [] g e b = (tt, b)
 bounds-split [] k (x ∷ f) g e b = absurd (omega arith)
 bounds-split (a ∷ l) k [] g e b = absurd (omega arith)
 bounds-split (a ∷ l) k (x ∷ f) g e b = let (u, v) = bounds-split l k f g (suc-inj e) (b .2) in ((b .0, b .1, u), v)
 
-pub bounds-map : (k : ℕ → Arc) (φ : ℕ → ℕ) (l : List ℕ) → ((i : ℕ) → (k i .low ≤ φ i) × (φ i ≤ k i .up)) → Bounds (map k l) (map φ l)
+pub bounds-map : (k : ℕ → BookArc) (φ : ℕ → ℕ) (l : List ℕ) → ((i : ℕ) → (k i .low ≤ φ i) × (φ i ≤ k i .up)) → Bounds (map k l) (map φ l)
 bounds-map k φ [] h = tt
 bounds-map k φ (i ∷ l) h = (h i .0, h i .1, bounds-map k φ l h)
 

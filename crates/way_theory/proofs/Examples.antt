@@ -16,7 +16,8 @@ use Rattle.laws.specs.Integers.{leZ-true, eqZ, eqZ-true}
 use Rattle.laws.specs.Tests.{and-true, test, test-yes, all, all-member, allBelow, all-below}
 use Rattle.laws.specs.Equality.{same-list, same-lists}
 use Rattle.laws.specs.Members.{_∈_, first?}
-use Rattle.laws.specs.Run.{Answer, refused, nothing, end, line, shown}
+use Rattle.laws.specs.Seen.{Reading, refused, nothing, end, item}
+use Rattle.laws.specs.Run.{shown}
 use Rattle.net_model.specs.Network as flows
 use Rattle.net_model.specs.Network.{Net, nodes, arcs}
 use Rattle.net_model.specs.Accepted.{AcceptedNet}
@@ -24,14 +25,14 @@ use Rattle.net_model.specs.Residual.{Price}
 use Rattle.net_model.specs.FullList.{flowList, fullList}
 use Rattle.net_model.specs.Input.{netOf}
 use Rattle.net_model.proofs.Prices.{certifies, prices}
-use Rattle.text_read.specs.Reader.{after, _>>=_, _>>_, give, guard, remaining, bytes, begins, text, front, run, valueFrom, number, word, row, more, upTo, many}
+use Rattle.text_read.specs.Reader.{thenRead, _>>=_, _>>_, give, guard, remaining, bytes, begins, text, front, run, valueFrom, number, word, row, more, upTo, many}
 use Rattle.book_lines.specs.Lines.{move, entry}
 use Rattle.book_lines.specs.Questions as lines
 use Rattle.book_form.specs.Book as form
 use Rattle.book_form.specs.Book.{opening, whole, parse}
-use Rattle.book_form.specs.Questions.{refusal}
+use Rattle.book_form.specs.Questions.{bookRefusal}
 use Rattle.way_theory.specs.FullWays.{wayList, fullWays}
-use Rattle.way_theory.specs.BookBytes.{ways, costOf}
+use Rattle.way_theory.specs.BookBytes.{ways, wayCostIn}
 
 -- a network, or the bytes of a book
 pub data Input : Type 0 where
@@ -43,7 +44,7 @@ pub data Input : Type 0 where
 pub record Example : Type 0 where
   pub input : Input
   pub lines : List (List ℕ)
-  pub answer : Answer (List ℕ)
+  pub answer : Reading (List ℕ)
   pub cost : ℤ
   pub prices : List ℤ
   pub walks : List (List ℕ)
@@ -54,7 +55,7 @@ listOf (book s) = ways s
 
 abbrev pub lineCost : Input → List ℕ → ℤ
 lineCost (network N) f = flows.costOf N f
-lineCost (book s) w = costOf s w
+lineCost (book s) w = wayCostIn s w
 
 -- "He answers that line and its cost, .. Without lines: 'none', cost 0."
 abbrev pub answerCost : Input → Option (List ℕ) → ℤ
@@ -70,7 +71,7 @@ Priced (book s) o ps = Unit {0}
 -- "A book is accepted if it passes 11 to 16, a network if it passes 1 to 6."
 abbrev pub AcceptedInput : Input → Type 0
 AcceptedInput (network N) = AcceptedNet N
-AcceptedInput (book s) = refusal s ≡ 0
+AcceptedInput (book s) = bookRefusal s ≡ 0
 
 pub record Holds (e : Example) : Type 0 where
   pub accepted : AcceptedInput (e .input)
@@ -85,7 +86,7 @@ abbrev pub no-arcs : Example
 no-arcs = record {
   input = network (netOf (pos 0 ∷ []) []);
   lines = [] ∷ [];
-  answer = line [];
+  answer = item [];
   cost = pos 0;
   prices = pos 0 ∷ [];
   walks = [] ∷ [];
@@ -107,7 +108,7 @@ abbrev pub loop : Example
 loop = record {
   input = network (netOf (pos 0 ∷ []) (pos 0 ∷ pos 0 ∷ pos 0 ∷ pos 2 ∷ pos 0 ∷ []));
   lines = (0 ∷ []) ∷ (1 ∷ []) ∷ (2 ∷ []) ∷ [];
-  answer = line (0 ∷ []);
+  answer = item (0 ∷ []);
   cost = pos 0;
   prices = pos 0 ∷ [];
   walks = [] ∷ [];
@@ -118,7 +119,7 @@ abbrev pub cheap-loop : Example
 cheap-loop = record {
   input = network (netOf (pos 0 ∷ []) (pos 0 ∷ pos 0 ∷ pos 0 ∷ pos 2 ∷ negsuc 2 ∷ []));
   lines = (2 ∷ []) ∷ [];
-  answer = line (2 ∷ []);
+  answer = item (2 ∷ []);
   cost = negsuc 5;
   prices = pos 0 ∷ [];
   walks = [] ∷ [];
@@ -129,7 +130,7 @@ abbrev pub parallel : Example
 parallel = record {
   input = network (netOf (pos 2 ∷ negsuc 1 ∷ []) (pos 0 ∷ pos 1 ∷ pos 0 ∷ pos 2 ∷ pos 1 ∷ pos 0 ∷ pos 1 ∷ pos 0 ∷ pos 2 ∷ pos 1 ∷ []));
   lines = (0 ∷ 2 ∷ []) ∷ (1 ∷ 1 ∷ []) ∷ (2 ∷ 0 ∷ []) ∷ [];
-  answer = line (0 ∷ 2 ∷ []);
+  answer = item (0 ∷ 2 ∷ []);
   cost = pos 2;
   prices = negsuc 0 ∷ pos 0 ∷ [];
   walks = (3 ∷ []) ∷ [] ∷ [];
@@ -140,7 +141,7 @@ abbrev pub opposite : Example
 opposite = record {
   input = network (netOf (pos 0 ∷ pos 0 ∷ []) (pos 0 ∷ pos 1 ∷ pos 0 ∷ pos 1 ∷ pos 0 ∷ pos 1 ∷ pos 0 ∷ pos 0 ∷ pos 1 ∷ pos 0 ∷ []));
   lines = (0 ∷ 0 ∷ []) ∷ (1 ∷ 1 ∷ []) ∷ [];
-  answer = line (0 ∷ 0 ∷ []);
+  answer = item (0 ∷ 0 ∷ []);
   cost = pos 0;
   prices = pos 0 ∷ pos 0 ∷ [];
   walks = [] ∷ [] ∷ [];
@@ -151,7 +152,7 @@ abbrev pub fixed-arc : Example
 fixed-arc = record {
   input = network (netOf (pos 2 ∷ negsuc 1 ∷ []) (pos 0 ∷ pos 1 ∷ pos 1 ∷ pos 1 ∷ pos 5 ∷ pos 0 ∷ pos 1 ∷ pos 0 ∷ pos 3 ∷ pos 0 ∷ []));
   lines = (1 ∷ 1 ∷ []) ∷ [];
-  answer = line (1 ∷ 1 ∷ []);
+  answer = item (1 ∷ 1 ∷ []);
   cost = pos 5;
   prices = pos 0 ∷ pos 0 ∷ [];
   walks = [] ∷ [] ∷ [];
@@ -167,7 +168,7 @@ abbrev pub negative-cycle : Example
 negative-cycle = record {
   input = triangle (negsuc 2);
   lines = (1 ∷ 1 ∷ 1 ∷ []) ∷ [];
-  answer = line (1 ∷ 1 ∷ 1 ∷ []);
+  answer = item (1 ∷ 1 ∷ 1 ∷ []);
   cost = negsuc 0;
   prices = negsuc 1 ∷ negsuc 0 ∷ pos 0 ∷ [];
   walks = (1 ∷ 3 ∷ []) ∷ (3 ∷ []) ∷ [] ∷ [];
@@ -178,7 +179,7 @@ abbrev pub zero-cycle : Example
 zero-cycle = record {
   input = triangle (negsuc 1);
   lines = (0 ∷ 0 ∷ 0 ∷ []) ∷ (1 ∷ 1 ∷ 1 ∷ []) ∷ [];
-  answer = line (0 ∷ 0 ∷ 0 ∷ []);
+  answer = item (0 ∷ 0 ∷ 0 ∷ []);
   cost = pos 0;
   prices = negsuc 1 ∷ negsuc 0 ∷ pos 0 ∷ [];
   walks = (4 ∷ []) ∷ (0 ∷ 4 ∷ []) ∷ [] ∷ [];
@@ -189,7 +190,7 @@ abbrev pub two-players : Example
 two-players = record {
   input = book (bytes "(book\n(players 2)\n(fee 6)\n(move 1 2 24 3)\n(move 2 1 24 3)\n(entry (name snare) 1 0 96)\n(entry (name xylo) 2 120 200)\n(entry (name snare2) 1 240 300)\n)\n");
   lines = (0 ∷ 0 ∷ 1 ∷ []) ∷ (0 ∷ 1 ∷ 2 ∷ []) ∷ [];
-  answer = line (0 ∷ 0 ∷ 1 ∷ []);
+  answer = item (0 ∷ 0 ∷ 1 ∷ []);
   cost = pos 12;
   prices = [];
   walks = [];
@@ -200,7 +201,7 @@ abbrev pub one-player : Example
 one-player = record {
   input = book (bytes "(book\n(players 1)\n(fee 6)\n(move 1 2 24 3)\n(move 2 1 24 3)\n(entry (name snare) 1 0 96)\n(entry (name xylo) 2 120 200)\n(entry (name snare2) 1 240 300)\n)\n");
   lines = (0 ∷ 1 ∷ 2 ∷ []) ∷ [];
-  answer = line (0 ∷ 1 ∷ 2 ∷ []);
+  answer = item (0 ∷ 1 ∷ 2 ∷ []);
   cost = pos 12;
   prices = [];
   walks = [];
@@ -238,17 +239,17 @@ hasSize N = leb 1 (nodes N) && (leb (nodes N) 64 && leb (arcs N) 512)
 
 abbrev passes : Input → Bool
 passes (network N) = hasLengths N && (hasSize N && (allBelow (arcs N) (arcPasses N) && allBelow (nodes N) (λ v. isSmall 1000000000 (flows.balance N v))))
-passes (book s) = eqb (refusal s) 0
+passes (book s) = eqb (bookRefusal s) 0
 
-abbrev sameAnswer : Option (List ℕ) → Answer (List ℕ) → Bool
+abbrev sameAnswer : Option (List ℕ) → Reading (List ℕ) → Bool
 sameAnswer none (refused n) = false
 sameAnswer none nothing = true
 sameAnswer none end = false
-sameAnswer none (line w) = false
+sameAnswer none (item w) = false
 sameAnswer (some v) (refused n) = false
 sameAnswer (some v) nothing = false
 sameAnswer (some v) end = false
-sameAnswer (some v) (line w) = test (same-list v w)
+sameAnswer (some v) (item w) = test (same-list v w)
 
 abbrev pricedBy : Input → Option (List ℕ) → List ℤ → List (List ℕ) → Bool
 pricedBy (network N) (some f) ps ws = eqb (length ps) (nodes N) && certifies N f ps ws
@@ -285,7 +286,7 @@ arc-passes N a e =
     record { tail-in = ltb-true _ _ t; head-in = ltb-true _ _ h; low-up = leb-true _ _ l; up-small = leb-true _ _ u; cost-small = is-small 1000000 (flows.cost N a) c }
 
 passed : (i : Input) → passes i ≡ true → AcceptedInput i
-passed (book s) e = eqb-true (refusal s) 0 e
+passed (book s) e = eqb-true (bookRefusal s) 0 e
 passed (network N) e =
     let (lengths, e1) = and-true (hasLengths N) _ e in
     let (sizes, e2) = and-true (hasSize N) _ e1 in
@@ -314,15 +315,15 @@ passed (network N) e =
       balance-small = λ v k. is-small 1000000000 (flows.balance N v) (all-below (nodes N) (λ v. isSmall 1000000000 (flows.balance N v)) balances v k);
     }
 
-same-answer : (o : Option (List ℕ)) (a : Answer (List ℕ)) → sameAnswer o a ≡ true → shown o nothing ≡ a
+same-answer : (o : Option (List ℕ)) (a : Reading (List ℕ)) → sameAnswer o a ≡ true → shown o nothing ≡ a
 same-answer none (refused n) e = absurd (let z : _≡_ {A = ℕ} 0 1 = cc in omega arith)
 same-answer none nothing e = refl
 same-answer none end e = absurd (let z : _≡_ {A = ℕ} 0 1 = cc in omega arith)
-same-answer none (line w) e = absurd (let z : _≡_ {A = ℕ} 0 1 = cc in omega arith)
+same-answer none (item w) e = absurd (let z : _≡_ {A = ℕ} 0 1 = cc in omega arith)
 same-answer (some v) (refused n) e = absurd (let z : _≡_ {A = ℕ} 0 1 = cc in omega arith)
 same-answer (some v) nothing e = absurd (let z : _≡_ {A = ℕ} 0 1 = cc in omega arith)
 same-answer (some v) end e = absurd (let z : _≡_ {A = ℕ} 0 1 = cc in omega arith)
-same-answer (some v) (line w) e = ap line (test-yes (same-list v w) e)
+same-answer (some v) (item w) e = ap item (test-yes (same-list v w) e)
 
 priced-by : (i : Input) (o : Option (List ℕ)) (ps : List ℤ) (ws : List (List ℕ)) → pricedBy i o ps ws ≡ true → Priced i o ps
 priced-by (network N) (some f) ps ws e = let (a, b) = and-true (eqb (length ps) (nodes N)) _ e in (eqb-true _ _ a, prices N f ps ws b)
@@ -349,7 +350,7 @@ right-holds e q =
     }
 
 all-right : all right table ≡ true
-unfolding right fullList flowList at ℕ-discrete wayList fullWays bytes after _>>=_ _>>_ give guard remaining begins text front run valueFrom number word row more upTo many move entry opening form.book whole parse lines.moves lines.all
+unfolding right fullList flowList at ℕ-discrete wayList fullWays bytes thenRead _>>=_ _>>_ give guard remaining begins text front run valueFrom number word row more upTo many move entry opening form.book whole parse lines.moves lines.allPass
 all-right = refl
 
 pub examples : (e : Example) → e ∈ table → Holds e

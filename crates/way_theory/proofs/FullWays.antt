@@ -18,7 +18,7 @@ use Rattle.laws.specs.Best.{best-member, best-ascending}
 use Rattle.book_form.specs.Book.{Book}
 use Rattle.way_theory.specs.Follow.{size}
 use Rattle.way_theory.specs.Ways.{permits, times, Joined, IsWay, wayCost, LeastCostWay}
-use Rattle.way_theory.specs.FullWays.{numbers, isJoined, isWay, noDearer, bounds, wayList, fullWays}
+use Rattle.way_theory.specs.FullWays.{numbers, isJoined, isWay, noDearerWay, wayBounds, wayList, fullWays}
 
 module _ (book : Book) where
   joined-in : (n j : ℕ) (w : List ℕ) → Within (replicate n (0, size book)) w → isJoined book j w ≡ true → (length w ≡ n) × Joined book j w
@@ -43,12 +43,12 @@ module _ (book : Book) where
   unfolding wayList
   way-member w = (into, out)
     where
-      into : w ∈ keep (isWay book) (within (bounds book)) → IsWay book w
+      into : w ∈ keep (isWay book) (within (wayBounds book)) → IsWay book w
       into m =
-          let (k, e) = kept (isWay book) (within (bounds book)) w m in
+          let (k, e) = kept (isWay book) (within (wayBounds book)) w m in
           let (a, r) = and-true (isJoined book 1 w) _ e in
           let (b, c) = and-true (all (λ i. leb (times i w) 1) (numbers book)) _ r in
-          let (l, d) = joined-in (size book) 1 w (within-member (bounds book) w .0 k) a in
+          let (l, d) = joined-in (size book) 1 w (within-member (wayBounds book) w .0 k) a in
           record {
             all-entries = l;
             joined = d;
@@ -56,10 +56,10 @@ module _ (book : Book) where
             openings = leb-true (times 0 w) (book .players) c;
           }
 
-      out : IsWay book w → w ∈ keep (isWay book) (within (bounds book))
+      out : IsWay book w → w ∈ keep (isWay book) (within (wayBounds book))
       out h =
           let (a, b) = joined-out (size book) 1 w (h .all-entries) (h .joined) in
-          keeps (isWay book) (within (bounds book)) w (within-member (bounds book) w .1 a)
+          keeps (isWay book) (within (wayBounds book)) w (within-member (wayBounds book) w .1 a)
           (true-and (isJoined book 1 w) (all (λ i. leb (times i w) 1) (numbers book) && leb (times 0 w) (book .players)) b
           (true-and (all (λ i. leb (times i w) 1) (numbers book)) (leb (times 0 w) (book .players))
           (member-all (λ i. leb (times i w) 1) (numbers book) (λ i m. (let k = from-member (size book) 1 i m in le-leb (times i w) 1 (h .once i (k .0) (omega arith)))))
@@ -69,16 +69,16 @@ module _ (book : Book) where
   pub full-way : (w : List ℕ) → (w ∈ fullWays book) ↔ LeastCostWay book w
   unfolding fullWays
   full-way w = (
-    λ m. (let h = best-member (noDearer book) (wayList book) w .0 m in
+    λ m. (let h = best-member (noDearerWay book) (wayList book) w .0 m in
         record { way = way-member w .0 (h .0); least = λ x k. leb-true (wayCost book w) (wayCost book x) (h .1 x (way-member x .1 k)) }),
-    λ l. best-member (noDearer book) (wayList book) w .1
+    λ l. best-member (noDearerWay book) (wayList book) w .1
         (way-member w .1 (l .way), λ x m. le-leb (wayCost book w) (wayCost book x) (l .least x (way-member x .0 m))),
   )
 
   pub ways-ascending : Ascending _<lex_ (wayList book)
   unfolding wayList
-  ways-ascending = ascending-keep _<lex_ (isWay book) (within (bounds book)) (within-ascending (bounds book))
+  ways-ascending = ascending-keep _<lex_ (isWay book) (within (wayBounds book)) (within-ascending (wayBounds book))
 
   pub full-ways-ascending : Ascending _<lex_ (fullWays book)
   unfolding fullWays
-  full-ways-ascending = best-ascending _<lex_ (noDearer book) (wayList book) ways-ascending
+  full-ways-ascending = best-ascending _<lex_ (noDearerWay book) (wayList book) ways-ascending

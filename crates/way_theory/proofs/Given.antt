@@ -15,15 +15,15 @@ use Rattle.book_form.specs.Book.{Book}
 use Rattle.way_theory.specs.Follow.{size}
 use Rattle.way_theory.specs.Ways.{oneIf, Joined, IsWay, LeastCostWay}
 use Rattle.way_theory.specs.BookNet.{sources, bookNet}
-use Rattle.way_theory.specs.WayFlow.{hit, marked, joinFlow, flowOf}
-use Rattle.way_theory.proofs.Hits.{hit-same}
+use Rattle.way_theory.specs.WayFlow.{oneIfSame, marked, joinFlow, flowOf}
+use Rattle.way_theory.proofs.OneIfSame.{same-one}
 use Rattle.way_theory.proofs.Blocks.{source}
 use Rattle.way_theory.proofs.Matched.{flow-way}
 use Rattle.way_theory.proofs.FullWays.{full-way}
 use Rattle.way_theory.proofs.LineByLine.{least-matched}
 
-hit-one : (m n : ℕ) → hit m n ≡ 1 → m ≡ n
-hit-one m n = go (eqb m n) refl
+one-same : (m n : ℕ) → oneIfSame m n ≡ 1 → m ≡ n
+one-same m n = go (eqb m n) refl
   where
     go : (t : Bool) → eqb m n ≡ t → oneIf t ≡ 1 → m ≡ n
     go true e h = test-same m n e
@@ -31,8 +31,8 @@ hit-one m n = go (eqb m n) refl
 
 marked-same : (l : List ℕ) (p q : ℕ) → q ∈ l → marked p l ≡ marked q l → p ≡ q
 marked-same [] p q m e = absurd m
-marked-same (a ∷ l) p q (inl r) e = sym (hit-one a p (heads-same (hit a p) (hit a q) (marked p l) (marked q l) e ∙ hit-same a q (sym r))) ∙ sym r
-marked-same (a ∷ l) p q (inr m) e = marked-same l p q m (tails-same (hit a p) (hit a q) (marked p l) (marked q l) e)
+marked-same (a ∷ l) p q (inl r) e = sym (one-same a p (heads-same (oneIfSame a p) (oneIfSame a q) (marked p l) (marked q l) e ∙ same-one a q (sym r))) ∙ sym r
+marked-same (a ∷ l) p q (inr m) e = marked-same l p q m (tails-same (oneIfSame a p) (oneIfSame a q) (marked p l) (marked q l) e)
 
 append-same : (a b c d : List ℕ) → length a ≡ length b → a ++ c ≡ b ++ d → (a ≡ b) × (c ≡ d)
 append-same [] [] c d l e = (refl, e)
@@ -50,7 +50,7 @@ module _ (book : Book) where
   joins-same j (p ∷ w) (q ∷ v) x y l h e =
       let s = sources book j in
       let (a, r) = append-same (marked p s) (marked q s) (joinFlow book (suc j) w ++ x) (joinFlow book (suc j) v ++ y)
-      (length-map s (λ i. hit i p) ∙ sym (length-map s (λ i. hit i q)))
+      (length-map s (λ i. oneIfSame i p) ∙ sym (length-map s (λ i. oneIfSame i q)))
       (sym (append-assoc (marked p s) (joinFlow book (suc j) w) x) ∙ e ∙ append-assoc (marked q s) (joinFlow book (suc j) v) y) in
       cons-same p q w v (marked-same s p q (source book j q (h .0) (h .1)) a) (joins-same (suc j) w v x y (suc-inj l) (h .2) r)
 

@@ -15,9 +15,9 @@ use Rattle.book_form.specs.Book.{Book}
 use Rattle.way_theory.specs.Follow.{size}
 use Rattle.way_theory.specs.Ways.{times, Joined}
 use Rattle.way_theory.specs.FullWays.{numbers}
-use Rattle.way_theory.specs.BookNet.{Arc, lastNode, sources, price, joinArc, joinArcs, bookArcs, bookNet}
-use Rattle.way_theory.specs.WayFlow.{hit, marked, joinFlow, entryFlow}
-use Rattle.way_theory.proofs.Hits.{hit-same, hit-other, hit-iff, hit-small}
+use Rattle.way_theory.specs.BookNet.{BookArc, lastNode, sources, arcCost, joinArc, joinArcs, bookArcs, bookNet}
+use Rattle.way_theory.specs.WayFlow.{oneIfSame, marked, joinFlow, entryFlow}
+use Rattle.way_theory.proofs.OneIfSame.{same-one, other-none, same-iff, same-small}
 use Rattle.way_theory.proofs.Blocks.{along, outOf, into, weigh-joins, joinFlow-length}
 use Rattle.way_theory.proofs.Nodes.{Place, origin, odd, even, last, place, whole, Fits, parts, out-zero, in-zero, out-last, in-last, out-odd, in-odd, out-even, in-even, arcs-parts, netOut-weigh, nodes-count, balance-inner, balance-last}
 use Rattle.way_theory.proofs.Bounds.{Bounds, bounds-append, bounds-map}
@@ -33,7 +33,7 @@ diff-neg : (o i b : ℕ) → o + b ≡ i → pos o -ℤ pos i ≡ negℤ (pos b)
 diff-neg o i b e = simp lin (omega arith)
 
 -- how often each entry is a predecessor
-along-count : (ψ : ℕ → ℕ → ℕ) (i j : ℕ) (w : List ℕ) → ((p k : ℕ) → ψ p k ≡ hit p i) → along ψ j w ≡ times i w
+along-count : (ψ : ℕ → ℕ → ℕ) (i j : ℕ) (w : List ℕ) → ((p k : ℕ) → ψ p k ≡ oneIfSame p i) → along ψ j w ≡ times i w
 along-count ψ i j [] h = refl
 along-count ψ i j (p ∷ w) h = ap₂ _+_ (h p j) (along-count ψ i (suc j) w h)
 
@@ -56,7 +56,7 @@ module _ (book : Book) where
   joins-bounds j [] = tt
   joins-bounds j (p ∷ w) =
       bounds-append (map (joinArc book j) (sources book j)) (joinArcs book (length w) (suc j)) (marked p (sources book j)) (joinFlow book (suc j) w)
-      (bounds-map (joinArc book j) (λ i. hit i p) (sources book j) (λ i. (omega arith, hit-small i p)))
+      (bounds-map (joinArc book j) (λ i. oneIfSame i p) (sources book j) (λ i. (omega arith, same-small i p)))
       (joins-bounds (suc j) w)
 
   pub joined-small : (j : ℕ) (w : List ℕ) → Joined book j w → Every (λ p. p ≤ size book) w
@@ -74,16 +74,16 @@ module _ (book : Book) where
       ends = ly;
     }
 
-    joins-sum : (φ : Arc → ℕ) → weigh φ (joinArcs book (size book) 1) (joinFlow book 1 w) ≡ along (λ p k. φ (joinArc book k p)) 1 w
+    joins-sum : (φ : BookArc → ℕ) → weigh φ (joinArcs book (size book) 1) (joinFlow book 1 w) ≡ along (λ p k. φ (joinArc book k p)) 1 w
     joins-sum φ = subst (λ n. weigh φ (joinArcs book n 1) (joinFlow book 1 w) ≡ along (λ p k. φ (joinArc book k p)) 1 w) len (weigh-joins book φ 1 w jd)
 
     pub joins-out : (i : ℕ) → weigh (outOf (2 * i)) (joinArcs book (size book) 1) (joinFlow book 1 w) ≡ times i w
-    joins-out i = joins-sum (outOf (2 * i)) ∙ along-count (λ p k. hit (2 * p) (2 * i)) i 1 w (λ p k. hit-iff (2 * p) (2 * i) p i (λ e. omega arith) (λ e. omega arith))
+    joins-out i = joins-sum (outOf (2 * i)) ∙ along-count (λ p k. oneIfSame (2 * p) (2 * i)) i 1 w (λ p k. same-iff (2 * p) (2 * i) p i (λ e. omega arith) (λ e. omega arith))
 
     pub joins-in : (i : ℕ) → 1 ≤ i → i ≤ size book → weigh (into (2 * i - 1)) (joinArcs book (size book) 1) (joinFlow book 1 w) ≡ 1
     joins-in i h k =
         joins-sum (into (2 * i - 1))
-        ∙ along-once (λ p k. hit (2 * k - 1) (2 * i - 1)) i 1 w h (omega arith) (λ p. hit-same (2 * i - 1) (2 * i - 1) refl) (λ p k b n. hit-other (2 * k - 1) (2 * i - 1) (λ e. n (omega arith)))
+        ∙ along-once (λ p k. oneIfSame (2 * k - 1) (2 * i - 1)) i 1 w h (omega arith) (λ p. same-one (2 * i - 1) (2 * i - 1) refl) (λ p k b n. other-none (2 * k - 1) (2 * i - 1) (λ e. n (omega arith)))
 
     pub one-at : (i : ℕ) → 1 ≤ i → i ≤ size book → getD (entryFlow book) (i - 1) 0 ≡ 1
     one-at i h k = row-at (λ j. 1) (size book) 1 (i - 1) 0 (omega arith)
@@ -118,9 +118,9 @@ module _ (book : Book) where
             (let o = out-last book (joinFlow book 1 w) (entryFlow book) y z fit in let i = in-last book (joinFlow book 1 w) (entryFlow book) y z fit in omega arith)
             ∙ sym (balance-last book (lastNode book) refl))
 
-    pub laid-cost : weigh (λ a. a .cost) (bookArcs book) laid ≡ along (λ p k. price book p k) 1 w
+    pub laid-cost : weigh (λ a. a .cost) (bookArcs book) laid ≡ along (λ p k. arcCost book p k) 1 w
     laid-cost = omega (
       arith,
-      parts book (joinFlow book 1 w) (entryFlow book) y z fit (λ a. a .cost) (along (λ p k. price book p k) 1 w) 0 0 0 (joins-sum (λ a. a .cost))
+      parts book (joinFlow book 1 w) (entryFlow book) y z fit (λ a. a .cost) (along (λ p k. arcCost book p k) 1 w) 0 0 0 (joins-sum (λ a. a .cost))
           (weigh-none (λ j. 0) (numbers book) (entryFlow book) (λ j m. refl)) (weigh-none (λ j. 0) (numbers book) y (λ j m. refl)) refl,
     )

@@ -1,4 +1,4 @@
-pub mod Hits
+pub mod OneIfSame
 pub mod Blocks
 pub mod Rows
 pub mod Nodes

@@ -53,7 +53,7 @@ module _ (book : Book) where
   pub matched : map (flowOf book) (fullWays book) ≡ fullList (bookNet book)
   unfolding fullWays fullList
   matched =
-      sym (best-image (flowOf book) (noDearer (bookNet book)) (ways.noDearer book) (wayList book)
+      sym (best-image (flowOf book) (noDearer (bookNet book)) (ways.noDearerWay book) (wayList book)
       (λ w x m n. ap₂ leZ (way-cost book w (way-member book w .0 m)) (way-cost book x (way-member book x .0 n))))
       ∙ ap (best (noDearer (bookNet book))) all-matched
 

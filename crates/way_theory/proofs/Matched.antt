@@ -15,9 +15,9 @@ use Rattle.book_form.specs.Book.{Book}
 use Rattle.way_theory.specs.Follow.{size}
 use Rattle.way_theory.specs.Ways.{times, Joined, IsWay, joinsCost, wayCost}
 use Rattle.way_theory.specs.FullWays.{numbers}
-use Rattle.way_theory.specs.BookNet.{Arc, price, joinArcs, entryArc, endArc, lastArc, bookArcs, bookNet}
+use Rattle.way_theory.specs.BookNet.{BookArc, arcCost, joinArcs, entryArc, endArc, lastArc, bookArcs, bookNet}
 use Rattle.way_theory.specs.WayFlow.{joinFlow, entryFlow, endFlow, flowOf, wayOf}
-use Rattle.way_theory.proofs.Hits.{hit-other}
+use Rattle.way_theory.proofs.OneIfSame.{other-none}
 use Rattle.way_theory.proofs.Counting.{total-count}
 use Rattle.way_theory.proofs.Blocks.{split, along, outOf, into, unjoin, joinFlow-less}
 use Rattle.way_theory.proofs.Nodes.{whole, Fits, out-zero, in-zero, out-odd, in-odd, out-even, in-even, count-arcs, netOut-weigh, cost-weigh, nodes-count, balance-inner}
@@ -27,10 +27,10 @@ use Rattle.way_theory.proofs.Laid.{pos-diff, joins-bounds, joined-small
 use Rattle.way_theory.proofs.WayBack.{way-back}
 
 module _ (book : Book) where
-  pub price-sum : (j : ℕ) (w : List ℕ) → along (λ p k. price book p k) j w ≡ book .fee * times 0 w + joinsCost book j w
-  price-sum j [] = omega arith
-  price-sum j (zero ∷ w) = let h = price-sum (suc j) w in rw mul-add (omega arith)
-  price-sum j (suc i ∷ w) = let h = price-sum (suc j) w in rw (hit-other (suc i) 0 (λ e. omega arith), mul-add) (omega arith)
+  pub arc-cost-sum : (j : ℕ) (w : List ℕ) → along (λ p k. arcCost book p k) j w ≡ book .fee * times 0 w + joinsCost book j w
+  arc-cost-sum j [] = omega arith
+  arc-cost-sum j (zero ∷ w) = let h = arc-cost-sum (suc j) w in rw mul-add (omega arith)
+  arc-cost-sum j (suc i ∷ w) = let h = arc-cost-sum (suc j) w in rw (other-none (suc i) 0 (λ e. omega arith), mul-add) (omega arith)
 
   module _ (w : List ℕ) (way : IsWay book w) where
     ends-length : length (endFlow book w) ≡ size book
@@ -72,7 +72,7 @@ module _ (book : Book) where
     pub way-cost : costOf (bookNet book) (flowOf book w) ≡ pos (wayCost book w)
     way-cost =
         cost-weigh book (flowOf book w) (laid-length book w (way .all-entries) (way .joined) (endFlow book w) (book .players - times 0 w) ends-length)
-        ∙ ap pos (laid-cost book w (way .all-entries) (way .joined) (endFlow book w) (book .players - times 0 w) ends-length ∙ price-sum 1 w)
+        ∙ ap pos (laid-cost book w (way .all-entries) (way .joined) (endFlow book w) (book .players - times 0 w) ends-length ∙ arc-cost-sum 1 w)
 
   -- the order of ways is the order of their flows
   pub flow-less : (w x : List ℕ) → IsWay book w → IsWay book x → w <lex x → flowOf book w <lex flowOf book x
@@ -105,7 +105,7 @@ module _ (book : Book) where
             pos-diff (weigh (outOf 0) (bookArcs book) f) (weigh (into 0) (bookArcs book) f) (book .players)
             (sym (netOut-weigh book f long 0) ∙ flow .balanced 0 (omega (arith, nodes-count book)))
 
-        row-long : (k : ℕ → Arc) (l : List ℕ) → length l ≡ length (map k (numbers book)) → length l ≡ size book
+        row-long : (k : ℕ → BookArc) (l : List ℕ) → length l ≡ length (map k (numbers book)) → length l ≡ size book
         row-long k l e = e ∙ row-length k (size book) 1
 
         -- the predecessors are known: the rest follows

@@ -16,9 +16,9 @@ use Rattle.net_model.specs.Network.{nodes, arcs, netOut, balance, costOf}
 use Rattle.book_form.specs.Book.{Book}
 use Rattle.way_theory.specs.Follow.{size}
 use Rattle.way_theory.specs.FullWays.{numbers}
-use Rattle.way_theory.specs.BookNet.{Arc, lastNode, joinArcs, entryArc, endArc, lastArc, bookArcs, bookNet}
-use Rattle.way_theory.specs.WayFlow.{hit}
-use Rattle.way_theory.proofs.Hits.{hit-same, hit-other}
+use Rattle.way_theory.specs.BookNet.{BookArc, lastNode, joinArcs, entryArc, endArc, lastArc, bookArcs, bookNet}
+use Rattle.way_theory.specs.WayFlow.{oneIfSame}
+use Rattle.way_theory.proofs.OneIfSame.{same-one, other-none}
 use Rattle.way_theory.proofs.Blocks.{outOf, into, joins-none}
 use Rattle.way_theory.proofs.Rows.{rows-length}
 
@@ -56,7 +56,7 @@ pub record Fits (book : Book) (g x y : List ℕ) : Type 0 where
   pub ends : length y ≡ size book
 
 module _ (book : Book) (g x y : List ℕ) (z : ℕ) (fit : Fits book g x y) where
-  pub parts : (φ : Arc → ℕ) (a b c d : ℕ) → weigh φ (joinArcs book (size book) 1) g ≡ a → weigh (λ j. φ (entryArc j)) (numbers book) x ≡ b
+  pub parts : (φ : BookArc → ℕ) (a b c d : ℕ) → weigh φ (joinArcs book (size book) 1) g ≡ a → weigh (λ j. φ (entryArc j)) (numbers book) x ≡ b
       → weigh (λ j. φ (endArc book j)) (numbers book) y ≡ c → φ (lastArc book) ≡ d
       → weigh φ (bookArcs book) (whole g x y z) ≡ a + (b + (c + d * z))
   parts φ a b c d p q r s =
@@ -79,39 +79,39 @@ module _ (book : Book) (g x y : List ℕ) (z : ℕ) (fit : Fits book g x y) wher
   out-zero = omega (
     arith,
     parts (outOf 0) (weigh (outOf 0) (joinArcs book (size book) 1) g) 0 0 1 refl
-        (misses (λ j. hit (2 * j - 1) 0) x (λ j h k. hit-other (2 * j - 1) 0 (λ e. omega arith)))
-        (misses (λ j. hit (2 * j) 0) y (λ j h k. hit-other (2 * j) 0 (λ e. omega arith)))
-        (hit-same 0 0 refl),
+        (misses (λ j. oneIfSame (2 * j - 1) 0) x (λ j h k. other-none (2 * j - 1) 0 (λ e. omega arith)))
+        (misses (λ j. oneIfSame (2 * j) 0) y (λ j h k. other-none (2 * j) 0 (λ e. omega arith)))
+        (same-one 0 0 refl),
   )
 
   pub in-zero : weigh (into 0) (bookArcs book) (whole g x y z) ≡ 0
   in-zero = omega (
     arith,
     parts (into 0) 0 0 0 0
-        (joins-none book (into 0) (size book) 1 g (λ i j h k. hit-other (2 * j - 1) 0 (λ e. omega arith)))
-        (misses (λ j. hit (2 * j) 0) x (λ j h k. hit-other (2 * j) 0 (λ e. omega arith)))
-        (misses (λ j. hit (lastNode book) 0) y (λ j h k. hit-other (lastNode book) 0 (λ e. omega arith)))
-        (hit-other (lastNode book) 0 (λ e. omega arith)),
+        (joins-none book (into 0) (size book) 1 g (λ i j h k. other-none (2 * j - 1) 0 (λ e. omega arith)))
+        (misses (λ j. oneIfSame (2 * j) 0) x (λ j h k. other-none (2 * j) 0 (λ e. omega arith)))
+        (misses (λ j. oneIfSame (lastNode book) 0) y (λ j h k. other-none (lastNode book) 0 (λ e. omega arith)))
+        (other-none (lastNode book) 0 (λ e. omega arith)),
   )
 
   pub out-last : weigh (outOf (lastNode book)) (bookArcs book) (whole g x y z) ≡ 0
   out-last = omega (
     arith,
     parts (outOf (lastNode book)) 0 0 0 0
-        (joins-none book (outOf (lastNode book)) (size book) 1 g (λ i j h k. hit-other (2 * i) (lastNode book) (λ e. omega arith)))
-        (misses (λ j. hit (2 * j - 1) (lastNode book)) x (λ j h k. hit-other (2 * j - 1) (lastNode book) (λ e. omega arith)))
-        (misses (λ j. hit (2 * j) (lastNode book)) y (λ j h k. hit-other (2 * j) (lastNode book) (λ e. omega arith)))
-        (hit-other 0 (lastNode book) (λ e. omega arith)),
+        (joins-none book (outOf (lastNode book)) (size book) 1 g (λ i j h k. other-none (2 * i) (lastNode book) (λ e. omega arith)))
+        (misses (λ j. oneIfSame (2 * j - 1) (lastNode book)) x (λ j h k. other-none (2 * j - 1) (lastNode book) (λ e. omega arith)))
+        (misses (λ j. oneIfSame (2 * j) (lastNode book)) y (λ j h k. other-none (2 * j) (lastNode book) (λ e. omega arith)))
+        (other-none 0 (lastNode book) (λ e. omega arith)),
   )
 
   pub in-last : weigh (into (lastNode book)) (bookArcs book) (whole g x y z) ≡ total y + z
   in-last = omega (
     arith,
     parts (into (lastNode book)) 0 0 (total y) 1
-        (joins-none book (into (lastNode book)) (size book) 1 g (λ i j h k. hit-other (2 * j - 1) (lastNode book) (λ e. omega arith)))
-        (misses (λ j. hit (2 * j) (lastNode book)) x (λ j h k. hit-other (2 * j) (lastNode book) (λ e. omega arith)))
-        (weigh-ones (λ j. hit (lastNode book) (lastNode book)) (numbers book) y (fit .ends ∙ sym (from-length (size book) 1)) (λ j m. hit-same (lastNode book) (lastNode book) refl))
-        (hit-same (lastNode book) (lastNode book) refl),
+        (joins-none book (into (lastNode book)) (size book) 1 g (λ i j h k. other-none (2 * j - 1) (lastNode book) (λ e. omega arith)))
+        (misses (λ j. oneIfSame (2 * j) (lastNode book)) x (λ j h k. other-none (2 * j) (lastNode book) (λ e. omega arith)))
+        (weigh-ones (λ j. oneIfSame (lastNode book) (lastNode book)) (numbers book) y (fit .ends ∙ sym (from-length (size book) 1)) (λ j m. same-one (lastNode book) (lastNode book) refl))
+        (same-one (lastNode book) (lastNode book) refl),
   )
 
   module _ (i : ℕ) (low : 1 ≤ i) (high : i ≤ size book) where
@@ -119,50 +119,50 @@ module _ (book : Book) (g x y : List ℕ) (z : ℕ) (fit : Fits book g x y) wher
     out-odd = omega (
       arith,
       parts (outOf (2 * i - 1)) 0 (getD x (i - 1) 0) 0 0
-          (joins-none book (outOf (2 * i - 1)) (size book) 1 g (λ k j h l. hit-other (2 * k) (2 * i - 1) (λ e. omega arith)))
-          (hits (λ j. hit (2 * j - 1) (2 * i - 1)) x i (fit .enters) low high (hit-same (2 * i - 1) (2 * i - 1) refl) (λ j h n. hit-other (2 * j - 1) (2 * i - 1) (λ e. n (omega arith))))
-          (misses (λ j. hit (2 * j) (2 * i - 1)) y (λ j h k. hit-other (2 * j) (2 * i - 1) (λ e. omega arith)))
-          (hit-other 0 (2 * i - 1) (λ e. omega arith)),
+          (joins-none book (outOf (2 * i - 1)) (size book) 1 g (λ k j h l. other-none (2 * k) (2 * i - 1) (λ e. omega arith)))
+          (hits (λ j. oneIfSame (2 * j - 1) (2 * i - 1)) x i (fit .enters) low high (same-one (2 * i - 1) (2 * i - 1) refl) (λ j h n. other-none (2 * j - 1) (2 * i - 1) (λ e. n (omega arith))))
+          (misses (λ j. oneIfSame (2 * j) (2 * i - 1)) y (λ j h k. other-none (2 * j) (2 * i - 1) (λ e. omega arith)))
+          (other-none 0 (2 * i - 1) (λ e. omega arith)),
     )
 
     pub in-odd : weigh (into (2 * i - 1)) (bookArcs book) (whole g x y z) ≡ weigh (into (2 * i - 1)) (joinArcs book (size book) 1) g
     in-odd = omega (
       arith,
       parts (into (2 * i - 1)) (weigh (into (2 * i - 1)) (joinArcs book (size book) 1) g) 0 0 0 refl
-          (misses (λ j. hit (2 * j) (2 * i - 1)) x (λ j h k. hit-other (2 * j) (2 * i - 1) (λ e. omega arith)))
-          (misses (λ j. hit (lastNode book) (2 * i - 1)) y (λ j h k. hit-other (lastNode book) (2 * i - 1) (λ e. omega arith)))
-          (hit-other (lastNode book) (2 * i - 1) (λ e. omega arith)),
+          (misses (λ j. oneIfSame (2 * j) (2 * i - 1)) x (λ j h k. other-none (2 * j) (2 * i - 1) (λ e. omega arith)))
+          (misses (λ j. oneIfSame (lastNode book) (2 * i - 1)) y (λ j h k. other-none (lastNode book) (2 * i - 1) (λ e. omega arith)))
+          (other-none (lastNode book) (2 * i - 1) (λ e. omega arith)),
     )
 
     pub out-even : weigh (outOf (2 * i)) (bookArcs book) (whole g x y z) ≡ weigh (outOf (2 * i)) (joinArcs book (size book) 1) g + getD y (i - 1) 0
     out-even = omega (
       arith,
       parts (outOf (2 * i)) (weigh (outOf (2 * i)) (joinArcs book (size book) 1) g) 0 (getD y (i - 1) 0) 0 refl
-          (misses (λ j. hit (2 * j - 1) (2 * i)) x (λ j h k. hit-other (2 * j - 1) (2 * i) (λ e. omega arith)))
-          (hits (λ j. hit (2 * j) (2 * i)) y i (fit .ends) low high (hit-same (2 * i) (2 * i) refl) (λ j h n. hit-other (2 * j) (2 * i) (λ e. n (omega arith))))
-          (hit-other 0 (2 * i) (λ e. omega arith)),
+          (misses (λ j. oneIfSame (2 * j - 1) (2 * i)) x (λ j h k. other-none (2 * j - 1) (2 * i) (λ e. omega arith)))
+          (hits (λ j. oneIfSame (2 * j) (2 * i)) y i (fit .ends) low high (same-one (2 * i) (2 * i) refl) (λ j h n. other-none (2 * j) (2 * i) (λ e. n (omega arith))))
+          (other-none 0 (2 * i) (λ e. omega arith)),
     )
 
     pub in-even : weigh (into (2 * i)) (bookArcs book) (whole g x y z) ≡ getD x (i - 1) 0
     in-even = omega (
       arith,
       parts (into (2 * i)) 0 (getD x (i - 1) 0) 0 0
-          (joins-none book (into (2 * i)) (size book) 1 g (λ k j h l. hit-other (2 * j - 1) (2 * i) (λ e. omega arith)))
-          (hits (λ j. hit (2 * j) (2 * i)) x i (fit .enters) low high (hit-same (2 * i) (2 * i) refl) (λ j h n. hit-other (2 * j) (2 * i) (λ e. n (omega arith))))
-          (misses (λ j. hit (lastNode book) (2 * i)) y (λ j h k. hit-other (lastNode book) (2 * i) (λ e. omega arith)))
-          (hit-other (lastNode book) (2 * i) (λ e. omega arith)),
+          (joins-none book (into (2 * i)) (size book) 1 g (λ k j h l. other-none (2 * j - 1) (2 * i) (λ e. omega arith)))
+          (hits (λ j. oneIfSame (2 * j) (2 * i)) x i (fit .enters) low high (same-one (2 * i) (2 * i) refl) (λ j h n. other-none (2 * j) (2 * i) (λ e. n (omega arith))))
+          (misses (λ j. oneIfSame (lastNode book) (2 * i)) y (λ j h k. other-none (lastNode book) (2 * i) (λ e. omega arith)))
+          (other-none (lastNode book) (2 * i) (λ e. omega arith)),
     )
 
 -- the network's own words
-abbrev pub noArc : Arc
+abbrev pub noArc : BookArc
 noArc = record { tail = 0; head = 0; low = 0; up = 0; cost = 0 }
 
-at-hit : (e v n : ℕ) → at e v (pos n) ≡ pos (hit e v * n)
-at-hit e v n = go (ℕ-discrete e v)
+at-one-if-same : (e v n : ℕ) → at e v (pos n) ≡ pos (oneIfSame e v * n)
+at-one-if-same e v n = go (ℕ-discrete e v)
   where
-    go : Dec (e ≡ v) → at e v (pos n) ≡ pos (hit e v * n)
-    go (yes q) = at-same q (pos n) ∙ ap pos (rw (hit-same e v q) (omega arith))
-    go (no q) = at-other q (pos n) ∙ ap pos (rw (hit-other e v q) (omega arith))
+    go : Dec (e ≡ v) → at e v (pos n) ≡ pos (oneIfSame e v * n)
+    go (yes q) = at-same q (pos n) ∙ ap pos (rw (same-one e v q) (omega arith))
+    go (no q) = at-other q (pos n) ∙ ap pos (rw (other-none e v q) (omega arith))
 
 pub count-arcs : (book : Book) → arcs (bookNet book) ≡ length (bookArcs book)
 count-arcs book = length-map (bookArcs book) (λ a. a .tail)
@@ -177,9 +177,9 @@ module _ (book : Book) (f : List ℕ) (fits : length f ≡ length (bookArcs book
   pub netOut-weigh : (v : ℕ) → netOut (bookNet book) f v ≡ pos (weigh (outOf v) (bookArcs book) f) -ℤ pos (weigh (into v) (bookArcs book) f)
   netOut-weigh v = ap₂ _-ℤ_
       (sum-weigh (outOf v) noArc (bookArcs book) f (arcs (bookNet book)) (count-arcs book) fits (λ a. at (getD (bookNet book .tails) a 0) v (pos (getD f a 0)))
-      (λ k. ap (λ e. at e v (pos (getD f k 0))) (List·getD-map (λ a. a .tail) (bookArcs book) k noArc) ∙ at-hit (getD (bookArcs book) k noArc .tail) v (getD f k 0)))
+      (λ k. ap (λ e. at e v (pos (getD f k 0))) (List·getD-map (λ a. a .tail) (bookArcs book) k noArc) ∙ at-one-if-same (getD (bookArcs book) k noArc .tail) v (getD f k 0)))
       (sum-weigh (into v) noArc (bookArcs book) f (arcs (bookNet book)) (count-arcs book) fits (λ a. at (getD (bookNet book .heads) a 0) v (pos (getD f a 0)))
-      (λ k. ap (λ e. at e v (pos (getD f k 0))) (List·getD-map (λ a. a .head) (bookArcs book) k noArc) ∙ at-hit (getD (bookArcs book) k noArc .head) v (getD f k 0)))
+      (λ k. ap (λ e. at e v (pos (getD f k 0))) (List·getD-map (λ a. a .head) (bookArcs book) k noArc) ∙ at-one-if-same (getD (bookArcs book) k noArc .head) v (getD f k 0)))
 
   pub cost-weigh : costOf (bookNet book) f ≡ pos (weigh (λ a. a .cost) (bookArcs book) f)
   cost-weigh =

@@ -12,16 +12,16 @@ use Rattle.laws.specs.Equality.{cons-same}
 use Rattle.book_form.specs.Book.{Book}
 use Rattle.way_theory.specs.Ways.{Joined, IsWay}
 use Rattle.way_theory.specs.BookNet.{sources}
-use Rattle.way_theory.specs.WayFlow.{hit, marked, joinFlow, flowOf, pick, wayFrom, wayOf}
-use Rattle.way_theory.proofs.Hits.{hit-same, hit-other, Above}
+use Rattle.way_theory.specs.WayFlow.{oneIfSame, marked, joinFlow, flowOf, pick, wayFrom, wayOf}
+use Rattle.way_theory.proofs.OneIfSame.{same-one, other-none, Above}
 use Rattle.way_theory.proofs.Blocks.{sources-fall, source}
 
 pick-marked : (l : List ℕ) (p : ℕ) (x : List ℕ) → Ascending Above l → p ∈ l → pick l (marked p l ++ x) ≡ p
 pick-marked [] p x h m = absurd m
-pick-marked (a ∷ l) p x h (inl q) = rw (hit-same a p (sym q)) (sym q)
+pick-marked (a ∷ l) p x h (inl q) = rw (same-one a p (sym q)) (sym q)
 pick-marked (a ∷ l) p x h (inr m) =
     let b = every-member (Above a) l (h .0) p m in
-    rw (hit-other a p (λ z. omega arith)) (pick-marked l p x (h .1) m)
+    rw (other-none a p (λ z. omega arith)) (pick-marked l p x (h .1) m)
 
 module _ (book : Book) where
   from-joins : (j : ℕ) (w x : List ℕ) → Joined book j w → wayFrom book (length w) j (joinFlow book j w ++ x) ≡ w
@@ -30,7 +30,7 @@ module _ (book : Book) where
       rw (append-assoc (marked p (sources book j)) (joinFlow book (suc j) w) x)
       (cons-same (pick (sources book j) (marked p (sources book j) ++ (joinFlow book (suc j) w ++ x))) p _ w
       (pick-marked (sources book j) p (joinFlow book (suc j) w ++ x) (sources-fall book j) (source book j p (h .0) (h .1)))
-      (ap (wayFrom book (length w) (suc j)) (drop-at (marked p (sources book j)) (joinFlow book (suc j) w ++ x) (length (sources book j)) (length-map (sources book j) (λ i. hit i p)))
+      (ap (wayFrom book (length w) (suc j)) (drop-at (marked p (sources book j)) (joinFlow book (suc j) w ++ x) (length (sources book j)) (length-map (sources book j) (λ i. oneIfSame i p)))
       ∙ from-joins (suc j) w x (h .2)))
 
   pub way-back : (w : List ℕ) → IsWay book w → wayOf book (flowOf book w) ≡ w

@@ -14,16 +14,16 @@ abbrev pub waysIn : Option Book → List (List ℕ)
 waysIn none = []
 waysIn (some b) = fullWays b
 
-abbrev pub costIn : Option Book → List ℕ → ℕ
-costIn none w = 0
-costIn (some b) w = wayCost b w
+abbrev pub wayCostOrZero : Option Book → List ℕ → ℕ
+wayCostOrZero none w = 0
+wayCostOrZero (some b) w = wayCost b w
 
 -- of the book that the bytes s hold: the full list, the cost of a way, and E
 abbrev pub ways : List ℕ → List (List ℕ)
 ways s = waysIn (parse s)
 
-abbrev pub costOf : List ℕ → List ℕ → ℤ
-costOf s w = pos (costIn (parse s) w)
+abbrev pub wayCostIn : List ℕ → List ℕ → ℤ
+wayCostIn s w = pos (wayCostOrZero (parse s) w)
 
-abbrev pub size : List ℕ → ℕ
-size s = length (entriesOf (parse s))
+abbrev pub entryCount : List ℕ → ℕ
+entryCount s = length (entriesOf (parse s))

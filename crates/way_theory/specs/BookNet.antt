@@ -7,10 +7,10 @@ use Rattle.laws.specs.Members.{keep}
 use Rattle.net_model.specs.Network.{Net}
 use Rattle.book_form.specs.Book.{Book}
 use Rattle.way_theory.specs.Follow.{size}
-use Rattle.way_theory.specs.Ways.{offer, orNone, permits}
+use Rattle.way_theory.specs.Ways.{predecessorCost, orNone, permits}
 use Rattle.way_theory.specs.FullWays.{numbers}
 
-pub record Arc : Type 0 where
+pub record BookArc : Type 0 where
   pub tail : ℕ
   pub head : ℕ
   pub low : ℕ
@@ -33,36 +33,36 @@ down (suc n) = suc n ∷ down n
 abbrev pub sources : Book → ℕ → List ℕ
 sources book j = keep (λ i. permits book i j) (down (size book))
 
-abbrev pub price : Book → ℕ → ℕ → ℕ
-price book i j = orNone (offer book i j)
+abbrev pub arcCost : Book → ℕ → ℕ → ℕ
+arcCost book i j = orNone (predecessorCost book i j)
 
 -- "the joins from 2i to 2j−1, ... bounds 0 and 1, cost of the join; then the opening arc from 0 to 2j−1, bounds 0 and 1, cost the fee":
 -- the opening arc is that of i = 0
-abbrev pub joinArc : Book → ℕ → ℕ → Arc
-joinArc book j i = record { tail = 2 * i; head = 2 * j - 1; low = 0; up = 1; cost = price book i j }
+abbrev pub joinArc : Book → ℕ → ℕ → BookArc
+joinArc book j i = record { tail = 2 * i; head = 2 * j - 1; low = 0; up = 1; cost = arcCost book i j }
 
 -- "For each j from 1 to E": of each of n entries from j on
-abbrev pub joinArcs : Book → ℕ → ℕ → List Arc
+abbrev pub joinArcs : Book → ℕ → ℕ → List BookArc
 joinArcs book zero j = []
 joinArcs book (suc n) j = map (joinArc book j) (sources book j) ++ joinArcs book n (suc j)
 
 -- "Then for each j the entry arc, bounds 1 and 1, cost 0."
-abbrev pub entryArc : ℕ → Arc
+abbrev pub entryArc : ℕ → BookArc
 entryArc j = record { tail = 2 * j - 1; head = 2 * j; low = 1; up = 1; cost = 0 }
 
 -- "Then for each j the arc from 2j to 2E+1, bounds 0 and 1, cost 0."
-abbrev pub endArc : Book → ℕ → Arc
+abbrev pub endArc : Book → ℕ → BookArc
 endArc book j = record { tail = 2 * j; head = lastNode book; low = 0; up = 1; cost = 0 }
 
 -- "Last the arc from 0 to 2E+1, bounds 0 and P, cost 0."
-abbrev pub lastArc : Book → Arc
+abbrev pub lastArc : Book → BookArc
 lastArc book = record { tail = 0; head = lastNode book; low = 0; up = book .players; cost = 0 }
 
 -- "Arcs in this order."
-abbrev pub bookArcs : Book → List Arc
+abbrev pub bookArcs : Book → List BookArc
 bookArcs book = joinArcs book (size book) 1 ++ (map entryArc (numbers book) ++ (map (endArc book) (numbers book) ++ (lastArc book ∷ [])))
 
-abbrev pub netOfArcs : List ℤ → List Arc → Net
+abbrev pub netOfArcs : List ℤ → List BookArc → Net
 netOfArcs balances arcs = record {
   balances = balances;
   tails = map (λ a. a .tail) arcs;

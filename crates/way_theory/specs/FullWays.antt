@@ -30,20 +30,20 @@ abbrev pub isWay : Book → List ℕ → Bool
 isWay book w = isJoined book 1 w && (all (λ i. leb (times i w) 1) (numbers book) && leb (times 0 w) (book .players))
 
 -- whether w costs no more than x
-abbrev pub noDearer : Book → List ℕ → List ℕ → Bool
-noDearer book w x = leb (wayCost book w) (wayCost book x)
+abbrev pub noDearerWay : Book → List ℕ → List ℕ → Bool
+noDearerWay book w x = leb (wayCost book w) (wayCost book x)
 
 -- the bounds of E numbers from 0 to E
-abbrev pub bounds : Book → List (ℕ × ℕ)
-bounds book = replicate (size book) (0, size book)
+abbrev pub wayBounds : Book → List (ℕ × ℕ)
+wayBounds book = replicate (size book) (0, size book)
 
 -- "of all lists of E numbers from 0 to E, in the order of ways"
 unfoldable pub wayList : Book → List (List ℕ)
-wayList book = keep (isWay book) (within (bounds book))
+wayList book = keep (isWay book) (within (wayBounds book))
 
 -- "keep the least-cost ways"
 unfoldable pub fullWays : Book → List (List ℕ)
-fullWays book = best (noDearer book) (wayList book)
+fullWays book = best (noDearerWay book) (wayList book)
 
 -- "First ...: the finger goes to line 1. ... Without lines: 'none'"
 abbrev pub firstWay : Book → Option (List ℕ)

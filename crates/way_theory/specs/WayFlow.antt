@@ -11,12 +11,12 @@ use Rattle.way_theory.specs.FullWays.{numbers}
 use Rattle.way_theory.specs.BookNet.{sources}
 
 -- 1 where the two numbers are one
-abbrev pub hit : ℕ → ℕ → ℕ
-hit m n = oneIf (eqb m n)
+abbrev pub oneIfSame : ℕ → ℕ → ℕ
+oneIfSame m n = oneIf (eqb m n)
 
 -- "1 on the arc from 2i to 2j−1 where i is the predecessor of j, 1 on the opening arc of j where that is 0"
 abbrev pub marked : ℕ → List ℕ → List ℕ
-marked p l = map (λ i. hit i p) l
+marked p l = map (λ i. oneIfSame i p) l
 
 abbrev pub joinFlow : Book → ℕ → List ℕ → List ℕ
 joinFlow book j [] = []

@@ -19,12 +19,12 @@ orNone none = 0
 orNone (some c) = c
 
 -- what predecessor i of entry j costs, if j may have it: the fee for 0, which opens a part
-abbrev pub offer : Book → ℕ → ℕ → Option ℕ
-offer book zero j = some (book .fee)
-offer book (suc i) j = mayFollow book (suc i) j
+abbrev pub predecessorCost : Book → ℕ → ℕ → Option ℕ
+predecessorCost book zero j = some (book .fee)
+predecessorCost book (suc i) j = mayFollow book (suc i) j
 
 abbrev pub permits : Book → ℕ → ℕ → Bool
-permits book i j = given? (offer book i j)
+permits book i j = given? (predecessorCost book i j)
 
 abbrev pub oneIf : Bool → ℕ
 oneIf true = 1

@@ -9,20 +9,23 @@ use Rattle.book_form.proofs.judge.Tie as tie
 
 -- the answer, by what the passes found
 answered : (c : tie.After-answer-of)
-    → let start = c .before .before .before .before .before .before in
+    → let after-first-bad = c .before .before .before in
+    let start = after-first-bad .before .before .before in
     c .answer-of .result ≡ answerOf (headerBad (start .args .o)) (start .args .m .bad) (start .args .e .bad) (start .args .e .count)
 answered c = c .answer-of .ensures ∙ rw (c .before .first-bad2 .ensures, c .before .before .before .first-bad .ensures)
 
 returns : tie.Need-returns
 returns c =
-    let x = c .before .before .before .before .before .before .before .before .before .args in
+    let start : tie.Start = search in
+    let x = start .args in
     c .refused .ensures
     ∙ judged-refused _ (x .o) (x .m) (x .e) (λ z. c .before .if1 .taken (c .before .before .question .ensures ∙ z))
     ∙ ap (λ (a : Answer). judgedOf a (x .o) (x .m) (x .e)) (answered (c .before .before .before))
 
 returns-2 : tie.Need-returns-2
 returns-2 c =
-    let x = c .before .before .before .before .before .before .before .before .before .args in
+    let start : tie.Start = search in
+    let x = start .args in
     judged-held _ (x .o) (x .m) (x .e) (sym (c .before .before .question .ensures) ∙ c .before .if1 .left) _ (c .held .ensures)
     ∙ ap (λ (a : Answer). judgedOf a (x .o) (x .m) (x .e)) (answered (c .before .before .before))
 

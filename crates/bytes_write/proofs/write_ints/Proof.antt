@@ -44,11 +44,13 @@ put-u32-requires c κs = omega (arith, c .before .before .before .before .loop .
 
 loop-again : tie.Need-loop-again Inv-loop μ-loop
 loop-again c =
-    let l = c .before .before .before .before .before .before .before in
+    let after-to-unsigned : tie.After-to-unsigned Inv-loop μ-loop = search in
+    let after-x : tie.After-x Inv-loop μ-loop = search in
+    let l : tie.At-loop Inv-loop μ-loop = search in
     let n = l .before in
     let a = n .before .before in
     written-more (map unsigned (a .args .xs .now)) (a .args .out .now) (n .count-of .result) (fits n .0) (fits n .1) (l .loop .i) (l .loop .out) (c .before .before .put-u32 .last .0) _
-    (l .loop .inv) (omega arith) (c .before .before .put-u32 .ensures) (c .before .before .before .before .to-unsigned .ensures ∙ arg (a .args .xs .now) (l .loop .i) (c .before .before .before .before .before .x .given))
+    (l .loop .inv) (omega arith) (c .before .before .put-u32 .ensures) (after-to-unsigned .to-unsigned .ensures ∙ arg (a .args .xs .now) (l .loop .i) (after-x .x .given))
 
 same-length : tie.Need-same-length Inv-loop μ-loop
 same-length c = c .before .loop .inv .long

@@ -29,7 +29,7 @@ put-u32-requires c κs = omega (arith, c .before .before .before .loop .inv .lon
 
 loop-again : tie.Need-loop-again Inv-loop μ-loop
 loop-again c =
-    let l = c .before .before .before .before .before .before in
+    let l : tie.At-loop Inv-loop μ-loop = search in
     let n = l .before in
     let a = n .before .before .before in
     written-more (a .args .xs .now) (a .args .out .now) (n .count-of .result) (fits n .0) (fits n .1) (l .loop .i) (l .loop .out) (c .before .before .put-u32 .last .0) _

@@ -8,7 +8,8 @@ use Rattle.call_listing.proofs.printed.Statement.{statement}
 use Rattle.call_listing.proofs.printed.Tie as tie
 
 inside : (w : tie.After-write-listing) → w .write-listing .result .len ≤ length (w .write-listing .last .1 .0)
-inside w = in-room (w .before .before .before .before .before .args .book .now) _ (w .write-listing .last .1 .0) (w .before .before .blank .ensures) (w .write-listing .result) (w .write-listing .ensures)
+inside w =
+    in-room (w .before .before .before .before .before .args .book .now) _ (w .write-listing .last .1 .0) (w .before .before .blank .ensures) (w .write-listing .result) (w .write-listing .ensures)
 
 array-share-prefix-room : tie.Need-array-share-prefix-room
 array-share-prefix-room c = inside (c .before)
@@ -21,7 +22,8 @@ returns c =
     let p = c .before .before in
     let w = p .before .before .before .before in
     let a = w .before .before .before .before .before .args in
-    prints (a .book .now) _ (w .write-listing .last .1 .0) (w .before .before .blank .ensures) (w .write-listing .result) (w .write-listing .ensures) (a .text .now) (p .copy-if-room .last .1 .0) (p .copy-if-room .ensures)
+    prints (a .book .now) _ (w .write-listing .last .1 .0) (w .before .before .blank .ensures) (w .write-listing .result) (w .write-listing .ensures) (a .text .now)
+    (p .copy-if-room .last .1 .0) (p .copy-if-room .ensures)
 
 pub printed-spec : {M : Type 1} → statement M
 printed-spec =

@@ -2,40 +2,41 @@ use mathlib.Core.Path.{_≡_, refl, ap, _∙_}
 use mathlib.Core.Bool.{true}
 use mathlib.Core.Option.{none}
 use lib.ListN.{length}
-use Rattle.laws.specs.Run.{first}
+use Rattle.laws.specs.Rules.{first}
 use Rattle.net_model.specs.FullList.{firstFlow}
 use Rattle.net_model.specs.Struct.{netIn}
 use Rattle.call_reply.specs.ByteLists.{room}
 use Rattle.call_network.specs.NetworkCalls.{lends}
-use Rattle.flow_enumerate.specs.Enumerator.{lineOf}
-use Rattle.call_flow_bytes.specs.NetworkBytes.{Ready}
+use Rattle.flow_enumerate.specs.Enumerator.{itemOf}
+use Rattle.call_flow_bytes.specs.FlowSteps.{StandsFor}
 use Rattle.call_network.proofs.NetworkEntries.{fails, passes, answers-first}
 use borrow.Author.Needs.{needs}
 use Rattle.call_network.proofs.first.Statement.{statement}
 use Rattle.call_network.proofs.first.Tie as tie
 
-abbrev entry : tie.After-begin → tie.Start
+abbrev entry : tie.After-admit-network → tie.Start
 entry c = c .before .before .before .before
 
 -- past questions 1 to 7
-past : (c : tie.Else1) → Ready (entry (c .before) .args .balances .now) (entry (c .before) .args .arcs .now) (c .before .begin .result .net)
-    × (room (c .before .begin .result .net .arcs) (length (entry (c .before) .args .flows .now)) ≡ true)
+past : (c : tie.Else1) → StandsFor (entry (c .before) .args .balances .now) (entry (c .before) .args .arcs .now) (c .before .admit-network .result .net)
+    × (room (c .before .admit-network .result .net .arcs) (length (entry (c .before) .args .flows .now)) ≡ true)
 past c =
     let b = c .before in
     let a = entry b .args in
-    passes (a .balances .now) (a .arcs .now) (b .begin .result) (length (a .flows .now)) (b .begin .ensures) (c .if1 .left)
+    passes (a .balances .now) (a .arcs .now) (b .admit-network .result) (length (a .flows .now)) (b .admit-network .ensures) (c .if1 .left)
 
 returns : tie.Need-returns
 returns c =
     let b = c .before .before in
     let a = entry b .args in
-    fails (a .balances .now) (a .arcs .now) (b .begin .result) (length (a .flows .now)) (b .begin .ensures) (first (lends (a .flows .now) none)) (c .word .result) refl (c .before .if1 .taken) (c .word .ensures)
+    fails (a .balances .now) (a .arcs .now) (b .admit-network .result) (length (a .flows .now)) (b .admit-network .ensures) (first (lends (a .flows .now) none))
+    (c .code-alone .result) refl (c .before .if1 .taken) (c .code-alone .ensures)
 
 start-requires : tie.Need-start-requires
 start-requires c κs = past (c .before) .0 .sound
 
-hand-out-requires : tie.Need-hand-out-requires
-hand-out-requires c κs =
+hand-flow-requires : tie.Need-hand-flow-requires
+hand-flow-requires c κs =
     let f = c .before in
     let s = f .before in
     let e = s .before .before in
@@ -49,12 +50,12 @@ returns-2 c =
     let s = f .before in
     let e = s .before .before in
     let a = entry (e .before) .args in
-    let (ready, fits) = past e in
+    let (stands, fits) = past e in
     let walk = f .first .result in
-    answers-first (a .balances .now) (a .arcs .now) (e .before .begin .result .net) ready (a .flows .now) fits
-    (netIn (walk .net)) (lineOf walk) (ap netIn (f .first .ensures .net-is ∙ s .start .ensures .1) ∙ ready .is)
-    (f .first .ensures .line-is ∙ ap firstFlow (ap netIn (s .start .ensures .1) ∙ ready .is))
-    (h .hand-out .result) _ (h .hand-out .ensures)
+    answers-first (a .balances .now) (a .arcs .now) (e .before .admit-network .result .net) stands (a .flows .now) fits
+    (netIn (walk .net)) (itemOf walk) (ap netIn (f .first .ensures .net-is ∙ s .start .ensures .1) ∙ stands .is)
+    (f .first .ensures .item-is ∙ ap firstFlow (ap netIn (s .start .ensures .1) ∙ stands .is))
+    (h .hand-flow .result) _ (h .hand-flow .ensures)
 
 pub first-spec : {M : Type 1} → statement M
 first-spec =
@@ -65,6 +66,6 @@ first-spec =
     returns
     start-requires
     (λ c κs. search needs)
-    hand-out-requires
+    hand-flow-requires
     (λ c. search needs)
     returns-2)

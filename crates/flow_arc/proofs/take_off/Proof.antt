@@ -1,31 +1,43 @@
-use mathlib.Core.Path.{sym, ap, subst, _∙_}
+use mathlib.Core.Path.{_∙_}
+use mathlib.Core.List.{List, []}
 use Prim.Native.Nat.{ℕ, _-_}
 use native.Mathlib.Omega.{arith}
-use lib.ListN.{getD, take, set, length-set}
+use lib.ListN.{getD, take, length-set}
 use borrow.Author.Needs.{needs}
-use Rattle.net_theory.specs.Push.{pushAll}
-use Rattle.net_theory.specs.Graph.{graph}
-use Rattle.flow_push.specs.Pushing.{Pushable}
-use Rattle.flow_arc.proofs.Detours.{take-able, takes-le, taken-off}
+use Rattle.net_model.specs.Network.{Net}
+use Rattle.net_theory.specs.Graph.{netWith}
+use Rattle.flow_arc.proofs.WalksAbove.{take-able, takes-le, taken-off}
 use Rattle.flow_arc.proofs.take_off.Statement.{statement}
 use Rattle.flow_arc.proofs.take_off.Tie as tie
 
+-- where the function begins, seen from the bottleneck
+abbrev begin : tie.After-bottleneck-arg → tie.Start
+begin c = c .before .before .before .before .before .before .before .before
+
+abbrev net : tie.Start → Net
+net s = netWith [] (s .args .tails .now) [] (s .args .lows .now) (s .args .ups .now) []
+
+abbrev codes : tie.Start → List ℕ
+codes s = take (s .args .len) (s .args .codes .now)
+
 sub-flow : tie.Need-sub-flow
-sub-flow c = let s = c .before .before .before .before .before .before .before .before .before in omega (arith, c .room .ensures, takes-le (graph (s .args .tails .now) (s .args .tails .now) (s .args .lows .now) (s .args .ups .now)) (s .args .flow .now) (s .args .a) (take (s .args .len) (s .args .codes .now)) (s .pre .5))
+sub-flow c = let s = begin (c .before) in omega (arith, c .bottleneck .ensures, takes-le (net s) (s .args .flow .now) (s .args .a) (codes s) (s .pre .5))
 
 push-requires : tie.Need-push-requires
-push-requires c κs = let s = c .before .before .before .before .before .before .before .before .before .before in (
-  s .pre .0,
-  s .pre .1,
-  subst (λ (d : ℕ). Pushable (graph (s .args .tails .now) (s .args .tails .now) (s .args .lows .now) (s .args .ups .now)) d (set (s .args .flow .now) (s .args .a) (getD (s .args .flow .now) (s .args .a) 0 - d)) (take (s .args .len) (s .args .codes .now))) (sym (c .before .room .ensures)) (take-able (graph (s .args .tails .now) (s .args .tails .now) (s .args .lows .now) (s .args .ups .now)) (s .args .flow .now) (s .args .a) (take (s .args .len) (s .args .codes .now)) (s .pre .5) (s .pre .2) (s .pre .3) (s .pre .4)),
-)
+push-requires c κs = let s = begin (c .before .before) in
+    (s .pre .0, s .pre .1, take-able (net s) (s .args .flow .now) (s .args .a) (codes s) (s .pre .5) (c .before .bottleneck .result) (c .before .bottleneck .ensures) (s .pre .2) (s .pre .3) (s .pre .4))
 
 same-length : tie.Need-same-length
-same-length c = let s = c .before .before .before .before .before .before .before .before .before .before .before .before .before in c .before .before .push .kept .1 .1 .1 .0 ∙ length-set (s .args .flow .now) (s .args .a) (getD (s .args .flow .now) (s .args .a) 0 - c .before .before .before .before .room .result)
+same-length c =
+    let r = c .before .before .before .before in
+    let s = begin (r .before) in
+    c .before .before .push .kept .1 .1 .1 .0 ∙ length-set (s .args .flow .now) (s .args .a) (getD (s .args .flow .now) (s .args .a) 0 - r .bottleneck .result)
 
 returns : tie.Need-returns
-returns c = let s = c .before .before .before .before .before .before .before .before .before .before .before .before .before in taken-off (graph (s .args .tails .now) (s .args .tails .now) (s .args .lows .now) (s .args .ups .now)) (s .args .flow .now) (s .args .a) (take (s .args .len) (s .args .codes .now)) (s .pre .5) _ (s .pre .2) (s .pre .3) (s .pre .4)
-    (c .before .before .push .ensures ∙ ap (λ d. pushAll d (take (s .args .len) (s .args .codes .now)) (set (s .args .flow .now) (s .args .a) (getD (s .args .flow .now) (s .args .a) 0 - d))) (c .before .before .before .before .room .ensures))
+returns c =
+    let r = c .before .before .before .before in
+    let s = begin (r .before) in
+    taken-off (net s) (s .args .flow .now) (s .args .a) (codes s) (s .pre .5) (r .bottleneck .result) (r .bottleneck .ensures) _ (s .pre .2) (s .pre .3) (s .pre .4) (c .before .before .push .ensures)
 
 pub take-off-spec : {M : Type 1} → statement M
 take-off-spec =

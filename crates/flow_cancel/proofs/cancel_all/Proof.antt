@@ -1,13 +1,13 @@
 use mathlib.Core.Path.{_≡_, sym, _∙_}
 use mathlib.Core.Bool.{true}
-use mathlib.Core.List.{List}
+use mathlib.Core.List.{List, []}
 use Prim.Native.Nat.{ℕ}
 use lib.ListN.{length}
 use lib.IntN.{ℤ}
 use lib.Signed.{_<ℤ_}
 use borrow.Author.Tests.{not-true, not-false}
 use Rattle.net_model.specs.Network.{Net, costOf}
-use Rattle.net_theory.specs.Graph.{costGraph}
+use Rattle.net_theory.specs.Graph.{netWith}
 use Rattle.flow_relax.specs.Labels.{Relaxable}
 use Rattle.flow_cancel.specs.Cancelling.{Rerouted}
 use Rattle.flow_cancel.proofs.Cancelling.{none-left, one-less, left, falls, same-flow, further, relaxable-again}
@@ -15,13 +15,17 @@ use Rattle.flow_cancel.proofs.cancel_all.Statement.{statement}
 use Rattle.flow_cancel.proofs.cancel_all.Tie as tie
 
 abbrev Inv-loop : tie.InvT-loop
-Inv-loop tails heads lows ups costs flow₀ need labels₀ flow labels = Relaxable (costGraph tails heads lows ups costs) flow × Rerouted (costGraph tails heads lows ups costs) flow₀ flow × (length labels ≡ 64)
+Inv-loop tails heads lows ups costs flow₀ need labels₀ flow labels = Relaxable (netWith [] tails heads lows ups costs) flow × Rerouted (netWith [] tails heads lows ups costs) flow₀ flow × (length labels ≡ 64)
 
 abbrev μ-loop : tie.MeasureT-loop
-μ-loop tails heads lows ups costs flow₀ need labels₀ flow labels = left (costGraph tails heads lows ups costs) flow
+μ-loop tails heads lows ups costs flow₀ need labels₀ flow labels = left (netWith [] tails heads lows ups costs) flow
 
 abbrev net : tie.Start Inv-loop μ-loop → Net
-net s = costGraph (s .args .tails .now) (s .args .heads .now) (s .args .lows .now) (s .args .ups .now) (s .args .costs .now)
+net s = netWith [] (s .args .tails .now) (s .args .heads .now) (s .args .lows .now) (s .args .ups .now) (s .args .costs .now)
+
+-- where the function begins, seen from the loop
+abbrev begin : tie.At-loop Inv-loop μ-loop → tie.Start Inv-loop μ-loop
+begin l = l .before .before .before .before .before .before
 
 -- after `cancel`
 module _ (a : tie.After-cancel Inv-loop μ-loop) where
@@ -29,7 +33,7 @@ module _ (a : tie.After-cancel Inv-loop μ-loop) where
   before = a .before .before .before
 
   abbrev start : tie.Start Inv-loop μ-loop
-  start = before .before .before .before .before .before .before
+  start = begin before
 
   abbrev flow : List ℕ
   flow = a .cancel .last .1 .1 .1 .1 .1 .0
@@ -46,16 +50,16 @@ module _ (a : tie.After-cancel Inv-loop μ-loop) where
     cheaper = one-less (net start) (before .loop .flow) flow (start .args .need) labels (a .cancel .result) (a .cancel .ensures) e
 
     relaxable : Relaxable (net start) flow
-    relaxable = relaxable-again (net start) (before .loop .flow) flow (before .loop .inv .0) (cheaper .0 .bounds)
+    relaxable = relaxable-again (net start) (before .loop .flow) flow (before .loop .inv .0) (cheaper .0 .within)
 
 loop-holds : tie.Need-loop-holds Inv-loop μ-loop
 loop-holds c = let s = c .before .before .before .before .before in (s .pre .0, same-flow (net s) (s .args .flow .now) (s .pre .0), s .pre .3)
 
 cancel-requires : tie.Need-cancel-requires Inv-loop μ-loop
-cancel-requires c κs = let l = c .before .before in let s = l .before .before .before .before .before .before in (l .loop .inv .0, s .pre .1, s .pre .2, l .loop .inv .2)
+cancel-requires c κs = let l = c .before .before in let s = begin l in (l .loop .inv .0, s .pre .1, s .pre .2, l .loop .inv .2)
 
 same-length : tie.Need-same-length Inv-loop μ-loop
-same-length c = let a = c .before .before .before .before in a .cancel .kept .1 .1 .1 .1 .1 .0 ∙ before a .loop .inv .0 .bounds .all-arcs ∙ sym (start a .pre .0 .bounds .all-arcs)
+same-length c = let a = c .before .before .before .before in a .cancel .kept .1 .1 .1 .1 .1 .0 ∙ before a .loop .inv .0 .within .all-arcs ∙ sym (start a .pre .0 .within .all-arcs)
 
 same-length-2 : tie.Need-same-length-2 Inv-loop μ-loop
 same-length-2 c = let a = c .before .before .before .before in labels-len a ∙ sym (start a .pre .3)

@@ -20,37 +20,47 @@ Inv-loop costs flow sum₀ a₀ s a = (a ≤ length costs) × (toZ w64 s ≡ sum
 abbrev μ-loop : tie.MeasureT-loop
 μ-loop costs flow sum₀ a₀ s a = length costs - a
 
--- where the cost of an arc is added
-abbrev Here : Type 0
-Here = tie.After-product Inv-loop μ-loop
+-- where the function begins, seen from its loop
+abbrev begin : tie.At-loop Inv-loop μ-loop → tie.Start Inv-loop μ-loop
+begin c = c .before .before
+
+-- the turn of the loop, seen from where the cost of an arc is added
+abbrev turn : tie.After-product-arg Inv-loop μ-loop → tie.In-loop Inv-loop μ-loop
+turn c = c .before .before
 
 loop-holds : tie.Need-loop-holds Inv-loop μ-loop
 loop-holds c = (omega arith, refl)
 
 shared-slice-read-x : tie.Need-shared-slice-read-x Inv-loop μ-loop
-shared-slice-read-x c = omega (arith, c .before .loop-test .taken, c .before .before .before .before .pre .flow-len)
+shared-slice-read-x c = omega (arith, c .before .loop-test .taken, begin (c .before .before) .pre .flow-len)
 
-cost-is : (c : tie.After-product-arg Inv-loop μ-loop) → toZ w32 (ofZ w32 (getD (c .before .before .before .before .before .args .costs .now) (c .before .before .before .loop .a) (pos 0))) ≡ getD (c .before .before .before .before .before .args .costs .now) (c .before .before .before .loop .a) (pos 0)
+cost-is : (c : tie.After-product-arg Inv-loop μ-loop) → let l = turn c .before in let x = getD (begin l .args .costs .now) (l .loop .a) (pos 0) in toZ w32 (ofZ w32 x) ≡ x
 cost-is c = toZ-ofZ (search needs)
 
 product-requires : tie.Need-product-requires Inv-loop μ-loop
-product-requires c κs = rw (cost-is c) (c .before .before .before .before .before .pre .cost-small (c .before .before .before .loop .a) (c .before .before .loop-test .taken), c .before .before .before .before .before .pre .flow-small (c .before .before .before .loop .a) (c .before .before .loop-test .taken))
+product-requires c κs =
+    let l = turn c .before in
+    let p = begin l .pre in
+    rw (cost-is c) (p .cost-small (l .loop .a) (turn c .loop-test .taken), p .flow-small (l .loop .a) (turn c .loop-test .taken))
 
-term-is : (c : Here) → toZ w64 (ofZ w64 (c .product .result)) ≡ term (c .before .before .before .before .before .before .args .costs .now) (c .before .before .before .before .before .before .args .flow .now) (c .before .before .before .before .loop .a)
+term-is : (c : tie.After-product Inv-loop μ-loop) → let l = turn (c .before) .before in toZ w64 (ofZ w64 (c .product .result)) ≡ term (begin l .args .costs .now) (begin l .args .flow .now) (l .loop .a)
 term-is c = toZ-ofZ (record { sfits = c .product .ok }) ∙ c .product .ensures ∙ rw (cost-is (c .before))
 
 add-sum : tie.Need-add-sum Inv-loop μ-loop
-add-sum c = more-fits (c .before .before .before .before .before .before .args .costs .now) (c .before .before .before .before .before .before .args .flow .now) (c .before .before .before .before .loop .a) _ _ (c .before .before .before .before .before .before .pre) (c .before .before .before .loop-test .taken) (c .before .before .before .before .loop .inv .1) (term-is c)
+add-sum c =
+    let t = turn (c .before) in
+    let s = begin (t .before) in
+    more-fits (s .args .costs .now) (s .args .flow .now) (t .before .loop .a) _ _ (s .pre) (t .loop-test .taken) (t .before .loop .inv .1) (term-is c)
 
 loop-less : tie.Need-loop-less Inv-loop μ-loop
-loop-less c = omega (arith, c .before .before .before .loop-test .taken)
+loop-less c = omega (arith, turn (c .before) .loop-test .taken)
 
 loop-again : tie.Need-loop-again Inv-loop μ-loop
-loop-again c = (omega (arith, c .before .before .before .loop-test .taken), rw add-one (toZ-ofZ (add-sum c) ∙ rw (c .before .before .before .before .loop .inv .1, term-is c)))
+loop-again c = let t = turn (c .before) in (omega (arith, t .loop-test .taken), rw add-one (toZ-ofZ (add-sum c) ∙ rw (t .before .loop .inv .1, term-is c)))
 
 returns : tie.Need-returns Inv-loop μ-loop
 returns c =
-    let s = c .before .before .before .args in
+    let s = begin (c .before) .args in
     let e : c .before .loop .a ≡ length (s .costs .now) = omega (arith, c .before .loop .inv .0, c .loop-test .left) in
     c .before .loop .inv .1 ∙ ap (λ n. sum n (term (s .costs .now) (s .flow .now))) e
 

@@ -1,109 +1,153 @@
 use mathlib.Core.Path.{_≡_, refl, ap}
-use Prim.Native.Nat.{ℕ, _+_, _≤_, _<_}
+use mathlib.Core.List.{[]}
+use Prim.Native.Nat.{ℕ, _<_}
 use native.Mathlib.Omega.{arith}
-use lib.ListN.{length, getD, take, drop, length-set}
+use lib.ListN.{length, getD, length-set}
 use borrow.Author.Needs.{needs}
 use Rattle.laws.specs.Store.{drop-set-next}
 use Rattle.net_model.specs.Network.{Net}
-use Rattle.net_model.specs.Residual.{src, dst}
-use Rattle.net_theory.specs.Reach.{TracedAny, any-start, any-done}
-use Rattle.net_theory.specs.Graph.{graph}
-use Rattle.flow_path.proofs.Tracing.{trace-more}
+use Rattle.net_model.specs.Residual.{codes, src, dst}
+use Rattle.net_theory.specs.Trace.{Falls}
+use Rattle.net_theory.specs.Graph.{netWith}
+use Rattle.net_theory.proofs.Trace.{any-start, any-done}
+use Rattle.flow_path.proofs.Tracing.{TraceTurn, trace-more}
 use Rattle.flow_path.proofs.trace.Statement.{statement}
 use Rattle.flow_path.proofs.trace.Tie as tie
 
 abbrev Inv-loop : tie.InvT-loop
-Inv-loop tails heads rank via t codes₀ v₀ len₀ p₀ codes v len p = (v < length rank) × (0 < p) × (p ≡ getD rank v 0) × (length codes ≡ length codes₀) × (len + p ≤ getD rank t 0) × TracedAny (length rank) (length tails + length tails) (src (graph tails heads tails tails)) (dst (graph tails heads tails tails)) rank via t (λ _. v) (take len codes) × (drop len codes ≡ drop len codes₀)
+Inv-loop tails heads rank via t codes₀ v₀ len₀ p₀ codes₁ v len p = TraceTurn (netWith [] tails heads [] [] []) rank via t codes₀ codes₁ v len p
 
 abbrev μ-loop : tie.MeasureT-loop
-μ-loop tails heads rank via t codes₀ v₀ len₀ p₀ codes v len p = p
+μ-loop tails heads rank via t codes₀ v₀ len₀ p₀ codes₁ v len p = p
+
+-- where the function begins, seen from before the loop
+abbrev begin : tie.After-shared-slice-known5 Inv-loop μ-loop → tie.Start Inv-loop μ-loop
+begin c = c .before .before .before .before .before .before
+
+abbrev net : tie.Start Inv-loop μ-loop → Net
+net s = netWith [] (s .args .tails .now) (s .args .heads .now) [] [] []
+
+abbrev falls : (s : tie.Start Inv-loop μ-loop) → Falls 64 (codes (net s)) (src (net s)) (s .args .rank .now) (s .args .via .now)
+falls s = s .pre .0 .falls
 
 -- where a code is written
 abbrev Here : Type 0
 Here = tie.After-shared-slice-known6 Inv-loop μ-loop
 
+abbrev at-loop : Here → tie.At-loop Inv-loop μ-loop
+at-loop c = c .before .before
+
 abbrev start : Here → tie.Start Inv-loop μ-loop
-start c = c .before .before .before .before .before .before .before .before .before
+start c = begin (at-loop c .before)
 
-abbrev net : tie.Start Inv-loop μ-loop → Net
-net s = graph (s .args .tails .now) (s .args .heads .now) (s .args .tails .now) (s .args .tails .now)
+-- the node, the code that led to it, and the node before it
+abbrev node : Here → ℕ
+node c = at-loop c .loop .v
 
--- the code that led to the node, and the node before it
 abbrev code : Here → ℕ
-code c = getD (start c .args .via .now) (c .before .before .loop .v) 0
+code c = getD (start c .args .via .now) (node c) 0
 
-more : (c : Here) → 1 < getD (start c .args .rank .now) (c .before .before .loop .v) 0
-more c = omega (arith, c .before .loop-test .taken, c .before .before .loop .inv .2)
+abbrev node-before : Here → ℕ
+node-before c = src (net (start c)) (code c)
 
-room-left : (c : Here) → c .before .before .loop .len < length (c .before .before .loop .codes)
-room-left c = let s = start c in omega (arith, c .before .loop-test .taken, c .before .before .loop .inv .4, c .before .before .loop .inv .3, s .pre .3, s .pre .4 .small (s .args .t) (s .pre .1))
+more : (c : Here) → 1 < getD (start c .args .rank .now) (node c) 0
+more c = omega (arith, c .before .loop-test .taken, at-loop c .loop .inv .rank-is)
 
-code-in : (c : Here) → code c < length (start c .args .tails .now) + length (start c .args .tails .now)
-code-in c = start c .pre .4 .code-in (c .before .before .loop .v) (c .before .before .loop .inv .0) (more c)
+capacity-left : (c : Here) → at-loop c .loop .len < length (at-loop c .loop .codes)
+capacity-left c =
+    let s = start c in
+    let T = at-loop c .loop .inv in
+    omega (arith, c .before .loop-test .taken, T .far, T .same-len, s .pre .1, falls s .small (s .args .t) (s .pre .0 .node))
 
-next-in : (c : Here) → src (net (start c)) (code c) < length (start c .args .rank .now)
-next-in c = start c .pre .4 .next-in (c .before .before .loop .v) (c .before .before .loop .inv .0) (more c)
+code-in : (c : Here) → code c < codes (net (start c))
+code-in c = falls (start c) .code-in (node c) (at-loop c .loop .inv .node) (more c)
 
-next-reached : (c : Here) → 0 < getD (start c .args .rank .now) (src (net (start c)) (code c)) 0
-next-reached c = start c .pre .4 .next-reached (c .before .before .loop .v) (c .before .before .loop .inv .0) (more c)
+next-in : (c : Here) → node-before c < 64
+next-in c = falls (start c) .next-in (node c) (at-loop c .loop .inv .node) (more c)
 
-next-less : (c : Here) → getD (start c .args .rank .now) (src (net (start c)) (code c)) 0 < getD (start c .args .rank .now) (c .before .before .loop .v) 0
-next-less c = start c .pre .4 .next-less (c .before .before .loop .v) (c .before .before .loop .inv .0) (more c)
+next-reached : (c : Here) → 0 < getD (start c .args .rank .now) (node-before c) 0
+next-reached c = falls (start c) .next-reached (node c) (at-loop c .loop .inv .node) (more c)
+
+next-less : (c : Here) → getD (start c .args .rank .now) (node-before c) 0 < getD (start c .args .rank .now) (node c) 0
+next-less c = falls (start c) .next-less (node c) (at-loop c .loop .inv .node) (more c)
+
+mul-p : tie.Need-mul-p Inv-loop μ-loop
+mul-p c = omega (arith, c .before .before .before .before .before .pre .0 .node)
+
+shared-slice-read-p : tie.Need-shared-slice-read-p Inv-loop μ-loop
+shared-slice-read-p c = let s = begin c in omega (arith, s .pre .0 .node, falls s .rank-len)
 
 loop-holds : tie.Need-loop-holds Inv-loop μ-loop
-loop-holds c = let s = c .before .before .before .before .before .before in (s .pre .1, s .pre .2, refl, refl, omega arith, any-start (length (s .args .rank .now)) (length (s .args .tails .now) + length (s .args .tails .now)) (src (net s)) (dst (net s)) (s .args .rank .now) (s .args .via .now) (s .args .t), refl)
+loop-holds c = let s = begin c in record {
+  node = s .pre .0 .node;
+  reached = s .pre .0 .reached;
+  rank-is = refl;
+  same-len = refl;
+  far = omega arith;
+  traced = any-start 64 (codes (net s)) (src (net s)) (dst (net s)) (s .args .rank .now) (s .args .via .now) (s .args .t);
+  rest = refl;
+}
 
 mul-c : tie.Need-mul-c Inv-loop μ-loop
-mul-c c = let s = c .before .before .before .before .before .before .before .before in let h : c .before .loop .v < length (s .args .via .now) = omega (arith, c .before .loop .inv .0, s .pre .4 .via-len) in search needs
+mul-c c = let s = begin (c .before .before) in let h : c .before .loop .v < length (s .args .via .now) = omega (arith, c .before .loop .inv .node, falls s .via-len) in search needs
 
 shared-slice-read-c : tie.Need-shared-slice-read-c Inv-loop μ-loop
-shared-slice-read-c c = let s = c .before .before .before .before .before .before .before .before .before in omega (arith, c .before .before .loop .inv .0, s .pre .4 .via-len)
+shared-slice-read-c c = omega (arith, at-loop c .loop .inv .node, falls (start c) .via-len)
 
 mul-codes : tie.Need-mul-codes Inv-loop μ-loop
-mul-codes c = let s = c .before .before .before .before .before .before .before .before .before in let h : c .before .before .loop .len < length (s .args .codes .now) = omega (arith, room-left c, c .before .before .loop .inv .3) in search needs
+mul-codes c = let h : at-loop c .loop .len < length (start c .args .codes .now) = omega (arith, capacity-left c, at-loop c .loop .inv .same-len) in search needs
 
 slice-write-codes : tie.Need-slice-write-codes Inv-loop μ-loop
-slice-write-codes c = room-left c
+slice-write-codes c = capacity-left c
 
 add-len : tie.Need-add-len Inv-loop μ-loop
-add-len c = omega (arith, room-left c)
+add-len c = omega (arith, capacity-left c)
 
 source-requires : tie.Need-source-requires Inv-loop μ-loop
-source-requires c κs = let s = c .before .before .before .before .before .before .before .before .before in let h = code-in c in omega (arith, s .pre .0)
+source-requires c κs = let h = code-in c in omega (arith, start c .pre .0 .heads-len)
 
 mul-p-2 : tie.Need-mul-p-2 Inv-loop μ-loop
-mul-p-2 c = let s = c .before .before .before .before .before .before .before .before .before .before in let h : c .source .result < length (s .args .rank .now) = omega (arith, next-in (c .before), c .source .ensures) in search needs
+mul-p-2 c = let s = start (c .before) in let h : c .source .result < length (s .args .rank .now) = omega (arith, next-in (c .before), c .source .ensures, falls s .rank-len) in search needs
 
 shared-slice-read-p-2 : tie.Need-shared-slice-read-p-2 Inv-loop μ-loop
-shared-slice-read-p-2 c = omega (arith, next-in (c .before .before), c .before .source .ensures)
+shared-slice-read-p-2 c = let b = c .before .before in omega (arith, next-in b, c .before .source .ensures, falls (start b) .rank-len)
+
+-- the rank of the node before
+rank-before : (c : tie.After-shared-slice-known7 Inv-loop μ-loop)
+    → getD (start (c .before .before) .args .rank .now) (c .before .source .result) 0 ≡ getD (start (c .before .before) .args .rank .now) (node-before (c .before .before)) 0
+rank-before c = ap (λ v. getD (start (c .before .before) .args .rank .now) v 0) (c .before .source .ensures)
 
 loop-less : tie.Need-loop-less Inv-loop μ-loop
-loop-less c = omega (arith, next-less (c .before .before), c .before .before .before .before .loop .inv .2, ap (λ v. getD (c .before .before .before .before .before .before .before .before .before .before .before .args .rank .now) v 0) (c .before .source .ensures))
+loop-less c = let b = c .before .before in omega (arith, next-less b, at-loop b .loop .inv .rank-is, rank-before c)
 
 loop-again : tie.Need-loop-again Inv-loop μ-loop
-loop-again c = let b = c .before .before in let a = b .before .before in let s = b .before .before .before .before .before .before .before .before .before in
-    let q : getD (s .args .rank .now) (c .before .source .result) 0 ≡ getD (s .args .rank .now) (src (net s) (getD (s .args .via .now) (a .loop .v) 0)) 0 = ap (λ v. getD (s .args .rank .now) v 0) (c .before .source .ensures) in (
-      omega (arith, next-in b, c .before .source .ensures),
-      omega (arith, next-reached b),
-      refl,
-      simp length-set (a .loop .inv .3),
-      omega (arith, next-less b, a .loop .inv .2, a .loop .inv .4),
-      trace-more (length (s .args .rank .now)) (length (s .args .tails .now) + length (s .args .tails .now)) (src (net s)) (dst (net s)) (s .args .rank .now) (s .args .via .now) (a .loop .codes) (s .args .t) (a .loop .v) (a .loop .len) _ (room-left b) (a .loop .inv .0) (more b) (c .before .source .ensures) (a .loop .inv .5),
-      drop-set-next (a .loop .codes) (s .args .codes .now) (a .loop .len) _ (a .loop .inv .6),
-    )
+loop-again c =
+    let b = c .before .before in
+    let a = at-loop b .loop in
+    let s = start b in
+    let T = a .inv in
+    record {
+      node = omega (arith, next-in b, c .before .source .ensures);
+      reached = omega (arith, next-reached b, rank-before c);
+      rank-is = refl;
+      same-len = simp length-set (T .same-len);
+      far = omega (arith, next-less b, T .rank-is, T .far, rank-before c);
+      traced = trace-more 64 (codes (net s)) (src (net s)) (dst (net s)) (s .args .rank .now) (s .args .via .now) (a .codes) (s .args .t) (a .v) (a .len) _ (capacity-left b) (T .node) (more b) (c .before .source .ensures) (T .traced);
+      rest = drop-set-next (a .codes) (s .args .codes .now) (a .len) _ (T .rest);
+    }
 
 same-length : tie.Need-same-length Inv-loop μ-loop
-same-length c = c .before .loop .inv .3
+same-length c = c .before .loop .inv .same-len
 
 returns : tie.Need-returns Inv-loop μ-loop
-returns c = let a = c .before in let s = c .before .before .before .before .before .before .before .before in (
-  omega (arith, a .loop .inv .4, a .loop .inv .3, s .pre .3, s .pre .4 .small (s .args .t) (s .pre .1)),
-  any-done (length (s .args .rank .now)) (length (s .args .tails .now) + length (s .args .tails .now)) (src (net s)) (dst (net s)) (s .args .rank .now) (s .args .via .now) (s .args .t) (a .loop .v) _ (a .loop .inv .0) (omega (arith, a .loop .inv .1, a .loop .inv .2)) (omega (arith, c .loop-test .left, a .loop .inv .2)) (a .loop .inv .5),
-  a .loop .inv .6,
-)
+returns c = let a = c .before in let T = a .loop .inv in let s = begin (a .before) in record {
+  fits = omega (arith, T .far, T .same-len, s .pre .1, falls s .small (s .args .t) (s .pre .0 .node));
+  traced = any-done 64 (codes (net s)) (src (net s)) (dst (net s)) (s .args .rank .now) (s .args .via .now) (s .args .t) (a .loop .v) _ (T .node) (omega (arith, T .reached, T .rank-is)) (omega (arith, c .loop-test .left, T .rank-is)) (T .traced);
+  rest = T .rest;
+}
 
 pub trace-spec : {M : Type 1} → statement M
 trace-spec =
     tie.close
-    (tie.spec Inv-loop μ-loop (λ c. search needs) (λ c. search needs) loop-holds mul-c shared-slice-read-c mul-codes slice-write-codes add-len
+    (tie.spec Inv-loop μ-loop mul-p shared-slice-read-p loop-holds mul-c shared-slice-read-c mul-codes slice-write-codes add-len
     source-requires mul-p-2 shared-slice-read-p-2 loop-less loop-again same-length returns)

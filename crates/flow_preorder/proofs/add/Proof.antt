@@ -15,16 +15,19 @@ returns-2 c = let s = c .before .before .before .before .before in same-rows (s 
 
 returns-3 : tie.Need-returns-3
 returns-3 c =
-    let t = c .before .before .before .before in
-    let s = t .before .before .before .before .before .before .before .before .before in
+    let then3 : tie.Then3 = search in
+    let else1 : tie.Else1 = search in
+    let t = then3 in
+    let s : tie.Start = search in
     stepped (s .args .rows .now) (s .args .p) (s .args .q) (s .pre .0) (s .pre .1) (s .pre .2) _
-    (stepped-all (s .args .rows .now) (s .args .p) (s .args .q) (s .pre .0) (s .pre .1) (s .pre .2) _ (sym (t .before .has2 .ensures) ∙ t .if3 .taken) (c .before .before .join-rows .ensures)) (s .args .on) (not-false (s .args .on) (t .before .before .before .before .before .before .before .if1 .left))
+    (stepped-all (s .args .rows .now) (s .args .p) (s .args .q) (s .pre .0) (s .pre .1) (s .pre .2) _ (sym (t .before .has2 .ensures) ∙ t .if3 .taken) (c .before .before .join-rows .ensures)) (s .args .on) (not-false (s .args .on) (else1 .if1 .left))
 
 returns-4 : tie.Need-returns-4
 returns-4 c =
-    let s = c .before .before .before .before .before .before .before .before .before in
+    let else1 : tie.Else1 = search in
+    let s : tie.Start = search in
     stepped (s .args .rows .now) (s .args .p) (s .args .q) (s .pre .0) (s .pre .1) (s .pre .2) _
-    (stepped-one (s .args .rows .now) (s .args .p) (s .args .q) (s .pre .0) (s .pre .1) (s .pre .2) (sym (c .before .has2 .ensures) ∙ c .if3 .left)) (s .args .on) (not-false (s .args .on) (c .before .before .before .before .before .before .before .if1 .left))
+    (stepped-one (s .args .rows .now) (s .args .p) (s .args .q) (s .pre .0) (s .pre .1) (s .pre .2) (sym (c .before .has2 .ensures) ∙ c .if3 .left)) (s .args .on) (not-false (s .args .on) (else1 .if1 .left))
 
 pub add-spec : {M : Type 1} → statement M
 add-spec =

@@ -1,22 +1,24 @@
 use mathlib.Core.Path.{_≡_, refl, sym, subst}
+use mathlib.Core.List.{[]}
 use Prim.Native.Nat.{_-_}
 use native.Mathlib.Omega.{arith}
 use Rattle.net_model.specs.Network.{Net}
-use Rattle.net_theory.specs.Graph.{costGraph}
+use Rattle.net_theory.specs.Graph.{netWith}
 use Rattle.flow_relax.proofs.Rounds.{zero-at, sized-more}
-use Rattle.flow_prices.proofs.Pricing.{Pricing, pricing-start, pricing-more, prices-quiet, prices-all}
+use Rattle.flow_prices.proofs.Pricing.{Pricing, pricing-start, pricing-more, prices-unchanged, prices-all}
 use Rattle.flow_prices.proofs.prices.Statement.{statement}
 use Rattle.flow_prices.proofs.prices.Tie as tie
 
 abbrev Inv-loop : tie.InvT-loop
-Inv-loop tails heads lows ups costs flow least₀ preds₀ -k₀ least preds -k = Pricing (costGraph tails heads lows ups costs) flow least preds -k
+Inv-loop tails heads lows ups costs flow least₀ preds₀ -k₀ least preds -k = Pricing (netWith [] tails heads lows ups costs) flow least preds -k
 
 abbrev μ-loop : tie.MeasureT-loop
 μ-loop tails heads lows ups costs flow least₀ preds₀ -k₀ least preds -k = 64 - -k
 
 abbrev net : tie.Start Inv-loop μ-loop → Net
-net s = costGraph (s .args .tails .now) (s .args .heads .now) (s .args .lows .now) (s .args .ups .now) (s .args .costs .now)
+net s = netWith [] (s .args .tails .now) (s .args .heads .now) (s .args .lows .now) (s .args .ups .now) (s .args .costs .now)
 
+-- where the function begins, seen from the loop and from after its round; and the loop from there
 abbrev entry : tie.At-loop Inv-loop μ-loop → tie.Start Inv-loop μ-loop
 entry l = l .before .before .before .before .before .before
 
@@ -39,7 +41,7 @@ round-requires : tie.Need-round-requires Inv-loop μ-loop
 round-requires c κs = let l = c .before .before .before in (entry l .pre .0, sized-more (omega (arith, l .loop .inv .upto)) (l .loop .inv .sized), omega arith)
 
 returns : tie.Need-returns Inv-loop μ-loop
-returns c = let r = c .before .before .before in prices-quiet (net (start r)) (start r .args .flow .now) (start r .pre .0) (before r .loop .least) (before r .loop .preds) (before r .loop .-k) (before r .loop .inv) _ _ (r .round .result) (r .round .ensures) (c .if1 .taken)
+returns c = let r = c .before .before .before in prices-unchanged (net (start r)) (start r .args .flow .now) (start r .pre .0) (before r .loop .least) (before r .loop .preds) (before r .loop .-k) (before r .loop .inv) _ _ (r .round .result) (r .round .ensures) (c .if1 .taken)
 
 loop-again : tie.Need-loop-again Inv-loop μ-loop
 loop-again c = let r = c .before .before .before in pricing-more (net (start r)) (start r .args .flow .now) (start r .pre .0) (before r .loop .least) (before r .loop .preds) (before r .loop .-k) (before r .loop .inv) _ _ (r .round .result) (r .round .ensures) (omega arith)

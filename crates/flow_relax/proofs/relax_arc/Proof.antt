@@ -1,6 +1,7 @@
 use borrow.Author.Needs.{needs}
 use mathlib.Core.Path.{_≡_, sym, ap, subst, _∙_}
 use mathlib.Core.Bool.{_&&_}
+use mathlib.Core.List.{[]}
 use Prim.Native.Nat.{ℕ, _+_, _<_, _≤_}
 use native.Mathlib.Omega.{arith}
 use lib.Dec.{leb}
@@ -13,17 +14,31 @@ use mir.Facts.{toZ-ofZ}
 use Rattle.laws.specs.Linear.{lin}
 use Rattle.laws.specs.Range.{Bounded, bounded-add, bounded-neg, bounded-fits}
 use Rattle.net_model.specs.Network.{Net}
-use Rattle.net_theory.specs.Graph.{costGraph}
+use Rattle.net_theory.specs.Graph.{netWith}
 use Rattle.flow_relax.specs.Labels.{Relaxable, State, state, label, setIf, relaxed, Sized}
 use Rattle.flow_relax.proofs.Rounds.{one-sized}
 use Rattle.flow_relax.proofs.Arcs.{forward, backward}
 use Rattle.flow_relax.proofs.relax_arc.Statement.{statement}
 use Rattle.flow_relax.proofs.relax_arc.Tie as tie
 
+-- where the function begins, seen from where the tail is read and from where the cost is
+abbrev begin : tie.After-shared-slice-known6 → tie.Start
+begin c = c .before .before .before .before .before .before .before
+
+abbrev start : tie.After-to-i64 → tie.Start
+start c = begin (c .before .before .before)
+
+-- where the cost is read, seen from the first call; and that call, seen from the second
+abbrev cost-at : tie.After-relax → tie.After-to-i64
+cost-at r = r .before .before .before .before .before
+
+abbrev first-call : tie.After-relax-arg4 → tie.After-relax
+first-call c = c .before .before .before .before .before .before
+
 -- the lists that the function reads, and what it is told of them
 module _ (s : tie.Start) where
   abbrev net : Net
-  net = costGraph (s .args .tails .now) (s .args .heads .now) (s .args .lows .now) (s .args .ups .now) (s .args .costs .now)
+  net = netWith [] (s .args .tails .now) (s .args .heads .now) (s .args .lows .now) (s .args .ups .now) (s .args .costs .now)
 
   ok : Relaxable net (s .args .flow .now)
   ok = s .pre .0
@@ -32,13 +47,19 @@ module _ (s : tie.Start) where
   inside = s .pre .2
 
   tail-in : getD (s .args .tails .now) (s .args .a) 0 < 64
-  tail-in = ok .graph .tail-in (s .args .a) inside
+  tail-in = ok .ends .tail-in (s .args .a) inside
 
   head-in : getD (s .args .heads .now) (s .args .a) 0 < 64
-  head-in = ok .graph .head-in (s .args .a) inside
+  head-in = ok .ends .head-in (s .args .a) inside
 
   cost-small : Bounded 1000000 (getD (s .args .costs .now) (s .args .a) (pos 0))
-  cost-small = ok .cost-small (s .args .a) inside
+  cost-small = ok .costs .cost-small (s .args .a) inside
+
+  flow-small : getD (s .args .flow .now) (s .args .a) 0 ≤ 1000000
+  flow-small = omega (arith, ok .within .below (s .args .a) inside, ok .bounds .ups-small (s .args .a) inside)
+
+  low-small : getD (s .args .lows .now) (s .args .a) 0 ≤ 1000000
+  low-small = omega (arith, ok .within .above (s .args .a) inside, flow-small)
 
   at-label : {v : ℕ} → v < 64 → v < length (s .args .labels .now)
   at-label h = omega (arith, s .pre .1 .labels-len)
@@ -53,27 +74,27 @@ minus-small : {x : ℤ} → Bounded 1000000 x → Bounded 1000000 (pos 0 -ℤ x)
 minus-small {x} h = bounded-add {A = 0} {B = 1000000} {x = pos 0} {y = negℤ x} (omega arith) (bounded-neg h)
 
 -- the cost, widened
-cost-read : (c : tie.After-to-i64) → toZ w64 (ofZ w64 (c .to-i64 .result)) ≡ getD (c .before .before .before .before .before .before .before .before .before .before .args .costs .now) (c .before .before .before .before .before .before .before .before .before .before .args .a) (pos 0)
+cost-read : (c : tie.After-to-i64) → toZ w64 (ofZ w64 (c .to-i64 .result)) ≡ getD (start c .args .costs .now) (start c .args .a) (pos 0)
 cost-read c = toZ-ofZ {w = w64} (record { sfits = c .to-i64 .ok }) ∙ c .to-i64 .ensures ∙ toZ-ofZ {w = w32} (record { sfits = c .before .to-i64-arg .given })
 
 abbrev minus-read : tie.After-to-i64 → ℤ
 minus-read c = toZ w64 (ofZ w64 (pos 0 -ℤ toZ w64 (ofZ w64 (c .to-i64 .result))))
 
-minus-is : (c : tie.After-to-i64) → minus-read c ≡ pos 0 -ℤ getD (c .before .before .before .before .before .before .before .before .before .before .args .costs .now) (c .before .before .before .before .before .before .before .before .before .before .args .a) (pos 0)
+minus-is : (c : tie.After-to-i64) → minus-read c ≡ pos 0 -ℤ getD (start c .args .costs .now) (start c .args .a) (pos 0)
 minus-is c =
-    toZ-ofZ {w = w64} (subst (λ z. SFits w64 (pos 0 -ℤ z)) (sym (cost-read c)) (bounded-fits w64 1000000 _ (minus-small (cost-small (c .before .before .before .before .before .before .before .before .before .before))) (omega arith)))
+    toZ-ofZ {w = w64} (subst (λ z. SFits w64 (pos 0 -ℤ z)) (sym (cost-read c)) (bounded-fits w64 1000000 _ (minus-small (cost-small (start c))) (omega arith)))
     ∙ ap (λ z. pos 0 -ℤ z) (cost-read c)
 
 -- after the first call
 module _ (r : tie.After-relax) where
   abbrev entry : tie.Start
-  entry = r .before .before .before .before .before .before .before .before .before .before .before .before .before .before .before
+  entry = start (cost-at r)
 
   abbrev begun : State
   begun = state (entry .args .labels .now) (entry .args .preds .now) (entry .args .last)
 
   forth : state (r .relax .last .0) (r .relax .last .1 .0) (r .relax .result) ≡ relaxed (net entry) (entry .args .flow .now) (entry .args .need) (entry .args .a + entry .args .a) begun
-  forth = r .relax .ensures ∙ forward (net entry) (entry .args .flow .now) (entry .args .need) (entry .args .a) begun _ (cost-read (r .before .before .before .before .before))
+  forth = r .relax .ensures ∙ forward (net entry) (entry .args .flow .now) (entry .args .need) (entry .args .a) begun _ (cost-read (cost-at r))
 
   sized : Sized 65537000000 (r .relax .last .0) (r .relax .last .1 .0)
   sized =
@@ -87,44 +108,48 @@ module _ (r : tie.After-relax) where
   in-preds h = omega (arith, sized .preds-len)
 
 cast-t : tie.Need-cast-t
-cast-t c = omega (arith, tail-in (c .before .before .before .before .before .before .before))
+cast-t c = omega (arith, tail-in (begin c))
 
 cast-h : tie.Need-cast-h
-cast-h c = omega (arith, head-in (c .before .before .before .before .before .before .before .before))
+cast-h c = omega (arith, head-in (begin (c .before)))
 
 add-forward : tie.Need-add-forward
-add-forward c = omega (arith, ok (c .before .before .before .before .before .before .before .before .before .before .before) .bounds .below (c .before .before .before .before .before .before .before .before .before .before .before .args .a) (inside (c .before .before .before .before .before .before .before .before .before .before .before)), ok (c .before .before .before .before .before .before .before .before .before .before .before) .small .ups-small (c .before .before .before .before .before .before .before .before .before .before .before .args .a) (inside (c .before .before .before .before .before .before .before .before .before .before .before)), c .before .before .before .before .before .before .before .before .before .before .before .pre .3)
+add-forward c = let s = start (c .before) in omega (arith, flow-small s, s .pre .3)
 
 relax-requires : tie.Need-relax-requires
 relax-requires c κs =
-    let s = c .before .before .before .before .before .before .before .before .before .before .before .before .before .before in
     let w = c .before .before .before .before in
+    let s = start w in
     (at-label s (tail-in s), at-label s (head-in s), at-pred s (head-in s), rw (cost-read w) (fits (omega arith) (s .pre .1 .small _ (tail-in s)) (cost-small s)))
 
 add-backward : tie.Need-add-backward
-add-backward c = omega (arith, ok (c .before .before .before .before .before .before .before .before .before .before .before .before .before .before .before .before .before .before .before) .bounds .above (c .before .before .before .before .before .before .before .before .before .before .before .before .before .before .before .before .before .before .before .args .a) (inside (c .before .before .before .before .before .before .before .before .before .before .before .before .before .before .before .before .before .before .before)), ok (c .before .before .before .before .before .before .before .before .before .before .before .before .before .before .before .before .before .before .before) .bounds .below (c .before .before .before .before .before .before .before .before .before .before .before .before .before .before .before .before .before .before .before .args .a) (inside (c .before .before .before .before .before .before .before .before .before .before .before .before .before .before .before .before .before .before .before)), ok (c .before .before .before .before .before .before .before .before .before .before .before .before .before .before .before .before .before .before .before) .small .ups-small (c .before .before .before .before .before .before .before .before .before .before .before .before .before .before .before .before .before .before .before .args .a) (inside (c .before .before .before .before .before .before .before .before .before .before .before .before .before .before .before .before .before .before .before)), c .before .before .before .before .before .before .before .before .before .before .before .before .before .before .before .before .before .before .before .pre .3)
+add-backward c = let s = entry (c .before .before .before .before) in omega (arith, low-small s, s .pre .3)
 
 sub-relax : tie.Need-sub-relax
-sub-relax c = rw (cost-read (c .before .before .before .before .before .before .before .before .before .before .before)) (bounded-fits w64 1000000 _ (minus-small (cost-small (c .before .before .before .before .before .before .before .before .before .before .before .before .before .before .before .before .before .before .before .before .before))) (omega arith))
+sub-relax c = let r = first-call c in rw (cost-read (cost-at r)) (bounded-fits w64 1000000 _ (minus-small (cost-small (entry r))) (omega arith))
 
 relax-requires-2 : tie.Need-relax-requires-2
 relax-requires-2 c κs =
-    let r = c .before .before .before .before .before .before in
-    let s = entry r in
-    (in-labels r (head-in s), in-labels r (tail-in s), in-preds r (tail-in s), rw (minus-is (r .before .before .before .before .before)) (fits (omega arith) (sized r .small _ (head-in s)) (minus-small (cost-small s))))
+    let r = first-call c in
+    let s = entry r in (
+      in-labels r (head-in s),
+      in-labels r (tail-in s),
+      in-preds r (tail-in s),
+      rw (minus-is (cost-at r)) (fits (omega arith) (sized r .small _ (head-in s)) (minus-small (cost-small s))),
+    )
 
 returns : tie.Need-returns
 returns c =
     let q = c .before .before .before in
-    let r = q .before .before .before .before .before .before .before in
+    let r = first-call (q .before) in
     let s = entry r in
     let t = getD (s .args .tails .now) (s .args .a) 0 in
     let h = getD (s .args .heads .now) (s .args .a) 0 in
-    let y = minus-read (r .before .before .before .before .before) in
+    let y = minus-read (cost-at r) in
     q .relax2 .ensures
     ∙ ap (λ (S : State). setIf (leb (getD (s .args .lows .now) (s .args .a) 0 + s .args .need) (getD (s .args .flow .now) (s .args .a) 0) && ltZ (label S h +ℤ y) (label S t)) t (label S h +ℤ y) (s .args .a + s .args .a + 1) S) (forth r)
     ∙ backward (net s) (s .args .flow .now) (s .args .need) (s .args .a) (relaxed (net s) (s .args .flow .now) (s .args .need) (s .args .a + s .args .a) (begun r)) y (s .args .a + s .args .a + 1)
-    (minus-is (r .before .before .before .before .before) ∙ simp lin (omega arith)) (omega arith)
+    (minus-is (cost-at r) ∙ simp lin (omega arith)) (omega arith)
 
 pub relax-arc-spec : {M : Type 1} → statement M
 relax-arc-spec =

@@ -1,32 +1,34 @@
 use mathlib.Core.Path.{_≡_, refl, sym, ap, subst, _∙_}
+use mathlib.Core.List.{[]}
 use Prim.Native.Nat.{suc, _+_, _-_, _≤_}
 use native.Mathlib.Omega.{arith}
 use lib.ListN.{length}
 use Rattle.net_model.specs.Network.{Net}
-use Rattle.net_theory.specs.Graph.{costGraph}
+use Rattle.net_theory.specs.Graph.{netWith}
 use Rattle.flow_relax.specs.Labels.{State, state, relaxed, relaxedAll, Sized}
 use Rattle.flow_relax.proofs.Rounds.{all-sized, sized-more}
 use Rattle.flow_relax.proofs.round.Statement.{statement}
 use Rattle.flow_relax.proofs.round.Tie as tie
 
 abbrev Inv-loop : tie.InvT-loop
-Inv-loop tails heads lows ups costs flow need labels₀ preds₀ last₀ a₀ a-end labels preds last a = (a ≤ length tails) × (state labels preds last ≡ relaxedAll (costGraph tails heads lows ups costs) flow need (a + a) (state labels₀ preds₀ 64))
+Inv-loop tails heads lows ups costs flow need labels₀ preds₀ last₀ a₀ a-end labels preds last a = (a ≤ length tails) × (state labels preds last ≡ relaxedAll (netWith [] tails heads lows ups costs) flow need (a + a) (state labels₀ preds₀ 64))
 
 abbrev μ-loop : tie.MeasureT-loop
 μ-loop tails heads lows ups costs flow need labels₀ preds₀ last₀ a₀ a-end labels preds last a = a-end - a
 
 abbrev net : tie.Start Inv-loop μ-loop → Net
-net s = costGraph (s .args .tails .now) (s .args .heads .now) (s .args .lows .now) (s .args .ups .now) (s .args .costs .now)
+net s = netWith [] (s .args .tails .now) (s .args .heads .now) (s .args .lows .now) (s .args .ups .now) (s .args .costs .now)
 
-module _ (l : tie.At-loop Inv-loop μ-loop) where
-  abbrev entry : tie.Start Inv-loop μ-loop
-  entry = l .before .before .before .before .before .before .before
+-- where the function begins, seen from the loop
+abbrev entry : tie.At-loop Inv-loop μ-loop → tie.Start Inv-loop μ-loop
+entry l = l .before .before .before .before .before .before .before
 
-  sized : Sized 65536000000 (l .loop .labels) (l .loop .preds)
-  sized =
-      subst (λ (S : State). Sized 65536000000 (S .labels) (S .preds)) (sym (l .loop .inv .1))
-      (sized-more (omega (arith, entry .pre .0 .graph .few, l .loop .inv .0))
-      (all-sized (net entry) (entry .args .flow .now) (entry .pre .0) (entry .args .need) 64512000000 (state (entry .args .labels .now) (entry .args .preds .now) 64) (l .loop .a + l .loop .a) (omega (arith, l .loop .inv .0)) (entry .pre .1)))
+sized : (l : tie.At-loop Inv-loop μ-loop) → Sized 65536000000 (l .loop .labels) (l .loop .preds)
+sized l =
+    let s = entry l in
+    subst (λ (S : State). Sized 65536000000 (S .labels) (S .preds)) (sym (l .loop .inv .1))
+    (sized-more (omega (arith, s .pre .0 .ends .few, l .loop .inv .0))
+    (all-sized (net s) (s .args .flow .now) (s .pre .0) (s .args .need) 64512000000 (state (s .args .labels .now) (s .args .preds .now) 64) (l .loop .a + l .loop .a) (omega (arith, l .loop .inv .0)) (s .pre .1)))
 
 loop-holds : tie.Need-loop-holds Inv-loop μ-loop
 unfolding relaxedAll
@@ -38,11 +40,12 @@ relax-arc-requires c κs = let l = c .before .before .before in (entry l .pre .0
 loop-again : tie.Need-loop-again Inv-loop μ-loop
 unfolding relaxedAll
 loop-again c =
-    let l = c .before .before .before .before .before .before .before in
+    let r = c .before .before .before in
+    let l = r .before .before .before .before in
     let s = entry l in
     let e : l .loop .a + 1 + (l .loop .a + 1) ≡ suc (suc (l .loop .a + l .loop .a)) = omega arith in (
       omega arith,
-      rw e (c .before .before .before .relax-arc .ensures
+      rw e (r .relax-arc .ensures
           ∙ ap (λ (S : State). relaxed (net s) (s .args .flow .now) (s .args .need) (suc (l .loop .a + l .loop .a)) (relaxed (net s) (s .args .flow .now) (s .args .need) (l .loop .a + l .loop .a) S)) (l .loop .inv .1)),
     )
 

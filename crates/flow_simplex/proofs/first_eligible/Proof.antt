@@ -4,10 +4,10 @@ use Rattle.flow_simplex.proofs.first_eligible.Statement.{statement}
 use Rattle.flow_simplex.proofs.first_eligible.Tie as tie
 
 abbrev Inv-loop : tie.InvT-loop
-Inv-loop head room cost price from end a₀ a = (from ≤ a) × (a ≤ end)
+Inv-loop head capacity cost potential from end a₀ a = (from ≤ a) × (a ≤ end)
 
 abbrev μ-loop : tie.MeasureT-loop
-μ-loop head room cost price from end a₀ a = end - a
+μ-loop head capacity cost potential from end a₀ a = end - a
 
 pub first-eligible-spec : {M : Type 1} → statement M
 first-eligible-spec =

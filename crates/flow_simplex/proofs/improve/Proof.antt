@@ -4,10 +4,10 @@ use Rattle.flow_simplex.proofs.improve.Statement.{statement}
 use Rattle.flow_simplex.proofs.improve.Tie as tie
 
 abbrev Inv-loop : tie.InvT-loop
-Inv-loop head room₀ cost up₀ price₀ below₀ m from₀ counter₀ room up price below from counter = (counter ≤ 20000) × (from ≤ m)
+Inv-loop head capacity₀ cost up₀ potential₀ below₀ m from₀ counter₀ capacity up potential below from counter = (counter ≤ 20000) × (from ≤ m)
 
 abbrev μ-loop : tie.MeasureT-loop
-μ-loop head room₀ cost up₀ price₀ below₀ m from₀ counter₀ room up price below from counter = 20000 - counter
+μ-loop head capacity₀ cost up₀ potential₀ below₀ m from₀ counter₀ capacity up potential below from counter = 20000 - counter
 
 pub improve-spec : {M : Type 1} → statement M
 improve-spec =

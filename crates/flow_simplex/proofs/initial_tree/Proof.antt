@@ -4,10 +4,10 @@ use Rattle.flow_simplex.proofs.initial_tree.Statement.{statement}
 use Rattle.flow_simplex.proofs.initial_tree.Tie as tie
 
 abbrev Inv-loop : tie.InvT-loop
-Inv-loop head₀ room₀ up₀ price₀ below₀ excess m n v₀ head room up price below v = v ≤ n
+Inv-loop head₀ capacity₀ up₀ potential₀ below₀ excess m n v₀ head capacity up potential below v = v ≤ n
 
 abbrev μ-loop : tie.MeasureT-loop
-μ-loop head₀ room₀ up₀ price₀ below₀ excess m n v₀ head room up price below v = n - v
+μ-loop head₀ capacity₀ up₀ potential₀ below₀ excess m n v₀ head capacity up potential below v = n - v
 
 pub initial-tree-spec : {M : Type 1} → statement M
 initial-tree-spec =

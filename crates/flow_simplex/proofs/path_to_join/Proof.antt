@@ -4,10 +4,10 @@ use Rattle.flow_simplex.proofs.path_to_join.Statement.{statement}
 use Rattle.flow_simplex.proofs.path_to_join.Tie as tie
 
 abbrev Inv-loop : tie.InvT-loop
-Inv-loop head room up below from to upwards most x₀ leave₀ amount₀ counter₀ x leave amount counter = counter ≤ 65
+Inv-loop head capacity up below from to upwards most x₀ leave₀ amount₀ counter₀ x leave amount counter = counter ≤ 65
 
 abbrev μ-loop : tie.MeasureT-loop
-μ-loop head room up below from to upwards most x₀ leave₀ amount₀ counter₀ x leave amount counter = 65 - counter
+μ-loop head capacity up below from to upwards most x₀ leave₀ amount₀ counter₀ x leave amount counter = 65 - counter
 
 pub path-to-join-spec : {M : Type 1} → statement M
 path-to-join-spec =

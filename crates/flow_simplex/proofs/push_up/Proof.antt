@@ -4,10 +4,10 @@ use Rattle.flow_simplex.proofs.push_up.Statement.{statement}
 use Rattle.flow_simplex.proofs.push_up.Tie as tie
 
 abbrev Inv-loop : tie.InvT-loop
-Inv-loop head room₀ up from join d x₀ counter₀ room x counter = counter ≤ 65
+Inv-loop head capacity₀ up from join d x₀ counter₀ capacity x counter = counter ≤ 65
 
 abbrev μ-loop : tie.MeasureT-loop
-μ-loop head room₀ up from join d x₀ counter₀ room x counter = 65 - counter
+μ-loop head capacity₀ up from join d x₀ counter₀ capacity x counter = 65 - counter
 
 pub push-up-spec : {M : Type 1} → statement M
 push-up-spec =

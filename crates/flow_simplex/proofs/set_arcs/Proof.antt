@@ -5,10 +5,10 @@ use Rattle.flow_simplex.proofs.set_arcs.Statement.{statement}
 use Rattle.flow_simplex.proofs.set_arcs.Tie as tie
 
 abbrev Inv-loop : tie.InvT-loop
-Inv-loop tails heads lows ups costs head₀ room₀ cost₀ excess₀ a₀ head room cost excess a = a ≤ length tails
+Inv-loop tails heads lows ups costs head₀ capacity₀ cost₀ excess₀ a₀ head capacity cost excess a = a ≤ length tails
 
 abbrev μ-loop : tie.MeasureT-loop
-μ-loop tails heads lows ups costs head₀ room₀ cost₀ excess₀ a₀ head room cost excess a = length tails - a
+μ-loop tails heads lows ups costs head₀ capacity₀ cost₀ excess₀ a₀ head capacity cost excess a = length tails - a
 
 pub set-arcs-spec : {M : Type 1} → statement M
 set-arcs-spec =

@@ -8,7 +8,7 @@ use types.Run.{OneOf, miss}
 use denote.Enum.Declared.{tagOf}
 use Rattle.net_model.specs.Input.{netOf}
 use Rattle.net_model.specs.Struct.{structOf}
-use Rattle.net_questions.specs.Questions.{refusal, numberOf}
+use Rattle.net_questions.specs.Questions.{networkRefusal, numberOf}
 use Rattle.net_check.specs.Checked.{noNet}
 use Rattle.bytes_read.specs.Words.{ints}
 use Rattle.net_questions.specs.declared.Verdict.{Verdict}
@@ -17,7 +17,7 @@ use Rattle.net_questions.specs.declared.Verdict.the-variants.{Accepted, NodeCou
 use Rattle.net_check.proofs.check.Statement.{statement}
 use Rattle.net_check.proofs.check.Tie as tie
 
-none : (c : tie.After-enum-told) → refusal (c .before .before .before .before .before .args .balances .now) (c .before .before .before .before .before .args .arcs .now) ≡ 0
+none : (c : tie.After-enum-told) → networkRefusal (c .before .before .before .before .before .args .balances .now) (c .before .before .before .before .before .args .arcs .now) ≡ 0
 none c = sym (c .before .before .judge .ensures) ∙ ap numberOf (c .enum-told .given .1)
 
 -- every verdict of the second arm is a refusal
@@ -35,7 +35,7 @@ fill-requires c κs = none c
 
 returns : tie.Need-returns
 returns c =
-    let s = c .before .before .before .before .before .before in
+    let s : tie.Start = search in
     record {
       number = sym (none (c .before));
       net-is = c .fill .ensures ∙ ap (λ t. structOf (cond t (netOf (ints (s .args .balances .now)) (ints (s .args .arcs .now))) noNet)) (sym (eq-eqb _ 0 (none (c .before))));

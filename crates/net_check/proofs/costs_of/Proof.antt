@@ -13,7 +13,7 @@ use Rattle.net_model.specs.Input.{rows}
 use Rattle.net_model.specs.declared.Arc.{Arc}
 use Rattle.net_questions.specs.Arcs.{noArc}
 use Rattle.net_questions.proofs.Rows.{arcs-of}
-use Rattle.net_check.proofs.Columns.{part-at}
+use Rattle.net_check.proofs.Columns.{number-at}
 use Rattle.net_check.proofs.costs_of.Statement.{statement}
 use Rattle.net_check.proofs.costs_of.Tie as tie
 
@@ -33,7 +33,7 @@ loop-again c =
     let xs = s .args .arcs .now in (
       omega arith,
       filled-more (λ (t : Arc). t .cost) (rows (ints xs)) 512 (pos 0) noArc (l .a) (l .r) _ (l .inv .1) (omega (arith, arcs-of xs)) (omega arith)
-          (toZ-ofZ {w = w32} (record { sfits = c .read-i32 .ok }) ∙ c .read-i32 .ensures ∙ sym (part-at (ints xs) (l .a) 4 (omega arith) (omega (arith, length-ints xs)))),
+          (toZ-ofZ {w = w32} (record { sfits = c .read-i32 .ok }) ∙ c .read-i32 .ensures ∙ sym (number-at (ints xs) (l .a) 4 (omega arith) (omega (arith, length-ints xs)))),
     )
 
 returns : tie.Need-returns Inv-loop μ-loop

@@ -34,18 +34,24 @@ bounds-of-requires : tie.Need-bounds-of-requires
 bounds-of-requires c κs = lows-column _ _ (ok (c .before .before .before .before .before))
 
 bounds-of-requires-2 : tie.Need-bounds-of-requires-2
-bounds-of-requires-2 c κs = ups-column _ _ (ok (c .before .before .before .before .before .before))
+bounds-of-requires-2 c κs =
+    let start : tie.Start = search in
+    ups-column _ _ (ok start)
 
 costs-of-requires : tie.Need-costs-of-requires
-costs-of-requires c κs = ok (c .before .before .before .before .before .before .before) .arcs-fair .few
+costs-of-requires c κs =
+    let start : tie.Start = search in
+    ok start .arcs-fair .few
 
 returns : tie.Need-returns
 returns c =
-    let s = c .before .before .before .before .before .before .before .before in
+    let after-ends-of : tie.After-ends-of = search in
+    let after-balances-of : tie.After-balances-of = search in
+    let s : tie.Start = search in
     let bs = s .args .balances .now in
     let xs = s .args .arcs .now in
     same (sym (length-ints bs)) (sym (arcs-of xs) ∙ sym (length-map (rows (ints xs)) (λ r. natAbs (r .tail))))
-    (c .before .before .before .before .before .balances-of .ensures) (c .before .before .before .before .ends-of .ensures) (c .before .before .before .ends-of2 .ensures)
+    (after-balances-of .balances-of .ensures) (after-ends-of .ends-of .ensures) (c .before .before .before .ends-of2 .ensures)
     (c .before .before .bounds-of .ensures) (c .before .bounds-of2 .ensures) (c .costs-of .ensures)
 
 pub fill-spec : {M : Type 1} → statement M

@@ -17,10 +17,11 @@ same p q r s v = cc
 
 returns : tie.Need-returns
 returns c =
-    let a = c .before .before .before .before .before .before in
+    let after-read-i32 : tie.After-read-i32 = search in
+    let a : tie.Start = search in
     let e = rows-at (ints (a .args .arcs .now)) (a .args .a) (omega (arith, length-ints (a .args .arcs .now), a .pre)) in
     same
-    (toZ-ofZ {w = w32} (record { sfits = c .before .before .before .before .read-i32 .ok }) ∙ c .before .before .before .before .read-i32 .ensures)
+    (toZ-ofZ {w = w32} (record { sfits = after-read-i32 .read-i32 .ok }) ∙ after-read-i32 .read-i32 .ensures)
     (toZ-ofZ {w = w32} (record { sfits = c .before .before .before .read-i322 .ok }) ∙ c .before .before .before .read-i322 .ensures)
     (toZ-ofZ {w = w32} (record { sfits = c .before .before .read-i323 .ok }) ∙ c .before .before .read-i323 .ensures)
     (toZ-ofZ {w = w32} (record { sfits = c .before .read-i324 .ok }) ∙ c .before .read-i324 .ensures)

@@ -11,10 +11,12 @@ use Rattle.net_questions.proofs.passes.Tie as tie
 
 returns : tie.Need-returns
 returns c =
-    let a = c .before .before .before .before .before .before .before in
+    let after-struct-told : tie.After-struct-told = search in
+    let after-enum-told : tie.After-enum-told = search in
+    let a : tie.Start = search in
     let r = a .args .r in
-    let g = c .before .before .before .before .struct-told .given in
-    let e = c .before .before .before .before .before .enum-told .given .1 in
+    let g = after-struct-told .struct-told .given in
+    let e = after-enum-told .enum-told .given .1 in
     rw e
     (and-then (c .before .before .before .is-inside .result) (c .is-inside2 .result) (inside (pos 0) (a .args .last) (r .tail)) (inside (pos 0) (a .args .last) (r .head))
     (rw (toZ-ofZ {w = w32} {z = r .tail} (record { sfits = g .0 .1 }), toZ-ofZ (a .fits .last)) at (c .before .before .before .is-inside .ensures)) (c .before .before .if1 .taken)
@@ -31,20 +33,22 @@ returns-2 c =
 
 returns-3 : tie.Need-returns-3
 returns-3 c =
-    let a = c .before .before .before .before .before .before .before .before in
+    let after-enum-told2 : tie.After-enum-told2 = search in
+    let a : tie.Start = search in
     let r = a .args .r in
     let g = c .struct-told5 .given in
-    rw (c .before .before .before .before .before .before .enum-told2 .given .1)
+    rw (after-enum-told2 .enum-told2 .given .1)
     (and-then (c .before .before .before .is-inside3 .result) (leZ (toZ w32 (ofZ w32 (r .up))) (pos 1000000)) (inside (pos 0) (r .up) (r .low)) (leZ (r .up) (pos 1000000))
     (rw (toZ-ofZ {w = w32} {z = r .low} (record { sfits = g .1 .1 .0 .1 }), toZ-ofZ {w = w32} {z = r .up} (record { sfits = g .1 .1 .1 .0 .1 })) at (c .before .before .before .is-inside3 .ensures)) (c .before .before .if2 .taken)
     (rw (toZ-ofZ {w = w32} {z = r .up} (record { sfits = g .1 .1 .1 .0 .1 }))))
 
 returns-4 : tie.Need-returns-4
 returns-4 c =
-    let a = c .before .before .before .before .before .before in
+    let after-enum-told2 : tie.After-enum-told2 = search in
+    let a : tie.Start = search in
     let r = a .args .r in
     let g = c .before .before .struct-told4 .given in
-    rw (c .before .before .before .before .enum-told2 .given .1)
+    rw (after-enum-told2 .enum-told2 .given .1)
     (and-else (c .before .is-inside3 .result) (inside (pos 0) (r .up) (r .low)) (leZ (r .up) (pos 1000000))
     (rw (toZ-ofZ {w = w32} {z = r .low} (record { sfits = g .1 .1 .0 .1 }), toZ-ofZ {w = w32} {z = r .up} (record { sfits = g .1 .1 .1 .0 .1 })) at (c .before .is-inside3 .ensures)) (c .if2 .left))
 

@@ -28,6 +28,19 @@ abbrev claims : ℕ → lts.Claims
 claims t = (read-text.Asked, read-text.Learnt, read-number.Asked, read-number.Learnt, and 2 kinds.ps (falls 2 kinds.ps _<_ μ t) read-row.Pre, read-row.Post)
 
 module _ (t : ℕ) where
+  -- places, seen from later ones
+  abbrev start-before-else3 : lts.Else3 (claims t) (at t) read-row.Post → lts.Start (claims t) (at t) read-row.Post
+  start-before-else3 c = c .before .before .before .before .before .before .before .before
+
+  abbrev start-before-numbers : lts.After-numbers (claims t) (at t) read-row.Post → lts.Start (claims t) (at t) read-row.Post
+  start-before-numbers c = start-before-else3 (c .before .before .before .before .before)
+
+  abbrev read-text2-before-numbers : lts.After-numbers (claims t) (at t) read-row.Post → lts.After-read-text2 (claims t) (at t) read-row.Post
+  read-text2-before-numbers c = c .before .before .before .before .before .before .before .before .before
+
+  abbrev read-number-before-numbers : lts.After-numbers (claims t) (at t) read-row.Post → lts.After-read-number (claims t) (at t) read-row.Post
+  read-number-before-numbers c = c .before .before .before .before .before .before
+
   slice-aggregate-read-text : lts.Need-slice-aggregate-read-text (claims t) (at t) read-row.Post
   slice-aggregate-read-text c = search needs
 
@@ -61,7 +74,7 @@ module _ (t : ℕ) where
   headed c = first _ _ (opened (c .before .before)) (c .before .read-text2 .ensures) (c .if2 .left)
 
   numbered : (c : lts.Else3 (claims t) (at t) read-row.Post)
-      → let start = c .before .before .before .before .before .before .before .before in
+      → let start = start-before-else3 c in
       From (P start) (row (bytes " ") (start .args .n - 1) >>= (λ vs. give (c .before .read-number .result .value ∷ vs))) (S start)
       (c .before .before .before .before .read-text2 .result + c .before .read-number .result .used)
   numbered c = next-right _ _ (headed (c .before .before .before)) (c .before .read-number .ensures) (c .if3 .left)
@@ -100,12 +113,15 @@ module _ (t : ℕ) where
   slice-aggregate-read-row c = search needs
 
   sub-read-row-2 : lts.Need-sub-read-row-2 (claims t) (at t) read-row.Post
-  sub-read-row-2 c = omega (arith, c .before .before .before .before .before .before .before .if1 .left)
+  sub-read-row-2 c =
+      let else1 : lts.Else1 (claims t) (at t) read-row.Post = search in
+      omega (arith, else1 .if1 .left)
 
   read-row-requires : lts.Need-read-row-requires (claims t) (at t) read-row.Post
   read-row-requires c κs =
-      let start = c .before .before .before .before .before .before .before .before .before .before in
-      let z = c .before .before .before .before .before .before .before .if1 .left in
+      let else1 : lts.Else1 (claims t) (at t) read-row.Post = search in
+      let start : lts.Start (claims t) (at t) read-row.Post = search in
+      let z = else1 .if1 .left in
       (omega (arith, start .pre .0, z), (omega (arith, start .pre .1), search needs))
 
   returns-4 : lts.Need-returns-4 (claims t) (at t) read-row.Post
@@ -113,19 +129,23 @@ module _ (t : ℕ) where
   returns-4 c = row-absent _ _ _ (stops _ _ (numbered (c .before .before .before .before)) (c .before .read-row .ensures .right) (c .if4 .taken))
 
   sub-numbers : lts.Need-sub-numbers (claims t) (at t) read-row.Post
-  sub-numbers c = omega (arith, c .before .before .before .before .before .before .before .before .before .before .before .before .before .pre .1)
+  sub-numbers c =
+      let start : lts.Start (claims t) (at t) read-row.Post = search in
+      omega (arith, start .pre .1)
 
   mul-numbers : lts.Need-mul-numbers (claims t) (at t) read-row.Post
   mul-numbers c = omega arith
 
   array-write-numbers : lts.Need-array-write-numbers (claims t) (at t) read-row.Post
-  array-write-numbers c = omega (arith, c .before .before .before .before .before .before .before .before .before .before .if1 .left)
+  array-write-numbers c =
+      let else1 : lts.Else1 (claims t) (at t) read-row.Post = search in
+      omega (arith, else1 .if1 .left)
 
   ended : (c : lts.After-numbers (claims t) (at t) read-row.Post)
-      → let start = c .before .before .before .before .before .before .before .before .before .before .before .before .before in
+      → let start = start-before-numbers c in
       let r = c .before .before .read-row .result in
-      From (P start) (give (c .before .before .before .before .before .before .read-number .result .value ∷ drop (4 - (start .args .n - 1)) (r .numbers))) (S start)
-      (c .before .before .before .before .before .before .before .before .before .read-text2 .result + c .before .before .before .before .before .before .read-number .result .used + r .used)
+      From (P start) (give (read-number-before-numbers c .read-number .result .value ∷ drop (4 - (start .args .n - 1)) (r .numbers))) (S start)
+      (read-text2-before-numbers c .read-text2 .result + read-number-before-numbers c .read-number .result .used + r .used)
   unfolding bytes
   ended c = next-right _ _ (numbered (c .before .before .before .before .before)) (c .before .before .read-row .ensures .right) (c .before .if4 .left)
 
@@ -134,12 +154,14 @@ module _ (t : ℕ) where
 
   returns-5 : lts.Need-returns-5 (claims t) (at t) read-row.Post
   returns-5 c =
-      let start = c .before .before .before .before .before .before .before .before .before .before .before .before .before in
       let four : length (c .before .before .read-row .result .numbers) ≡ 4 = search needs in
-      let some = c .before .before .before .before .before .before .before .before .before .before .if1 .left in
+      let after-read-number : lts.After-read-number (claims t) (at t) read-row.Post = search in
+      let else1 : lts.Else1 (claims t) (at t) read-row.Post = search in
+      let start : lts.Start (claims t) (at t) read-row.Post = search in
+      let some = else1 .if1 .left in
       record {
         right = rw (put-first _ (start .args .n) _ four (start .pre .1 .0) some) (ends (ended c) (omega (arith, c .before .if4 .left)));
-        before = put-before (c .before .before .read-row .result .numbers) (start .args .n) (c .before .before .before .before .before .before .read-number .result .value) some (c .before .before .read-row .ensures .before);
+        before = put-before (c .before .before .read-row .result .numbers) (start .args .n) (after-read-number .read-number .result .value) some (c .before .before .read-row .ensures .before);
         none = λ z. absurd (omega (arith, c .before .if4 .left));
       }
 

@@ -19,6 +19,10 @@ Inv-loop rest value₀ i₀ value i = Digits rest value i
 abbrev μ-loop : tie.MeasureT-loop
 μ-loop rest value₀ i₀ value i = length rest - i
 
+-- the byte of a turn
+abbrev B : tie.Else1 Inv-loop μ-loop → ℕ
+B c = getD (c .before .before .before .before .before .before .args .rest .now) (c .before .before .before .before .loop .i) 0
+
 loop-holds : tie.Need-loop-holds Inv-loop μ-loop
 loop-holds c = digits-none _
 
@@ -26,9 +30,6 @@ shared-slice-read-b : tie.Need-shared-slice-read-b Inv-loop μ-loop
 shared-slice-read-b c = omega arith
 
 -- the byte of a turn is a digit, and what the sums have room for
-abbrev B : tie.Else1 Inv-loop μ-loop → ℕ
-B c = getD (c .before .before .before .before .before .before .args .rest .now) (c .before .before .before .before .loop .i) 0
-
 is-digit : (c : tie.Else1 Inv-loop μ-loop) → digit (B c) ≡ true
 is-digit c = sym (c .before .is-digit .ensures) ∙ not-false _ (c .if1 .left)
 

@@ -17,6 +17,10 @@ Inv-loop rest i₀ i = Passed wordByte rest i × (i ≤ 16)
 abbrev μ-loop : tie.MeasureT-loop
 μ-loop rest i₀ i = length rest - i
 
+-- places, seen from later ones
+abbrev start-before-else1 : tie.Else1 Inv-loop μ-loop → tie.Start Inv-loop μ-loop
+start-before-else1 c = c .before .before .before .before .before .before
+
 loop-holds : tie.Need-loop-holds Inv-loop μ-loop
 loop-holds c = (passed-none wordByte _, omega arith)
 
@@ -24,7 +28,7 @@ shared-slice-read-is-word-byte : tie.Need-shared-slice-read-is-word-byte Inv-loo
 shared-slice-read-is-word-byte c = omega arith
 
 -- the byte of a turn may stand in a word
-in-word : (c : tie.Else1 Inv-loop μ-loop) → wordByte (getD (c .before .before .before .before .before .before .args .rest .now) (c .before .before .before .before .loop .i) 0) ≡ true
+in-word : (c : tie.Else1 Inv-loop μ-loop) → wordByte (getD (start-before-else1 c .args .rest .now) (c .before .before .before .before .loop .i) 0) ≡ true
 in-word c = sym (c .before .is-word-byte .ensures) ∙ not-false _ (c .if1 .left)
 
 returns : tie.Need-returns Inv-loop μ-loop

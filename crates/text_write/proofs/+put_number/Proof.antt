@@ -39,6 +39,10 @@ module _ (l o : List ℕ) (k m n : ℕ) (h : 10 ≤ n) (g : k + length (decimal 
   more d e = rw (decimal-more n h, e) (appended-then w (appended-byte o m (48 + n % 10) room))
 
 module _ (t : ℕ) where
+  -- places, seen from later ones
+  abbrev start-before-digit2 : lts.After-digit2 (claims t) (at t) put-number.Post → lts.Start (claims t) (at t) put-number.Post
+  start-before-digit2 c = c .before .before .before .before .before .before .before
+
   digit-requires : lts.Need-digit-requires (claims t) (at t) put-number.Post
   digit-requires c κs = omega arith
 
@@ -64,23 +68,25 @@ module _ (t : ℕ) where
 
   -- the digits before the last one are written
   tens : (c : lts.After-digit2 (claims t) (at t) put-number.Post)
-      → let start = c .before .before .before .before .before .before .before in
+      → let start = start-before-digit2 c in
       let r = c .before .before .before .put-number in
       Appended (start .args .out .now) (start .args .at) (decimal (start .args .n / 10)) (r .last .0) (r .result)
   tens c = c .before .before .before .put-number .ensures
 
   slice-write-out-2 : lts.Need-slice-write-out-2 (claims t) (at t) put-number.Post
   slice-write-out-2 c =
-      let start = c .before .before .before .before .before .before .before in
-      room _ _ _ _ (start .args .n) (c .before .before .before .before .before .if1 .left) (start .pre .1) (tens c)
+      let else1 : lts.Else1 (claims t) (at t) put-number.Post = search in
+      let start : lts.Start (claims t) (at t) put-number.Post = search in
+      room _ _ _ _ (start .args .n) (else1 .if1 .left) (start .pre .1) (tens c)
 
   add-result-2 : lts.Need-add-result-2 (claims t) (at t) put-number.Post
   add-result-2 c = omega (arith, slice-write-out-2 c)
 
   returns-2 : lts.Need-returns-2 (claims t) (at t) put-number.Post
   returns-2 c =
-      let start = c .before .before .before .before .before .before .before in
-      more _ _ _ _ (start .args .n) (c .before .before .before .before .before .if1 .left) (start .pre .1) (tens c) _ (c .digit2 .ensures)
+      let else1 : lts.Else1 (claims t) (at t) put-number.Post = search in
+      let start : lts.Start (claims t) (at t) put-number.Post = search in
+      more _ _ _ _ (start .args .n) (else1 .if1 .left) (start .pre .1) (tens c) _ (c .digit2 .ensures)
 
   same-length-2 : lts.Need-same-length-2 (claims t) (at t) put-number.Post
   same-length-2 c = appended-long (returns-2 c)

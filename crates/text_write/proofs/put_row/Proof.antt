@@ -14,7 +14,7 @@ put-text-requires c κs =
 
 put-number-requires : tie.Need-put-number-requires
 put-number-requires c κs =
-    let start = c .before .before .before .before .before .before .before in
+    let start : tie.Start = search in
     room-next (start .args .head .now) (decimal (start .args .n)) (room-first (start .args .head .now ++ decimal (start .args .n)) (bytes ")\n") _ _ (start .pre)) (c .before .before .before .put-text .ensures)
 
 put-text-requires-2 : tie.Need-put-text-requires-2

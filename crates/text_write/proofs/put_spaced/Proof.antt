@@ -12,12 +12,14 @@ put-text-requires c κs = room-first (bytes " ") (decimal (c .before .before .be
 put-number-requires : tie.Need-put-number-requires
 unfolding bytes
 put-number-requires c κs =
-    let start = c .before .before .before .before .before .before .before in
+    let start : tie.Start = search in
     room-next (bytes " ") (decimal (start .args .n)) (start .pre) (c .before .before .before .put-text .ensures)
 
 returns : tie.Need-returns
 unfolding bytes
-returns c = appended-then (c .before .before .before .before .before .before .put-text .ensures) (c .before .before .put-number .ensures)
+returns c =
+    let after-put-text : tie.After-put-text = search in
+    appended-then (after-put-text .put-text .ensures) (c .before .before .put-number .ensures)
 
 pub put-spaced-spec : {M : Type 1} → statement M
 put-spaced-spec = tie.close (tie.spec (λ c. search needs) put-text-requires put-number-requires (λ c. search needs) returns)

@@ -71,7 +71,9 @@ shared-slice-read-put-spaced : tie.Need-shared-slice-read-put-spaced Inv-loop μ
 shared-slice-read-put-spaced c = omega arith
 
 put-spaced-requires : tie.Need-put-spaced-requires Inv-loop μ-loop
-put-spaced-requires c κs = room-more (c .before .before .before .loop .inv) (omega (arith, room (c .before .before .before .before .before .before))) (c .before .before .loop-test .taken)
+put-spaced-requires c κs =
+    let after-put-text : tie.After-put-text Inv-loop μ-loop = search in
+    room-more (c .before .before .before .loop .inv) (omega (arith, room after-put-text)) (c .before .before .loop-test .taken)
 
 add-i : tie.Need-add-i Inv-loop μ-loop
 add-i c = omega arith
@@ -94,7 +96,9 @@ filled : (c : tie.After-loop Inv-loop μ-loop)
 filled c = put-all (c .before .loop .inv) (c .loop-test .left)
 
 put-text-requires-2 : tie.Need-put-text-requires-2 Inv-loop μ-loop
-put-text-requires-2 c κs = let f = filled (c .before .before) in omega (arith, room (c .before .before .before .before .before .before), f .end, appended-long f)
+put-text-requires-2 c κs =
+    let after-put-text : tie.After-put-text Inv-loop μ-loop = search in
+    let f = filled (c .before .before) in omega (arith, room after-put-text, f .end, appended-long f)
 
 returns : tie.Need-returns Inv-loop μ-loop
 unfolding bytes wayLine

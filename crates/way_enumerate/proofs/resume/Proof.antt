@@ -1,6 +1,6 @@
 use mathlib.Core.Path.{sym}
 use Rattle.net_model.specs.Struct.{Sound}
-use Rattle.way_enumerate.proofs.Walking.{net-sound, net-ends, resumes, in-tails, in-heads}
+use Rattle.way_enumerate.proofs.Enumerating.{net-sound, net-ends, resumes, in-tails, in-heads}
 use lib.Seq.{length-take-le}
 use borrow.Author.Needs.{needs}
 use Rattle.way_enumerate.proofs.resume.Statement.{statement}

@@ -1,4 +1,4 @@
-use Rattle.way_enumerate.proofs.Walking.{net-sound, begins}
+use Rattle.way_enumerate.proofs.Enumerating.{net-sound, begins}
 use borrow.Author.Needs.{needs}
 use Rattle.way_enumerate.proofs.start.Statement.{statement}
 use Rattle.way_enumerate.proofs.start.Tie as tie

@@ -17,7 +17,7 @@ returns c = record { each = λ b T. join-opening b _ _ _ _ _ _ _ T _ _ (c .if1 .
 
 returns-2 : tie.Need-returns-2
 returns-2 c =
-    let s = c .before .before .before .before .before .before .before in
+    let s : tie.Start = search in
     record { each = λ b T. join-self b _ _ _ _ _ _ _ T _ _ (omega (arith, c .before .if1 .left)) (omega (arith, s .pre .1, T .entries-are)) (s .pre .2) (omega (arith, s .pre .3, T .entries-are)) (c .if2 .taken) }
 
 shared-slice-read-a : tie.Need-shared-slice-read-a
@@ -57,14 +57,18 @@ shared-slice-read-join-by-3 : tie.Need-shared-slice-read-join-by-3
 shared-slice-read-join-by-3 c = omega (arith, room (c .before .before .before .before .before))
 
 shared-slice-read-join-by-4 : tie.Need-shared-slice-read-join-by-4
-shared-slice-read-join-by-4 c = omega (arith, room (c .before .before .before .before .before .before))
+shared-slice-read-join-by-4 c =
+    let else2 : tie.Else2 = search in
+    omega (arith, room else2)
 
 join-by-requires : tie.Need-join-by-requires
-join-by-requires c κs = let r = room (c .before .before .before .before .before .before) in (r .ticks-in, r .finish-in)
+join-by-requires c κs =
+    let else2 : tie.Else2 = search in
+    let r = room else2 in (r .ticks-in, r .finish-in)
 
 returns-3 : tie.Need-returns-3
 returns-3 c =
-    let t = c .before .before .before .before .before .before .before in
+    let t : tie.Else2 = search in
     let s = start t in
     record { each = λ b T. c .join-by .ensures ∙ join-told b _ _ _ _ _ _ _ T _ _ (omega (arith, t .before .if1 .left)) (omega (arith, s .pre .1, T .entries-are)) (s .pre .2) (omega (arith, s .pre .3, T .entries-are)) (t .if2 .left) _ _ refl refl }
 

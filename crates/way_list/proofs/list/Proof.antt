@@ -14,7 +14,7 @@ use Rattle.text_write.proofs.Pieces.{appended-then}
 use Rattle.text_write.proofs.Sizes.{cost-size}
 use Rattle.book_form.specs.Book.{Book}
 use Rattle.way_theory.specs.Ways.{wayCost}
-use Rattle.way_enumerate.specs.WayWalk.{Walks}
+use Rattle.way_enumerate.specs.WayEnumerator.{Enumerates}
 use Rattle.way_list.proofs.Progress.{allLines}
 use Rattle.way_list.proofs.Standing.{shown, on-way}
 use Rattle.way_list.proofs.Whole.{text-of, cost-is, cost-few}
@@ -24,39 +24,39 @@ use Rattle.way_list.proofs.list.Tie as tie
 abbrev entry : tie.After-put-cost-arg → tie.Start
 entry c = c .before .before .before .before
 
--- the cost of the way that the walk stands on
-cost-of : (c : tie.After-put-cost-arg) (b : Book) → let w = entry c .args .walk in Walks b w → toZ w64 (ofZ w64 (w .walk .cost)) ≡ pos (wayCost b (shown b w))
-cost-of c b walks = let s = entry c in toZ-ofZ {w = w64} {z = s .args .walk .walk .cost} (search needs) ∙ cost-is b (s .args .walk) (s .pre .0 .on) walks
+-- the cost of the way that the enumerator stands on
+cost-of : (c : tie.After-put-cost-arg) (b : Book) → let w = entry c .args .ways in Enumerates b w → toZ w64 (ofZ w64 (w .flows .cost)) ≡ pos (wayCost b (shown b w))
+cost-of c b enumerates = let s = entry c in toZ-ofZ {w = w64} {z = s .args .ways .flows .cost} (search needs) ∙ cost-is b (s .args .ways) (s .pre .0 .on) enumerates
 
-cost-low : (c : tie.After-put-cost-arg) → let s = entry c in wayCost (s .pre .0 .book) (shown (s .pre .0 .book) (s .args .walk)) ≤ 28000000
-cost-low c = let s = entry c in cost-few (s .pre .0 .book) (s .args .walk) (s .pre .0 .on) (s .pre .0 .walks)
+cost-low : (c : tie.After-put-cost-arg) → let s = entry c in wayCost (s .pre .0 .book) (shown (s .pre .0 .book) (s .args .ways)) ≤ 28000000
+cost-low c = let s = entry c in cost-few (s .pre .0 .book) (s .args .ways) (s .pre .0 .on) (s .pre .0 .enumerates)
 
-cost-short : (c : tie.After-put-cost-arg) → let s = entry c in length (costLine (wayCost (s .pre .0 .book) (shown (s .pre .0 .book) (s .args .walk)))) ≤ 19
-cost-short c = let s = entry c in cost-size (wayCost (s .pre .0 .book) (shown (s .pre .0 .book) (s .args .walk))) (omega (arith, cost-low c))
+cost-short : (c : tie.After-put-cost-arg) → let s = entry c in length (costLine (wayCost (s .pre .0 .book) (shown (s .pre .0 .book) (s .args .ways)))) ≤ 19
+cost-short c = let s = entry c in cost-size (wayCost (s .pre .0 .book) (shown (s .pre .0 .book) (s .args .ways))) (omega (arith, cost-low c))
 
 cast-put-cost : tie.Need-cast-put-cost
-cast-put-cost c = let h = entry c .pre .0 in rw (cost-of c (h .book) (h .walks)) (tt, record { fits = omega (arith, cost-low c) })
+cast-put-cost c = let h = entry c .pre .0 in rw (cost-of c (h .book) (h .enumerates)) (tt, record { fits = omega (arith, cost-low c) })
 
 put-cost-requires : tie.Need-put-cost-requires
-put-cost-requires c κs = let s = entry c in rw (cost-of c (s .pre .0 .book) (s .pre .0 .walks)) (omega (arith, s .pre .1, cost-short c))
+put-cost-requires c κs = let s = entry c in rw (cost-of c (s .pre .0 .book) (s .pre .0 .enumerates)) (omega (arith, s .pre .1, cost-short c))
 
 list-from-requires : tie.Need-list-from-requires
 list-from-requires c κs =
     let k = c .before .before .before in
     let s = entry (k .before) in
     let h = s .pre .0 in
-    (record { book = h .book; walks = h .walks }, h .on, omega (arith, s .pre .1, k .put-cost .kept .0, k .put-cost .ensures .end, ap (λ z. length (costLine (natAbs z))) (cost-of (k .before) (h .book) (h .walks)), cost-short (k .before)))
+    (record { book = h .book; enumerates = h .enumerates }, h .on, omega (arith, s .pre .1, k .put-cost .kept .0, k .put-cost .ensures .end, ap (λ z. length (costLine (natAbs z))) (cost-of (k .before) (h .book) (h .enumerates)), cost-short (k .before)))
 
 returns : tie.Need-returns
 returns c =
     let l = c .before .before in
     let k = l .before .before .before .before in
     let s = entry (k .before) in
-    let w = s .args .walk in
+    let w = s .args .ways in
     record {
-      each = λ b walks e. subst (λ (t : List ℕ). Appended (s .args .out .now) 0 t (l .list-from .last .1 .0) (l .list-from .result))
-          (ap (λ z. costLine (natAbs z) ++ allLines b) (cost-of (k .before) b walks) ∙ text-of b (shown b w) (sym e ∙ on-way b w (s .pre .0 .on)))
-          (appended-then (k .put-cost .ensures) (l .list-from .ensures .each b walks e));
+      each = λ b enumerates e. subst (λ (t : List ℕ). Appended (s .args .out .now) 0 t (l .list-from .last .1 .0) (l .list-from .result))
+          (ap (λ z. costLine (natAbs z) ++ allLines b) (cost-of (k .before) b enumerates) ∙ text-of b (shown b w) (sym e ∙ on-way b w (s .pre .0 .on)))
+          (appended-then (k .put-cost .ensures) (l .list-from .ensures .each b enumerates e));
     }
 
 pub list-spec : {M : Type 1} → statement M

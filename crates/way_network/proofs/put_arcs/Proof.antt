@@ -7,11 +7,11 @@ use Rattle.way_network.proofs.put_arcs.Statement.{statement}
 use Rattle.way_network.proofs.put_arcs.Tie as tie
 
 abbrev Inv-loop : tie.InvT-loop
-Inv-loop fee e ticks prices instruments starts finishes tails₀ heads₀ costs₀ m₀ j₀ tails heads costs m j =
-    Outer fee e ticks prices instruments starts finishes (arrays tails heads costs) m j
+Inv-loop fee e ticks move-costs instruments starts finishes tails₀ heads₀ costs₀ m₀ j₀ tails heads costs m j =
+    Outer fee e ticks move-costs instruments starts finishes (arrays tails heads costs) m j
 
 abbrev μ-loop : tie.MeasureT-loop
-μ-loop fee e ticks prices instruments starts finishes tails₀ heads₀ costs₀ m₀ j₀ tails heads costs m j = e + 1 - j
+μ-loop fee e ticks move-costs instruments starts finishes tails₀ heads₀ costs₀ m₀ j₀ tails heads costs m j = e + 1 - j
 
 -- from one place to an earlier one
 abbrev start : tie.At-loop Inv-loop μ-loop → tie.Start Inv-loop μ-loop
@@ -35,13 +35,13 @@ rows c =
     let s = start (c .before) in
     let x = s .args in
     let l = c .before .loop in
-    (rows-room (x .fee) (x .e) (x .ticks .now) (x .prices .now) (x .instruments .now) (x .starts .now) (x .finishes .now) (s .pre .0) (arrays (l .tails) (l .heads) (l .costs)) (l .m) (l .j) (l .inv) (omega (arith, c .loop-test .left)), few-of _ _ _ _ _ _ _ (s .pre .0))
+    (rows-room (x .fee) (x .e) (x .ticks .now) (x .move-costs .now) (x .instruments .now) (x .starts .now) (x .finishes .now) (s .pre .0) (arrays (l .tails) (l .heads) (l .costs)) (l .m) (l .j) (l .inv) (omega (arith, c .loop-test .left)), few-of _ _ _ _ _ _ _ (s .pre .0))
 
 loop-holds : tie.Need-loop-holds Inv-loop μ-loop
 loop-holds c =
-    let s = c .before .before .before .before .before .before .before in
+    let s : tie.Start Inv-loop μ-loop = search in
     let x = s .args in
-    outer-start (x .fee) (x .e) (x .ticks .now) (x .prices .now) (x .instruments .now) (x .starts .now) (x .finishes .now) _ (s .pre .1)
+    outer-start (x .fee) (x .e) (x .ticks .now) (x .move-costs .now) (x .instruments .now) (x .starts .now) (x .finishes .now) _ (s .pre .1)
 
 put-joins-requires : tie.Need-put-joins-requires Inv-loop μ-loop
 put-joins-requires c κs =
@@ -53,7 +53,7 @@ put-joins-requires c κs =
       l .inv .low,
       omega (arith, inside c .loop-test .taken),
       l .inv .long,
-      outer-room (x .fee) (x .e) (x .ticks .now) (x .prices .now) (x .instruments .now) (x .starts .now) (x .finishes .now) h (arrays (l .tails) (l .heads) (l .costs)) (l .m) (l .j) (l .inv),
+      outer-room (x .fee) (x .e) (x .ticks .now) (x .move-costs .now) (x .instruments .now) (x .starts .now) (x .finishes .now) h (arrays (l .tails) (l .heads) (l .costs)) (l .m) (l .j) (l .inv),
     )
 
 add-j : tie.Need-add-j Inv-loop μ-loop
@@ -67,7 +67,7 @@ loop-again c =
     let a = inside (joined c .before) in
     let x = start (a .before) .args in
     let l = a .before .loop in
-    outer-on (x .fee) (x .e) (x .ticks .now) (x .prices .now) (x .instruments .now) (x .starts .now) (x .finishes .now) (arrays (l .tails) (l .heads) (l .costs)) _ (l .m) _ (l .j) (l .inv) (omega (arith, a .loop-test .taken)) (joined c .put-joins .ensures)
+    outer-on (x .fee) (x .e) (x .ticks .now) (x .move-costs .now) (x .instruments .now) (x .starts .now) (x .finishes .now) (arrays (l .tails) (l .heads) (l .costs)) _ (l .m) _ (l .j) (l .inv) (omega (arith, a .loop-test .taken)) (joined c .put-joins .ensures)
 
 put-rows-requires : tie.Need-put-rows-requires Inv-loop μ-loop
 put-rows-requires c κs = (out c .before .loop .inv .long, rows (out c) .1, omega (arith, rows (out c)))
@@ -77,7 +77,7 @@ returns c =
     let o = out (finished c .before) in
     let x = start (o .before) .args in
     let l = o .before .loop in
-    all-done (x .fee) (x .e) (x .ticks .now) (x .prices .now) (x .instruments .now) (x .starts .now) (x .finishes .now) (arrays (l .tails) (l .heads) (l .costs)) _ (l .m) (l .j) (l .inv) (omega (arith, o .loop-test .left)) (finished c .put-rows .ensures)
+    all-done (x .fee) (x .e) (x .ticks .now) (x .move-costs .now) (x .instruments .now) (x .starts .now) (x .finishes .now) (arrays (l .tails) (l .heads) (l .costs)) _ (l .m) (l .j) (l .inv) (omega (arith, o .loop-test .left)) (finished c .put-rows .ensures)
 
 blanked : (c : tie.Start Inv-loop μ-loop) → Long (arrays (c .args .tails .now) (c .args .heads .now) (c .args .costs .now))
 blanked c = blank-long _ (c .pre .1)

@@ -6,7 +6,7 @@ use Prim.Native.Nat.{ℕ, _≤_}
 use native.Mathlib.Omega.{arith}
 use Rattle.way_joins.specs.declared.Join.{Join}
 use Rattle.way_joins.specs.declared.Join.the-variants.{At}
-use Rattle.way_network.specs.Arrays.{arrays, costIn}
+use Rattle.way_network.specs.Arrays.{arrays, joinCost}
 use Rattle.way_network.proofs.Progress.{put-none, put-one}
 
 -- from one place to an earlier one
@@ -19,7 +19,7 @@ put c = c .before .before .before .before .before
 abbrev made : tie.After-put-arc → tie.After-arc-of
 made c = c .before .before .before .before
 
-small-cost : (o : Join) (c : ℕ) → o ≡ At c → costIn o ≤ 1000000 → c ≤ 1000000
+small-cost : (o : Join) (c : ℕ) → o ≡ At c → joinCost o ≤ 1000000 → c ≤ 1000000
 small-cost o c e h = rw e at h
 
 arc-of-requires : tie.Need-arc-of-requires

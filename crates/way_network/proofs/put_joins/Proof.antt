@@ -7,11 +7,11 @@ use Rattle.way_network.proofs.put_joins.Statement.{statement}
 use Rattle.way_network.proofs.put_joins.Tie as tie
 
 abbrev Inv-loop : tie.InvT-loop
-Inv-loop fee e ticks prices instruments starts finishes j tails₀ heads₀ costs₀ m at₀ i₀ tails heads costs at i =
-    Going ticks prices instruments starts finishes fee e j (arrays tails₀ heads₀ costs₀) m (arrays tails heads costs) at i
+Inv-loop fee e ticks move-costs instruments starts finishes j tails₀ heads₀ costs₀ m at₀ i₀ tails heads costs at i =
+    Going ticks move-costs instruments starts finishes fee e j (arrays tails₀ heads₀ costs₀) m (arrays tails heads costs) at i
 
 abbrev μ-loop : tie.MeasureT-loop
-μ-loop fee e ticks prices instruments starts finishes j tails₀ heads₀ costs₀ m at₀ i₀ tails heads costs at i = i
+μ-loop fee e ticks move-costs instruments starts finishes j tails₀ heads₀ costs₀ m at₀ i₀ tails heads costs at i = i
 
 -- from one place to an earlier one
 abbrev start : tie.At-loop Inv-loop μ-loop → tie.Start Inv-loop μ-loop
@@ -28,9 +28,9 @@ few c = omega (arith, c .pre .0 .tables .limits .few, c .pre .0 .tables .entries
 
 loop-holds : tie.Need-loop-holds Inv-loop μ-loop
 loop-holds c =
-    let s = c .before .before .before .before .before .before .before in
+    let s : tie.Start Inv-loop μ-loop = search in
     let x = s .args in
-    going-start (x .ticks .now) (x .prices .now) (x .instruments .now) (x .starts .now) (x .finishes .now) (x .fee) (x .e) (x .j) _ (x .m) (s .pre .3)
+    going-start (x .ticks .now) (x .move-costs .now) (x .instruments .now) (x .starts .now) (x .finishes .now) (x .fee) (x .e) (x .j) _ (x .m) (s .pre .3)
 
 join-of-requires : tie.Need-join-of-requires Inv-loop μ-loop
 join-of-requires c κs = let s = start (c .before) in (s .pre .0, omega (arith, c .before .loop .inv .upto), s .pre .1, s .pre .2)
@@ -55,13 +55,13 @@ loop-again c =
     let f = found (p .before) in
     let x = start (f .before .before) .args in
     let l = f .before .before .loop in
-    going-on (x .ticks .now) (x .prices .now) (x .instruments .now) (x .starts .now) (x .finishes .now) (x .fee) (x .e) (x .j) _ (x .m) (arrays (l .tails) (l .heads) (l .costs)) _ (l .at) _ (l .i) (f .join-of .result) (l .inv) (omega (arith, f .before .loop-test .taken)) (f .join-of .ensures) (p .put-join .ensures .0) (p .put-join .ensures .1)
+    going-on (x .ticks .now) (x .move-costs .now) (x .instruments .now) (x .starts .now) (x .finishes .now) (x .fee) (x .e) (x .j) _ (x .m) (arrays (l .tails) (l .heads) (l .costs)) _ (l .at) _ (l .i) (f .join-of .result) (l .inv) (omega (arith, f .before .loop-test .taken)) (f .join-of .ensures) (p .put-join .ensures .0) (p .put-join .ensures .1)
 
 returns : tie.Need-returns Inv-loop μ-loop
 returns c =
     let x = start (c .before) .args in
     let l = c .before .loop in
-    going-done (x .ticks .now) (x .prices .now) (x .instruments .now) (x .starts .now) (x .finishes .now) (x .fee) (x .e) (x .j) _ (x .m) (arrays (l .tails) (l .heads) (l .costs)) (l .at) (l .i) (l .inv) (omega (arith, c .loop-test .left))
+    going-done (x .ticks .now) (x .move-costs .now) (x .instruments .now) (x .starts .now) (x .finishes .now) (x .fee) (x .e) (x .j) _ (x .m) (arrays (l .tails) (l .heads) (l .costs)) (l .at) (l .i) (l .inv) (omega (arith, c .loop-test .left))
 
 pub put-joins-spec : {M : Type 1} → statement M
 put-joins-spec =
@@ -69,7 +69,7 @@ put-joins-spec =
     (tie.spec
     Inv-loop
     μ-loop
-    (λ c. omega (arith, few (c .before .before .before .before .before .before .before)))
+    (λ c. let s : tie.Start Inv-loop μ-loop = search in omega (arith, few s))
     loop-holds
     (λ c. search needs) join-of-requires
     put-join-requires

@@ -42,10 +42,16 @@ put-entry-requires : tie.Need-put-entry-requires Inv-loop μ-loop
 put-entry-requires c κs = (c .if2 .taken, omega (arith, c .before .before .read-entry .ensures .begins, c .before .before .before .loop .inv .1 .shorter, c .before .before .before .before .before .pre))
 
 add-count : tie.Need-add-count Inv-loop μ-loop
-add-count c = let v = c .before .before .before .before .before .loop .inv in omega (arith, v .2 .count-is, v .1 .shorter, c .before .before .before .before .before .before .before .pre)
+add-count c =
+    let at-loop : tie.At-loop Inv-loop μ-loop = search in
+    let start : tie.Start Inv-loop μ-loop = search in
+    let v = at-loop .loop .inv in omega (arith, v .2 .count-is, v .1 .shorter, start .pre)
 
 add-line : tie.Need-add-line Inv-loop μ-loop
-add-line c = let v = c .before .before .before .before .before .loop .inv in omega (arith, v .2 .line-is, v .1 .shorter, c .before .before .before .before .before .before .before .pre)
+add-line c =
+    let at-loop : tie.At-loop Inv-loop μ-loop = search in
+    let start : tie.Start Inv-loop μ-loop = search in
+    let v = at-loop .loop .inv in omega (arith, v .2 .line-is, v .1 .shorter, start .pre)
 
 sub-rest : tie.Need-sub-rest Inv-loop μ-loop
 sub-rest c = c .before .before .before .before .read-entry .ensures .right .within
@@ -54,7 +60,11 @@ part-rest-start : tie.Need-part-rest-start Inv-loop μ-loop
 part-rest-start c = c .before .before .before .before .read-entry .ensures .right .within
 
 loop-less : tie.Need-loop-less Inv-loop μ-loop
-loop-less c = lines-fall (c .before .before .before .before .before .before .loop .inv .1) (c .before .before .before .before .before .read-entry .ensures .right) (c .before .before .before .before .if1 .left)
+loop-less c =
+    let else1 : tie.Else1 Inv-loop μ-loop = search in
+    let after-read-entry : tie.After-read-entry Inv-loop μ-loop = search in
+    let at-loop : tie.At-loop Inv-loop μ-loop = search in
+    lines-fall (at-loop .loop .inv .1) (after-read-entry .read-entry .ensures .right) (else1 .if1 .left)
 
 -- the columns after a turn
 stored : (c : tie.Joined2 Inv-loop μ-loop)
@@ -67,14 +77,18 @@ passed-over c h = ⊎-elim (λ w. absurd (omega (arith, h, w .0 .taken))) (λ w.
 
 loop-again : tie.Need-loop-again Inv-loop μ-loop
 loop-again c =
-    let v = c .before .before .before .before .before .before .loop .inv in
-    let r = c .before .before .before .before .before .read-entry .result in
-    let t = c .before .before .before .before .before .before .loop .rest .now in
-    let e = c .before .before .before .before .before .read-entry .ensures in (
+    let else1 : tie.Else1 Inv-loop μ-loop = search in
+    let after-read-entry : tie.After-read-entry Inv-loop μ-loop = search in
+    let at-loop : tie.At-loop Inv-loop μ-loop = search in
+    let start : tie.Start Inv-loop μ-loop = search in
+    let v = at-loop .loop .inv in
+    let r = after-read-entry .read-entry .result in
+    let t = at-loop .loop .rest .now in
+    let e = after-read-entry .read-entry .ensures in (
       v .0 ++ (entryOf t r ∷ []),
-      lines-more (v .1) (e .right) (c .before .before .before .before .if1 .left),
+      lines-more (v .1) (e .right) (else1 .if1 .left),
       rw (c .before .first-bad .ensures, c .before .before .is-fair .ensures)
-          (known-more _ _ _ (v .0) _ _ _ _ _ t r (v .2) (c .before .before .before .before .before .before .before .before .pre .0) (stored (c .before .before .before)) (passed-over (c .before .before .before)) e (c .before .before .before .before .if1 .left) (v .1 .part-is)),
+          (known-more _ _ _ (v .0) _ _ _ _ _ t r (v .2) (start .pre .0) (stored (c .before .before .before)) (passed-over (c .before .before .before)) e (else1 .if1 .left) (v .1 .part-is)),
     )
 
 pub read-entries-spec : {M : Type 1} → statement M

@@ -11,6 +11,19 @@ use Rattle.book_lines.proofs.EntryPass.{entry-absent, entry-present}
 use Rattle.book_lines.proofs.entries.read_entry.Statement.{statement}
 use Rattle.book_lines.proofs.entries.read_entry.Tie as tie
 
+-- places, seen from later ones
+abbrev start-before-else2 : tie.Else2 → tie.Start
+start-before-else2 c = c .before .before .before .before .before .before .before
+
+abbrev start-before-n : tie.After-n → tie.Start
+start-before-n c = start-before-else2 (c .before .before .before .before .before)
+
+abbrev read-text-before-n : tie.After-n → tie.After-read-text
+read-text-before-n c = c .before .before .before .before .before .before .before .before .before
+
+abbrev read-word-before-n : tie.After-n → tie.After-read-word
+read-word-before-n c = c .before .before .before .before .before .before
+
 returns : tie.Need-returns
 unfolding entry bytes _>>_
 returns c = entry-absent _ _ (first-stops _ _ (begin entry _) (c .before .before .read-text .ensures) (c .before .if1 .taken)) (c .no-entry .ensures)
@@ -26,19 +39,19 @@ unfolding entry bytes _>>_
 headed c = skip _ (first _ _ (begin entry _) (c .before .read-text .ensures) (c .if1 .left))
 
 worded : (c : tie.Else2)
-    → let s = c .before .before .before .before .before .before .before .args .rest .now in
+    → let s = start-before-else2 c .args .rest .now in
     let n = c .before .before .before .before .read-text .result in
     From (entry s) (Rest (length s - n) (take (c .before .read-word .result) (part s n))) s (n + c .before .read-word .result)
 worded c = next-right _ _ (headed (c .before .before .before)) (c .before .read-word .ensures) (c .if2 .left)
 
 ended : (c : tie.After-n)
-    → let s = c .before .before .before .before .before .before .before .before .before .before .before .before .args .rest .now in
-    let n = c .before .before .before .before .before .before .before .before .before .read-text .result in
+    → let s = start-before-n c .args .rest .now in
+    let n = read-text-before-n c .read-text .result in
     let ns = drop 1 (c .before .before .read-row .result .numbers) in
     From (entry s)
-    (give (record { name = take (c .before .before .before .before .before .before .read-word .result) (part s n); left = length s - n; instrument = getD ns 0 0; start = getD ns 1 0; finish = getD ns 2 0 }))
+    (give (record { name = take (read-word-before-n c .read-word .result) (part s n); left = length s - n; instrument = getD ns 0 0; start = getD ns 1 0; finish = getD ns 2 0 }))
     s
-    (n + c .before .before .before .before .before .before .read-word .result + c .before .before .read-row .result .used)
+    (n + read-word-before-n c .read-word .result + c .before .before .read-row .result .used)
 unfolding bytes
 ended c = next-right _ _ (worded (c .before .before .before .before .before)) (c .before .before .read-row .ensures .right) (c .before .if3 .left)
 
@@ -65,7 +78,9 @@ unfolding bytes
 returns-3 c = entry-absent _ _ (stops _ _ (worded (c .before .before .before .before .before)) (c .before .before .read-row .ensures .right) (c .before .if3 .taken)) (c .no-entry3 .ensures)
 
 sub-t22 : tie.Need-sub-t22
-sub-t22 c = headed (c .before .before .before .before .before .before .before .before) .within
+sub-t22 c =
+    let else1 : tie.Else1 = search in
+    headed else1 .within
 
 add-t32 : tie.Need-add-t32
 add-t32 c = omega (arith, ended c)

@@ -24,7 +24,10 @@ returns-2 c =
     put-no _ _ _ (rw (is-fair (c .before .before .before), ne-eqb _ 0 z))
 
 add-ticks : tie.Need-add-ticks
-add-ticks c = omega (arith, fair-parts (c .before .before .before .before .before .before .args .m) (is-fair (c .before .before .before .before)))
+add-ticks c =
+    let else1 : tie.Else1 = search in
+    let start : tie.Start = search in
+    omega (arith, fair-parts (start .args .m) (is-fair else1))
 
 returns-3 : tie.Need-returns-3
 returns-3 c =

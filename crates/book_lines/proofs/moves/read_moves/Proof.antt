@@ -4,7 +4,7 @@ use native.Mathlib.Omega.{arith}
 use borrow.Author.Needs.{needs}
 use lib.ListN.{length}
 use Rattle.book_lines.specs.declared.moves.Move.{Move}
-use Rattle.text_read.specs.Reader.{bytes, row, Right}
+use Rattle.text_read.specs.Reader.{bytes, row, ReadsFront}
 use Rattle.book_lines.specs.Lines.{move, moveFrom}
 use Rattle.text_read.proofs.Sequence.{mapped}
 use Rattle.text_read.proofs.Lines.{Lines, lines-none, lines-more, lines-fall, lines-all}
@@ -23,7 +23,7 @@ loop-holds c = ([], lines-none move _, known-none)
 
 -- the line of a turn
 got : (c : tie.After-read-row Inv-loop μ-loop)
-    → Right (c .before .before .loop .rest .now) (move (c .before .before .loop .rest .now)) (c .read-row .result .used) (moveFrom (c .read-row .result .numbers))
+    → ReadsFront (c .before .before .loop .rest .now) (move (c .before .before .loop .rest .now)) (c .read-row .result .used) (moveFrom (c .read-row .result .numbers))
 unfolding move bytes
 got c = mapped (row (bytes "(move ") 4) moveFrom _ (c .read-row .ensures .right)
 
@@ -46,24 +46,37 @@ returns c =
 
 add-line : tie.Need-add-line Inv-loop μ-loop
 add-line c =
-    let v = c .before .before .before .before .before .before .before .before .loop .inv in
-    omega (arith, v .2 .line-is, v .1 .shorter, c .before .before .before .before .before .before .before .before .before .before .pre)
+    let at-loop : tie.At-loop Inv-loop μ-loop = search in
+    let start : tie.Start Inv-loop μ-loop = search in
+    let v = at-loop .loop .inv in
+    omega (arith, v .2 .line-is, v .1 .shorter, start .pre)
 
 sub-rest : tie.Need-sub-rest Inv-loop μ-loop
-sub-rest c = got (c .before .before .before .before .before .before) .within
+sub-rest c =
+    let after-read-row : tie.After-read-row Inv-loop μ-loop = search in
+    got after-read-row .within
 
 part-rest-start : tie.Need-part-rest-start Inv-loop μ-loop
-part-rest-start c = got (c .before .before .before .before .before .before) .within
+part-rest-start c =
+    let after-read-row : tie.After-read-row Inv-loop μ-loop = search in
+    got after-read-row .within
 
 loop-less : tie.Need-loop-less Inv-loop μ-loop
-loop-less c = lines-fall (c .before .before .before .before .before .before .before .before .before .loop .inv .1) (got (c .before .before .before .before .before .before .before)) (c .before .before .before .before .before .before .if1 .left)
+loop-less c =
+    let else1 : tie.Else1 Inv-loop μ-loop = search in
+    let after-read-row : tie.After-read-row Inv-loop μ-loop = search in
+    let at-loop : tie.At-loop Inv-loop μ-loop = search in
+    lines-fall (at-loop .loop .inv .1) (got after-read-row) (else1 .if1 .left)
 
 loop-again : tie.Need-loop-again Inv-loop μ-loop
 loop-again c =
-    let v = c .before .before .before .before .before .before .before .before .before .loop .inv in
-    let m = moveFrom (c .before .before .before .before .before .before .before .read-row .result .numbers) in (
+    let else1 : tie.Else1 Inv-loop μ-loop = search in
+    let after-read-row : tie.After-read-row Inv-loop μ-loop = search in
+    let at-loop : tie.At-loop Inv-loop μ-loop = search in
+    let v = at-loop .loop .inv in
+    let m = moveFrom (after-read-row .read-row .result .numbers) in (
       v .0 ++ (m ∷ []),
-      lines-more (v .1) (got (c .before .before .before .before .before .before .before)) (c .before .before .before .before .before .before .if1 .left),
+      lines-more (v .1) (got after-read-row) (else1 .if1 .left),
       rw (c .before .first-bad .ensures) (known-more (v .0) m _ _ _ _ _ _ _ (v .2) (c .before .before .put-move .ensures)),
     )
 
