@@ -16,11 +16,11 @@ use Rattle.book_form.specs.Book.{opening, Book, book, whole, parse}
 use Rattle.book_lines.specs.Passes.{Placed}
 use Rattle.book_check.specs.Closing.{Closing}
 use Rattle.laws.specs.Suffix.{take-rest}
-use Rattle.text_read.proofs.Sequence.{From, part, part-part, mapped, ends}
+use Rattle.text_read.proofs.Sequence.{From, part, part-part, mapped, all-read}
 
 -- the numbers of the first lines stand in the last places of their rows
 pub opening-present : (s ps cs : List ℕ) (used : ℕ) → From (opening s) (give (getD (drop 3 ps) 0 0, getD (drop 3 cs) 0 0)) s used → 0 < used → ReadsFront s (opening s) used (getD ps 3 0, getD cs 3 0)
-opening-present s ps cs used f h = rw (← getD-drop 3 ps 0 0, ← getD-drop 3 cs 0 0) (ends f h)
+opening-present s ps cs used f h = rw (← getD-drop 3 ps 0 0, ← getD-drop 3 cs 0 0) (all-read f h)
 
 -- the last line
 module _ (s : List ℕ) (n : ℕ) (r : ReadsFront s (text (bytes ")\n") s) n tt) where

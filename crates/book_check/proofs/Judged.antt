@@ -62,7 +62,7 @@ pub form-right : (s : List ℕ) (r : Checked) → r ≡ record { answer = Malfor
 form-right s r e h p = refused-right s r Malformed 11 e (rw (le-leb (length s) 16384 h, p)) refl (untold 12 (λ e. omega arith) (λ e. omega arith) (λ e. omega arith) s)
 
 -- What the passes found of a book that keeps the form.
-pub record Found (s : List ℕ) (o : Opening) (m : Moves) (e : Entries) : Type 0 where
+pub record PassesFound (s : List ℕ) (o : Opening) (m : Moves) (e : Entries) : Type 0 where
   pub move-list : List Move
   pub entry-list : List Entry
   pub parsed : parse s ≡ some (record { players = o .players; fee = o .fee; moves = move-list; entries = entry-list })
@@ -85,7 +85,7 @@ held-filled o m e total ms es p q r c =
     let c5 = ap (λ (x : Columns). x .lengths) c in
     cc
 
-module _ (s : List ℕ) (o : Opening) (m : Moves) (e : Entries) (f : Found s o m e) where
+module _ (s : List ℕ) (o : Opening) (m : Moves) (e : Entries) (f : PassesFound s o m e) where
   abbrev B : Book
   B = record { players = o .players; fee = o .fee; moves = f .move-list; entries = f .entry-list }
 

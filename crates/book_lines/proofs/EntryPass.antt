@@ -18,7 +18,7 @@ use Rattle.book_lines.specs.Passes.{firstBad, LinesVerdict, entryOf, noE
 use Rattle.laws.specs.Suffix.{take-rest}
 use Rattle.laws.specs.Snoc.{each-more, map-more}
 use Rattle.text_read.proofs.Runs.{absent}
-use Rattle.text_read.proofs.Sequence.{From, ends, part}
+use Rattle.text_read.proofs.Sequence.{From, all-read, part}
 use Rattle.book_lines.proofs.Verdicts.{verdict-none, verdict-more}
 
 -- The line of an entry.
@@ -29,7 +29,7 @@ pub entry-present : (s numbers : List ℕ) (n len used : ℕ) → n + len ≤ le
     → From (entry s) (give (record { name = take len (part s n); left = length s - n; instrument = getD (drop 1 numbers) 0 0; start = getD (drop 1 numbers) 1 0; finish = getD (drop 1 numbers) 2 0 })) s used
     → 0 < used
     → EntryRead s (record { left = length s - n; length = len; instrument = getD numbers 1 0; start = getD numbers 2 0; finish = getD numbers 3 0; used = used })
-entry-present s numbers n len used h l f u = record { right = rw (value, ← take-rest s n, ← getD-drop 1 numbers 0 0, ← getD-drop 1 numbers 1 0, ← getD-drop 1 numbers 2 0) (ends f u); none = λ z. absurd (omega arith); begins = omega arith; ends = omega arith; some = λ _. omega arith }
+entry-present s numbers n len used h l f u = record { right = rw (value, ← take-rest s n, ← getD-drop 1 numbers 0 0, ← getD-drop 1 numbers 1 0, ← getD-drop 1 numbers 2 0) (all-read f u); none = λ z. absurd (omega arith); begins = omega arith; ends = omega arith; some = λ _. omega arith }
   where
     value : length s - (length s - n) ≡ n
     value = omega arith
@@ -65,23 +65,23 @@ column-more f es e v h q =
     left = omega (arith, length-map es f, length-map (es ++ (e ∷ [])) f, length-append es (e ∷ []))
 
 -- What the loop of `read_entries` knows after the lines `done`.
-pub record Known (s : List ℕ) (first total : ℕ) (done : List Entry) (count line bad : ℕ) (columns : Columns) : Type 0 where
+pub record KnownEntries (s : List ℕ) (first total : ℕ) (done : List Entry) (count line bad : ℕ) (columns : Columns) : Type 0 where
   pub count-is : count ≡ length done
   pub line-is : line ≡ first + length done
   pub verdict : LinesVerdict first (entries done) bad
   pub columns-are : columns ≡ columnsOf total (take 28 done)
   pub placed : (n : ℕ) → n < length done → Placed s (getD done n nobody)
 
-pub known-none : (s : List ℕ) (first total : ℕ) → Known s first total [] 0 first 0 (columnsOf total [])
-known-none s first total =
+pub known-entries-none : (s : List ℕ) (first total : ℕ) → KnownEntries s first total [] 0 first 0 (columnsOf total [])
+known-entries-none s first total =
     record { count-is = refl; line-is = omega arith; verdict = verdict-none first; columns-are = refl; placed = λ n h. absurd (omega arith) }
 
-pub known-more : (s : List ℕ) (first total : ℕ) (done : List Entry) (count line bad : ℕ) (columns columns′ : Columns) (t : List ℕ) (r : EntryLine)
-    → Known s first total done count line bad columns → 1 ≤ first
+pub known-entries-more : (s : List ℕ) (first total : ℕ) (done : List Entry) (count line bad : ℕ) (columns columns′ : Columns) (t : List ℕ) (r : EntryLine)
+    → KnownEntries s first total done count line bad columns → 1 ≤ first
     → (count < 28 → columns′ ≡ putIn columns count total r) → (28 ≤ count → columns′ ≡ columns)
     → EntryRead t r → (r .used ≡ 0 → ⊥) → t ≡ drop (length s - length t) s
-    → Known s first total (done ++ (entryOf t r ∷ [])) (count + 1) (line + 1) (firstBad bad (fairLine r) line) columns′
-known-more s first total done count line bad columns columns′ t r k f put keep e z p =
+    → KnownEntries s first total (done ++ (entryOf t r ∷ [])) (count + 1) (line + 1) (firstBad bad (fairLine r) line) columns′
+known-entries-more s first total done count line bad columns columns′ t r k f put keep e z p =
     record {
       count-is = omega (arith, k .count-is, longer);
       line-is = omega (arith, k .line-is, longer);

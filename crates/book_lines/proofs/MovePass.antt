@@ -30,15 +30,15 @@ pub kept-all : (ms : List Move) → allPass (moves [] ms) ≡ true → kept [] m
 kept-all ms a = all-kept [] ms a
 
 -- What the loop of `read_moves` knows after the lines `done`.
-pub record Known (done : List Move) (line bad : ℕ) (ticks costs : List ℕ) : Type 0 where
+pub record KnownMoves (done : List Move) (line bad : ℕ) (ticks costs : List ℕ) : Type 0 where
   pub line-is : line ≡ 4 + length done
   pub verdict : LinesVerdict 4 (moves [] done) bad
   pub ticks-are : ticks ≡ table (λ m. m .ticks + 1) (kept [] done)
   pub costs-are : costs ≡ table (λ m. m .cost) (kept [] done)
 
-pub known-none : Known [] 4 0 (replicate 256 0) (replicate 256 0)
+pub known-moves-none : KnownMoves [] 4 0 (replicate 256 0) (replicate 256 0)
 unfolding moves kept
-known-none = record { line-is = refl; verdict = verdict-none 4; ticks-are = table-none (λ m. m .ticks + 1); costs-are = table-none (λ m. m .cost) }
+known-moves-none = record { line-is = refl; verdict = verdict-none 4; ticks-are = table-none (λ m. m .ticks + 1); costs-are = table-none (λ m. m .cost) }
 
 -- a move is put into a table if it may stand
 put-table : (f : Move → ℕ) (ms : List Move) (m : Move) (t t′ : List ℕ) (x : Bool) → stands ms m ≡ x → t ≡ table f ms → t′ ≡ cond x (set t (place m) (f m)) t
@@ -48,9 +48,9 @@ put-table f ms m t t′ true s q p =
     p ∙ rw q (table-more m (fair-parts m (b .0)) f ms (b .1))
 put-table f ms m t t′ false s q p = p ∙ q
 
-pub known-more : (done : List Move) (m : Move) (line bad : ℕ) (ticks costs ticks′ costs′ : List ℕ) (r : Bool)
-    → Known done line bad ticks costs → Put m ticks costs ticks′ costs′ r → Known (done ++ (m ∷ [])) (line + 1) (firstBad bad r line) ticks′ costs′
-known-more done m line bad ticks costs ticks′ costs′ r k p =
+pub known-moves-more : (done : List Move) (m : Move) (line bad : ℕ) (ticks costs ticks′ costs′ : List ℕ) (r : Bool)
+    → KnownMoves done line bad ticks costs → Put m ticks costs ticks′ costs′ r → KnownMoves (done ++ (m ∷ [])) (line + 1) (firstBad bad r line) ticks′ costs′
+known-moves-more done m line bad ticks costs ticks′ costs′ r k p =
     record {
       line-is = omega (arith, k .line-is, length-append done (m ∷ []));
       verdict = rw (moves-more [] done m) (verdict-more (k .verdict) r (stands done m) line asked (omega (arith, k .line-is, moves-length [] done)) (omega (arith, k .line-is)));

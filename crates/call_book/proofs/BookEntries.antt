@@ -38,7 +38,7 @@ use Rattle.way_theory.specs.BookBytes.{waysIn, ways, entryCount, wayCostOrZero,
 use Rattle.book_form.specs.Told.{Told}
 use Rattle.call_book.specs.BookRules.{bookRules}
 use Rattle.call_way_bytes.specs.WaySteps.{AdmitsBook}
-use Rattle.call_reply.proofs.Turns.{wordOf, first-passed, all-passed, count-line}
+use Rattle.call_reply.proofs.Turns.{noItemWord, first-passed, all-passed, count-line}
 use Rattle.call_reply.proofs.Items.{after-given}
 use Rattle.book_form.proofs.Told.{untold}
 use Rattle.call_book.proofs.BookRun.{full}
@@ -53,7 +53,7 @@ pub record Past (s : List ℕ) (bytes : ℕ) (c : CheckedBook) : Type 0 where
 
 module _ (s : List ℕ) where
   -- what was handed out shows the way, or the word
-  handed : (c : BookCall) (o : Option (List ℕ)) (r : Reply) (l′ : List ℕ) → HandsItem (wayCostIn s) o (codeOf (wordOf c)) (bookLent c) r l′ → Shows (bookRules s) c (shown o (wordOf c)) (sees r l′)
+  handed : (c : BookCall) (o : Option (List ℕ)) (r : Reply) (l′ : List ℕ) → HandsItem (wayCostIn s) o (codeOf (noItemWord c)) (bookLent c) r l′ → Shows (bookRules s) c (shown o (noItemWord c)) (sees r l′)
   handed (first l) none r l′ h = rw (h .reply-is, h .list-is) (record { number-is = refl; told-is = refl; cost-is = refl; lists-are = refl })
   handed (next g l) none r l′ h = rw (h .reply-is, h .list-is) (record { number-is = refl; told-is = refl; cost-is = refl; lists-are = refl })
   handed (first l) (some w) r l′ h = rw (h .reply-is) (record { number-is = refl; told-is = refl; cost-is = refl; lists-are = h .list-is })

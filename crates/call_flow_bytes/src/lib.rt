@@ -73,30 +73,30 @@ pub fn resume_flow(net: Network, given: &[u8]) -> Enumerator
 }
 
 // Writes the flow that the enumerator stands on; without one the reply is `code`.
-pub fn hand_flow(walk: Enumerator, flows: &mut [u8], code: u32) -> Reply
-    requires { ⌜ Stands walk × (room (walk .net .arcs) (length (now flows)) ≡ true) ⌝ }
-    ensures { λ r. ⌜ HandsFlow walk code (now (flows .entry)) r (now (flows .exit)) ⌝ }
+pub fn hand_flow(enumerator: Enumerator, flows: &mut [u8], code: u32) -> Reply
+    requires { ⌜ Stands enumerator × (room (enumerator .net .arcs) (length (now flows)) ≡ true) ⌝ }
+    ensures { λ r. ⌜ HandsFlow enumerator code (now (flows .entry)) r (now (flows .exit)) ⌝ }
 {
-    let place = walk.place;
+    let place = enumerator.place;
     if !call_reply::on_item(place) {
         return call_reply::code_alone(code);
     }
-    let net = walk.net;
-    let flow = walk.flow;
-    let cost = walk.cost;
+    let net = enumerator.net;
+    let flow = enumerator.flow;
+    let cost = enumerator.cost;
     call_reply::hand_item(&flow, net.arcs, cost, flows)
 }
 
 // Writes the prices of the flow that the enumerator stands on.
-pub fn hand_prices(walk: Enumerator, prices: &mut [u8])
-    requires { ⌜ Stands walk × (room (walk .net .nodes) (length (now prices)) ≡ true) ⌝ }
-    ensures { λ _. ⌜ HandsPrices walk (now (prices .entry)) (now (prices .exit)) ⌝ }
+pub fn hand_prices(enumerator: Enumerator, prices: &mut [u8])
+    requires { ⌜ Stands enumerator × (room (enumerator .net .nodes) (length (now prices)) ≡ true) ⌝ }
+    ensures { λ _. ⌜ HandsPrices enumerator (now (prices .entry)) (now (prices .exit)) ⌝ }
 {
-    let place = walk.place;
+    let place = enumerator.place;
     if !call_reply::on_item(place) {
         return;
     }
-    let net = walk.net;
-    let ps = walk.prices();
+    let net = enumerator.net;
+    let ps = enumerator.prices();
     bytes_write::write_ints(prices, &ps, net.nodes);
 }

@@ -27,7 +27,7 @@ use Rattle.call_network.specs.NetworkCalls.{NetCall, lends, networkLent,
 use Rattle.call_network.specs.NetworkRules.{networkRules}
 use Rattle.call_flow_bytes.specs.NetworkBytes.{net}
 use Rattle.call_flow_bytes.specs.FlowSteps.{StandsFor, AdmitsNetwork, PricesOut}
-use Rattle.call_reply.proofs.Turns.{wordOf, all-passed}
+use Rattle.call_reply.proofs.Turns.{noItemWord, all-passed}
 use Rattle.call_reply.proofs.Items.{after-given}
 use Rattle.call_flow_bytes.proofs.FlowItems.{full-flows}
 use Rattle.call_flow_bytes.proofs.Admitting.{room-is}
@@ -38,8 +38,8 @@ unpriced N (some f) = refl
 
 module _ (bs xs : List ℕ) where
   -- what was handed out shows the item, or the word
-  handed : (c : NetCall) (o : Option (List ℕ)) (r : Reply) (fs′ : List ℕ) (ps′ : Option (List ℕ)) → HandsItem (costOf (net bs xs)) o (codeOf (wordOf c)) (networkLent c .flows) r fs′
-      → PricesOut (net bs xs) o (networkLent c .prices) ps′ → Shows (networkRules bs xs) c (shown o (wordOf c)) (sees r (lends fs′ ps′))
+  handed : (c : NetCall) (o : Option (List ℕ)) (r : Reply) (fs′ : List ℕ) (ps′ : Option (List ℕ)) → HandsItem (costOf (net bs xs)) o (codeOf (noItemWord c)) (networkLent c .flows) r fs′
+      → PricesOut (net bs xs) o (networkLent c .prices) ps′ → Shows (networkRules bs xs) c (shown o (noItemWord c)) (sees r (lends fs′ ps′))
   handed (first l) none r fs′ ps′ h k = rw (h .reply-is, h .list-is, k) (record { number-is = refl; told-is = refl; cost-is = refl; lists-are = refl })
   handed (next g fs) none r fs′ ps′ h k = rw (h .reply-is, h .list-is, k) (record { number-is = refl; told-is = refl; cost-is = refl; lists-are = refl })
   handed (first l) (some f) r fs′ ps′ h k = rw (h .reply-is) (record { number-is = refl; told-is = refl; cost-is = refl; lists-are = record { flows-are = h .list-is; prices-are = k } })

@@ -12,8 +12,8 @@ pub fn first(balances: &[u8], arcs: &[u8], flows: &mut [u8]) -> Reply
         return call_reply::code_alone(number);
     }
     let net = admitted.net;
-    let walk = flow_enumerate::start(net).first();
-    call_flow_bytes::hand_flow(walk, flows, 100)
+    let enumerator = flow_enumerate::start(net).first();
+    call_flow_bytes::hand_flow(enumerator, flows, 100)
 }
 
 // The same, with its prices.
@@ -30,9 +30,9 @@ pub fn first_priced(balances: &[u8], arcs: &[u8], flows: &mut [u8], prices: &mut
     if !call_reply::has_room(net.nodes, prices.len()) {
         return call_reply::code_alone(7);
     }
-    let walk = flow_enumerate::start(net).first();
-    call_flow_bytes::hand_prices(walk, prices);
-    call_flow_bytes::hand_flow(walk, flows, 100)
+    let enumerator = flow_enumerate::start(net).first();
+    call_flow_bytes::hand_prices(enumerator, prices);
+    call_flow_bytes::hand_flow(enumerator, flows, 100)
 }
 
 // The least-cost flow after the one given, or "end". Questions 1 to 8.
@@ -45,12 +45,12 @@ pub fn next(balances: &[u8], arcs: &[u8], given: &[u8], flows: &mut [u8]) -> Rep
         return call_reply::code_alone(number);
     }
     let net = admitted.net;
-    let walk = call_flow_bytes::resume_flow(net, given);
-    let place = walk.place;
+    let enumerator = call_flow_bytes::resume_flow(net, given);
+    let place = enumerator.place;
     if !call_reply::on_item(place) {
         return call_reply::code_alone(8);
     }
-    call_flow_bytes::hand_flow(walk.next(), flows, 101)
+    call_flow_bytes::hand_flow(enumerator.next(), flows, 101)
 }
 
 // How many least-cost flows there are, up to the cap. Questions 1 to 6.

@@ -39,9 +39,9 @@ read-all k h g e =
     ap (λ x. take k (padded 512 0 x)) t ∙ ap (λ n. take n (padded 512 0 (words g))) (sym l) ∙ take-padded 512 0 (words g)
 
 -- what the question about the given list finds: the state, at place p, is on the item of the bytes, or on none
-pub found : (k : ℕ) (L : List (List ℕ)) → FullOf k L → (g : List ℕ) → Every (λ b. b < 256) g → length g ≡ 4 * k → (p : Place) (o : Option (List ℕ))
+pub given-found : (k : ℕ) (L : List (List ℕ)) → FullOf k L → (g : List ℕ) → Every (λ b. b < 256) g → length g ≡ 4 * k → (p : Place) (o : Option (List ℕ))
     → (p ≡ Item → (o ≡ some (words g)) × (words g ∈ L)) → (p ≢ Item → (o ≡ none) × ¬ (words g ∈ L)) → o ≡ cond (listed g L) (some (words g)) none
-found k L full g bytes e p o there away = go (onItem p) refl (listed g L) refl
+given-found k L full g bytes e p o there away = go (onItem p) refl (listed g L) refl
   where
     go : (t : Bool) → onItem p ≡ t → (b : Bool) → listed g L ≡ b → o ≡ cond b (some (words g)) none
     go true h true q = there (is-item p h) .0

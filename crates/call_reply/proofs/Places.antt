@@ -11,11 +11,11 @@ use Rattle.flow_enumerate.specs.declared.Place.the-variants.{Start, Item, None,
 use Rattle.flow_enumerate.specs.Enumerator.{itemAt}
 use Rattle.call_reply.specs.Replies.{onItem}
 
-pub no-item : (p : Place) (f : List ℕ) → onItem p ≡ false → itemAt p f ≡ none
-no-item Start f e = refl
-no-item Item f e = absurd (let z : _≡_ {A = ℕ} 0 1 = cc in omega arith)
-no-item None f e = refl
-no-item End f e = refl
+pub no-item-by-test : (p : Place) (f : List ℕ) → onItem p ≡ false → itemAt p f ≡ none
+no-item-by-test Start f e = refl
+no-item-by-test Item f e = absurd (let z : _≡_ {A = ℕ} 0 1 = cc in omega arith)
+no-item-by-test None f e = refl
+no-item-by-test End f e = refl
 
 pub is-item : (p : Place) → onItem p ≡ true → p ≡ Item
 is-item Item e = refl
@@ -26,9 +26,9 @@ is-item End e = absurd (let z : _≡_ {A = ℕ} 0 1 = cc in omega arith)
 pub an-item : (p : Place) (f : List ℕ) → onItem p ≡ true → itemAt p f ≡ some f
 an-item p f e = ap (λ q. itemAt q f) (is-item p e)
 
-pub off-item : (p : Place) (f : List ℕ) → p ≢ Item → itemAt p f ≡ none
-off-item p f n = go (onItem p) refl
+pub no-item-by-place : (p : Place) (f : List ℕ) → p ≢ Item → itemAt p f ≡ none
+no-item-by-place p f n = go (onItem p) refl
   where
     go : (t : Bool) → onItem p ≡ t → itemAt p f ≡ none
     go true h = absurd (n (is-item p h))
-    go false h = no-item p f h
+    go false h = no-item-by-test p f h

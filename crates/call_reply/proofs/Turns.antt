@@ -41,9 +41,9 @@ count-line zero more = refl
 count-line (suc n) k = refl
 
 -- the word where there is no item
-abbrev pub wordOf : {F G N : Type 0} → Call F G N → Reading (List ℕ)
-wordOf (first l) = nothing
-wordOf (next g l) = end
+abbrev pub noItemWord : {F G N : Type 0} → Call F G N → Reading (List ℕ)
+noItemWord (first l) = nothing
+noItemWord (next g l) = end
 
 -- bytes that are no item are refused
 pub strange-refused : (asked : ℕ) (fits : Bool) (q r : ℕ) (L : List (List ℕ)) (g : List ℕ) → ((i : ℕ) (v : List ℕ) → getElem? L i ≡ some v → ¬ (encodeWords v ≡ g))

@@ -22,7 +22,7 @@ use Rattle.way_enumerate.proofs.Enumerating.{cost-held}
 use Rattle.call_reply.specs.declared.Reply.{Reply}
 use Rattle.call_reply.specs.Replies.{codeAlone, HandsItem, onItem}
 use Rattle.call_way_bytes.specs.WaySteps.{HandsWay}
-use Rattle.call_reply.proofs.Places.{no-item}
+use Rattle.call_reply.proofs.Places.{no-item-by-test}
 
 way-long : (b : Book) (n j : ℕ) (f : List ℕ) → length (wayFrom b n j f) ≡ n
 way-long b zero j f = refl
@@ -31,7 +31,7 @@ way-long b (suc n) j f = ap suc (way-long b n (suc j) (drop (length (sources b j
 module _ (s : WayEnumerator) (k : ℕ) (out : List ℕ) (r : Reply) where
   pub hands-none : onItem (s .flows .place) ≡ false → r ≡ codeAlone k → HandsWay s k out r out
   hands-none e q = record {
-    each = λ b h. (let none-there = sym (ap (mapOption (wayOf b)) (no-item (s .flows .place) (stateFlow (s .flows)) e)) in
+    each = λ b h. (let none-there = sym (ap (mapOption (wayOf b)) (no-item-by-test (s .flows .place) (stateFlow (s .flows)) e)) in
         subst (λ o. HandsItem (λ w. pos (wayCost b w)) o k out r out) none-there (record { reply-is = q; list-is = refl }));
   }
 

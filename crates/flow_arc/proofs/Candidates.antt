@@ -28,8 +28,8 @@ module _ (N : Net) (π : ℕ → ℤ) (free : List Bool) (f : List ℕ) (ti : Fr
     at-least (inr (inl e)) = omega (arith, lg .flow .above a lt)
     at-least (inr (inr e)) = blocked-less N f free a π ti lt from g lg before (blocked-whole N f free (tail N a) (head N a) from e)
 
-  pub no-more : (a : ℕ) → a < arcs N → NotRaisable (bare N) f free (suc a) a → NoMore N f a
-  no-more a lt n g lg ag = at-most (suc a) a lt g lg (λ i p ne. ag i (omega arith)) n
+  pub not-raisable-most : (a : ℕ) → a < arcs N → NotRaisable (bare N) f free (suc a) a → NoMore N f a
+  not-raisable-most a lt n g lg ag = at-most (suc a) a lt g lg (λ i p ne. ag i (omega arith)) n
 
-  pub no-less : (a : ℕ) → a < arcs N → NotLowerable (bare N) f free (suc a) a → NoLess N f a
-  no-less a lt n g lg ag = at-least (suc a) a lt g lg (λ i p ne. ag i (omega arith)) n
+  pub not-lowerable-least : (a : ℕ) → a < arcs N → NotLowerable (bare N) f free (suc a) a → NoLess N f a
+  not-lowerable-least a lt n g lg ag = at-least (suc a) a lt g lg (λ i p ne. ag i (omega arith)) n

@@ -26,7 +26,7 @@ use Rattle.net_theory.proofs.Bounds.{flow-bounds}
 use Rattle.net_theory.proofs.Detours.{raised, lowered}
 use Rattle.net_theory.proofs.ResidualCapacity.{all-hasCapacity}
 use Rattle.flow_arc.specs.FreeMarks.{FreeMarks}
-use Rattle.flow_arc.proofs.WalksAbove.{path-capacity}
+use Rattle.flow_arc.proofs.WalksAbove.{walk-capacity-above}
 
 -- the marks of one least-cost flow are those of every other
 pub free-any : (N : Net) (π : ℕ → ℤ) (free : List Bool) (f g : List ℕ) → FreeMarks N π free f → LeastCost N g → FreeMarks N π free g
@@ -41,7 +41,7 @@ free-any N π free f g ti lg = record {
 module _ (N : Net) (f : List ℕ) (free : List Bool) (k : ℕ) (π : ℕ → ℤ) (ti : FreeMarks N π free f) (l : k < arcs N) where
   free-walk : (s t : ℕ) (cs : List ℕ) → FreeWalk N f free s t (suc k) cs → (δ : ℕ) → Every (λ c. δ ≤ residualCapacity N f c) cs → TightWalk N π δ f k s t cs
   free-walk s t cs p δ h =
-      let q = path-capacity N f free s t k cs p in
+      let q = walk-capacity-above N f free s t k cs p in
       record {
         walk = walk-with (codes N) (src N) (dst N) (goes N f free) (hasCapacity N f δ) s t cs (all-hasCapacity N f δ cs (flow-bounds N f (ti .least .flow)) (q .codes-in) h) (p .walk);
         distinct = p .distinct;

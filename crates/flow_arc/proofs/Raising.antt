@@ -1,4 +1,4 @@
--- What `raise` does: arc k raised by 1, along a path that is there.
+-- What `raise` does: arc k raised by 1, along a walk that is there.
 use mathlib.Core.Path.{_≡_, ap, sym, subst, _∙_}
 use mathlib.Core.List.{List, [], _∷_}
 use mathlib.Core.Bool.{Bool, true, false, true≢false}
@@ -13,7 +13,7 @@ use Rattle.net_theory.specs.FreeArcs.{goes, FreeWalk, Reaches, Blocked}
 use Rattle.net_theory.specs.Push.{pushAll}
 use Rattle.flow_arc.specs.FreeMarks.{FreeMarks}
 use Rattle.flow_arc.specs.Changes.{RaisedByOne}
-use Rattle.flow_arc.proofs.WalksAbove.{path-capacity}
+use Rattle.flow_arc.proofs.WalksAbove.{walk-capacity-above}
 use Rattle.flow_arc.proofs.Certified.{raised-by}
 
 -- what reaches t is not blocked from it
@@ -28,5 +28,5 @@ module _ (N : Net) (π : ℕ → ℤ) (free : List Bool) (f : List ℕ) (k : ℕ
   pub raised-one : (f′ : List ℕ) (cs : List ℕ) → getD free k false ≡ true → getD f k 0 < up N k → FreeWalk N f free (head N k) (tail N k) (suc k) cs
       → f′ ≡ pushAll 1 cs (set f k (getD f k 0 + 1)) → RaisedByOne N f f′ k
   raised-one f′ cs m h p e =
-      let r = raised-by N f free k π ti l 1 cs p m (omega arith) (path-capacity N f free (head N k) (tail N k) k cs p .capacity) in
-      record { least = rw e (r .least-cost); same = rw e (r .same-before); one-more = ap (λ g. getD g k 0) e ∙ r .at-k ∙ omega arith }
+      let r = raised-by N f free k π ti l 1 cs p m (omega arith) (walk-capacity-above N f free (head N k) (tail N k) k cs p .capacity) in
+      record { least-cost = rw e (r .least-cost); same-before = rw e (r .same-before); at-k = ap (λ g. getD g k 0) e ∙ r .at-k ∙ omega arith }

@@ -1,4 +1,4 @@
--- Arc k lowered or raised, with what it loses or gains sent along a path over arcs above k: bounds.
+-- Arc k lowered or raised, with what it loses or gains sent along a walk over arcs above k: bounds.
 use mathlib.Core.Path.{_≡_, ap, subst, _∙_}
 use mathlib.Core.Logic.{_≢_}
 use mathlib.Core.List.{List, []}
@@ -26,8 +26,8 @@ use Rattle.flow_push.proofs.LeastCapacity.{capacity-cap, capacity-each, capacit
 use Rattle.flow_push.proofs.Pushing.{pushable-bounds}
 use Rattle.flow_arc.specs.WalksAbove.{CapacityAbove, takes, TakenOff, PutOn}
 
-pub path-capacity : (N : Net) (f : List ℕ) (free : List Bool) (s t k : ℕ) (cs : List ℕ) → FreeWalk N f free s t (suc k) cs → CapacityAbove N f k cs
-path-capacity N f free s t k cs p = record {
+pub walk-capacity-above : (N : Net) (f : List ℕ) (free : List Bool) (s t k : ℕ) (cs : List ℕ) → FreeWalk N f free s t (suc k) cs → CapacityAbove N f k cs
+walk-capacity-above N f free s t k cs p = record {
   codes-in = walk-below (codes N) (src N) (dst N) (goes N f free) s t cs (p .walk);
   distinct = p .distinct;
   above = every-map (λ c. suc k + suc k ≤ c) (λ c. k < c / 2) cs (λ c h. omega arith) (p .low);
@@ -65,7 +65,7 @@ module _ (N : Net) (f : List ℕ) (k : ℕ) (cs : List ℕ) (p : CapacityAbove N
   pub takes-le : takes N f k cs ≤ getD f k 0
   takes-le = omega (arith, capacity-cap N f (getD f k 0 - low N k) cs)
 
-  -- the path leaves arc k as it is
+  -- the walk leaves arc k as it is
   pushed-k : (δ : ℕ) (g : List ℕ) → getD (pushAll δ cs g) k 0 ≡ getD g k 0
   pushed-k δ g = all-other N δ cs g k (every-map (λ c. k < c / 2) (λ c. k ≢ c / 2) cs (λ c h q. omega arith) (p .above))
 

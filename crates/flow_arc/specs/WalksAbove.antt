@@ -1,4 +1,4 @@
--- Arc k lowered or raised, with what it loses or gains sent along a path over arcs above k.
+-- Arc k lowered or raised, with what it loses or gains sent along a walk over arcs above k.
 use mathlib.Core.Path.{_≡_}
 use mathlib.Core.List.{List}
 use Prim.Native.Nat.{ℕ, _+_, _-_, _/_, _<_}

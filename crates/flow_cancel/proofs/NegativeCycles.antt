@@ -23,7 +23,7 @@ use Rattle.net_theory.proofs.ResidualCapacity.{walk-hasCapacity}
 use Rattle.flow_push.specs.Pushing.{bottleneck}
 use Rattle.flow_relax.specs.Labels.{Relaxable}
 use Rattle.flow_relax.proofs.Accepted.{accepted-relaxable}
-use Rattle.flow_relax.proofs.Balances.{walk-whole, walk-bare, cost-whole}
+use Rattle.flow_relax.proofs.Balances.{cost-whole}
 use Rattle.flow_negative_cycle.specs.Search.{NegativeCycle, FindsCycle}
 use Rattle.flow_negative_cycle.proofs.Ending.{search-ends}
 use Rattle.flow_cancel.proofs.Cancelling.{labels-of, cycle-of, cancelled}
@@ -38,10 +38,10 @@ module _ (N : Net) (f : List ℕ) where
       given2 less (L .least (pushAll d cs f) (rerouted-flow N f (pushAll d cs f) F R)) (simp lin (omega arith))
 
   cycle-whole : (cs : List ℕ) → Cycle (costed N) f cs → Cycle N f cs
-  cycle-whole cs C = record { node = C .node; closed = walk-whole N f (C .node) (C .node) cs (C .closed); some = C .some; simple = C .simple }
+  cycle-whole cs C = record { node = C .node; closed = C .closed; some = C .some; simple = C .simple }
 
   cycle-bare : (cs : List ℕ) → Cycle N f cs → Cycle (costed N) f cs
-  cycle-bare cs C = record { node = C .node; closed = walk-bare N f (C .node) (C .node) cs (C .closed); some = C .some; simple = C .simple }
+  cycle-bare cs C = record { node = C .node; closed = C .closed; some = C .some; simple = C .simple }
 
 pub least-iff : (N : Net) (f : List ℕ) → AcceptedNet N → IsFlow N f → LeastCost N f ↔ ((cs : List ℕ) → Cycle N f cs → pos 0 ≤ℤ walkCost N cs)
 least-iff N f ok F =
@@ -54,7 +54,7 @@ least-iff N f ok F =
     cheap L cs C (inl k) = k
     cheap L cs C (inr k) = absurd (no-cycle N f rel F cs (record {
       cycle = cycle-bare N f cs C;
-      capacity = walk-holds (codes (costed N)) (src (costed N)) (dst (costed N)) (hasCapacity (costed N) f 1) (C .node) (C .node) cs (walk-hasCapacity (costed N) f (C .node) (C .node) cs (walk-bare N f (C .node) (C .node) cs (C .closed)));
+      capacity = walk-holds (codes (costed N)) (src (costed N)) (dst (costed N)) (hasCapacity (costed N) f 1) (C .node) (C .node) cs (walk-hasCapacity (costed N) f (C .node) (C .node) cs (C .closed));
       negative = subst (λ z. z <ℤ pos 0) (sym (cost-whole N cs)) k;
     }) L)
 

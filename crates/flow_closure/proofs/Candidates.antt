@@ -1,4 +1,4 @@
--- An arc is a candidate if its step closes a cycle, and is none otherwise; and the walks over the arcs from the last down.
+-- An arc is a candidate if its step closes a cycle, and is none otherwise; and the passes over the arcs from the last down.
 use mathlib.Core.Path.{_≡_, subst}
 use mathlib.Core.Logic.{_⊎_, inl, inr}
 use mathlib.Core.List.{List}

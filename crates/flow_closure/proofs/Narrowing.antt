@@ -1,4 +1,4 @@
--- The walk that takes marks away: the arcs passed are narrowed, and the others are as they were.
+-- The pass that takes marks away: the arcs passed are narrowed, and the others are as they were.
 use mathlib.Core.Path.{_≡_, refl, _∙_}
 use mathlib.Core.Logic.{_⊎_, inl, inr}
 use mathlib.Core.List.{List}

@@ -60,7 +60,7 @@ pub record FirstLowerable (N : Net) (f : List ℕ) (free : List Bool) (from to :
   pub first : to < arcs N → Lowerable N f free (suc to) to
 
 -- the arcs left free are those that can be raised or lowered by way of those that were: of the tight arcs of a least-cost flow, at least all on
--- which another differs. There may be more, as a way may go back over the arc itself.
+-- which another differs. There may be more, as a walk may go back over the arc itself.
 pub record UnmarkFixed (N : Net) (f : List ℕ) (free free′ : List Bool) : Type 0 where
   pub left : (a : ℕ) → a < arcs N → getD free′ a false ≡ true → Raisable N f free 0 a ⊎ Lowerable N f free 0 a
   pub others : (a : ℕ) → a < arcs N → getD free′ a false ≡ false → NotRaisable N f free 0 a × NotLowerable N f free 0 a

@@ -1,5 +1,5 @@
-// Which arcs can be raised or lowered, by one walk over the arcs from the last down.
-// The walk keeps the transitive closure of the residual steps of the free arcs passed (crate flow_preorder): an arc can be raised or lowered if its
+// Which arcs can be raised or lowered, in one pass over the arcs from the last down.
+// The pass keeps the transitive closure of the residual steps of the free arcs passed (crate flow_preorder): an arc can be raised or lowered if its
 // step closes a cycle. The closure of all of them shows which arcs can be neither.
 ghost use mathlib.Core.Path.{_≡_};
 ghost use mathlib.Core.List.{[]};
@@ -83,7 +83,7 @@ pub fn after_last_raisable(
         ⌜ AfterLastRaisable N (now (flow .entry)) (now (free .entry)) r ⌝ }
 {
     let mut rows = [0u64; 65];
-    flow_preorder::clear(&mut rows);
+    flow_preorder::alone(&mut rows);
     let mut a = tails.len();
     while 0 < a {
         if !free[a - 1] {
@@ -115,7 +115,7 @@ pub fn first_lowerable(
         ⌜ FirstLowerable N (now (flow .entry)) (now (free .entry)) from r ⌝ }
 {
     let mut rows = [0u64; 65];
-    flow_preorder::clear(&mut rows);
+    flow_preorder::alone(&mut rows);
     let mut a = tails.len();
     let mut first = a;
     while from < a {
@@ -191,7 +191,7 @@ pub fn unmark_fixed(
         ⌜ UnmarkFixed N (now (flow .entry)) (now (free .entry)) (now (free .exit)) ⌝ }
 {
     let mut rows = [0u64; 65];
-    flow_preorder::clear(&mut rows);
+    flow_preorder::alone(&mut rows);
     add_arcs(tails, heads, lows, ups, free, flow, &mut rows);
     let mut a = 0;
     while a < tails.len() {

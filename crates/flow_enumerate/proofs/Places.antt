@@ -7,9 +7,9 @@ use Rattle.flow_enumerate.specs.Enumerator.{wordAfter}
 use Rattle.flow_enumerate.specs.declared.Place.{Place}
 use Rattle.flow_enumerate.specs.declared.Place.the-variants.{Start, Item, None, End}
 use Rattle.flow_enumerate.proofs.Place.{the-type}
-use Rattle.flow_enumerate.proofs.Steps.{NoLine}
+use Rattle.flow_enumerate.proofs.Steps.{NoItem}
 
-pub no-item-at : (p : Place) → OneOf (0 ∷ 2 ∷ 3 ∷ []) (tagOf the-type p) → NoLine p
+pub no-item-at : (p : Place) → OneOf (0 ∷ 2 ∷ 3 ∷ []) (tagOf the-type p) → NoItem p
 no-item-at Start k f = refl
 no-item-at Item k f = absurd (miss (0 ∷ 2 ∷ 3 ∷ []) 1 tt k)
 no-item-at None k f = refl

@@ -11,7 +11,7 @@ use Rattle.net_theory.proofs.Ready.{accepted-ready}
 use Rattle.flow_relax.specs.Labels.{Relaxable}
 use Rattle.flow_relax.specs.Potentials.{HasPotential}
 use Rattle.flow_relax.proofs.Accepted.{accepted-relaxable}
-use Rattle.flow_prices.specs.Prices.{Prices}
+use Rattle.flow_prices.specs.Prices.{PriceLabels}
 use Rattle.flow_prices.proofs.Pricing.{labels-price}
 use Rattle.flow_prices.proofs.Beyond.{labels-beyond}
 use Rattle.flow_least.proofs.Marked.{has-potential-bare, marked-has-potential}
@@ -33,7 +33,7 @@ module _ (s : Enumerator) (h : Stands s) where
     pub has-potential-on : HasPotential (costed (stateNet s)) (stateFlow s) 1
     has-potential-on = has-potential-bare (stateNet s) (stateFlow s) (marked-has-potential (stateNet s) (stateFlow s) (take (s .net .arcs) (s .free)) (h .marked on))
 
-  pub prices-on : (d : List ℤ) → Prices (costed (stateNet s)) (stateFlow s) d → PriceArray (stateNet s) (stateFlow s) d
+  pub prices-on : (d : List ℤ) → PriceLabels (costed (stateNet s)) (stateFlow s) d → PriceArray (stateNet s) (stateFlow s) d
   prices-on d P =
       let ok = h .sound .accepted in
       record {

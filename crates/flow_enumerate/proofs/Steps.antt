@@ -25,14 +25,14 @@ use Rattle.flow_enumerate.specs.declared.Place.{Place}
 use Rattle.flow_enumerate.specs.declared.Place.the-variants.{Item, End}
 
 -- a place that stands on no item
-abbrev pub NoLine : Place → Type 0
-NoLine p = (f : List ℕ) → itemAt p f ≡ none
+abbrev pub NoItem : Place → Type 0
+NoItem p = (f : List ℕ) → itemAt p f ≡ none
 
-no-item : (p : Place) → NoLine p → ¬ (p ≡ Item)
+no-item : (p : Place) → NoItem p → ¬ (p ≡ Item)
 no-item p h e = none-some [] (sym (h []) ∙ ap (λ q. itemAt q []) e)
 
 -- a state on no item
-pub off-item : (n : Network) (p : Place) → NoLine p → Sound n → (f : List ℕ) (t : List Bool) → Stands (record { net = n; place = p; cost = pos 0; flow = f; free = t })
+pub off-item : (n : Network) (p : Place) → NoItem p → Sound n → (f : List ℕ) (t : List Bool) → Stands (record { net = n; place = p; cost = pos 0; flow = f; free = t })
 off-item n p h ok f t = record {
   sound = ok;
   cost-is = rw (h (take (n .arcs) f));
@@ -49,7 +49,7 @@ on-item n ok g f t c e q m = record {
 }
 
 module _ (s : Enumerator) (ok : Sound (s .net)) (f : List ℕ) (t : List Bool) where
-  pub step-off : (w : Place) → NoLine w → (o : Option (List ℕ)) → o ≡ none → Steps s w o (record { net = s .net; place = w; cost = pos 0; flow = f; free = t })
+  pub step-off : (w : Place) → NoItem w → (o : Option (List ℕ)) → o ≡ none → Steps s w o (record { net = s .net; place = w; cost = pos 0; flow = f; free = t })
   step-off w h o e = record {
     stands = off-item (s .net) w h ok f t;
     net-is = refl;
@@ -70,8 +70,8 @@ module _ (s : Enumerator) (ok : Sound (s .net)) (f : List ℕ) (t : List Bool) w
 pub not-found : (N : Net) (f : List ℕ) (t t′ : List Bool) (r : Bool) → FirstFlow N f t t′ r → r ≡ false → firstFlow N ≡ none
 not-found N f t t′ r h e = let k : FirstFlow N f t t′ false = subst (FirstFlow N f t t′) e h in k .0
 
-pub found : (N : Net) (f : List ℕ) (t t′ : List Bool) (r : Bool) → FirstFlow N f t t′ r → r ≡ true → (firstFlow N ≡ some f) × Marked N t′ f
-found N f t t′ r h e = subst (FirstFlow N f t t′) e h
+pub first-found : (N : Net) (f : List ℕ) (t t′ : List Bool) (r : Bool) → FirstFlow N f t t′ r → r ≡ true → (firstFlow N ≡ some f) × Marked N t′ f
+first-found N f t t′ r h e = subst (FirstFlow N f t t′) e h
 
 -- the sum that the code computes is the cost
 pub cost-summed : (N : Net) → WellFormed N → (x f : List ℕ) → x ≡ f → (c d : ℤ) → c ≡ d → d ≡ sum (length (N .costs)) (term (N .costs) x) → c ≡ costOf N f
@@ -89,7 +89,7 @@ pub cost-on : (s : Enumerator) → Stands s → s .place ≡ Item → s .cost �
 cost-on s h e = h .cost-is ∙ ap (λ p. itemCost (stateNet s) (itemAt p (stateFlow s))) e
 
 -- a state on no item hands itself back
-pub stays : (s : Enumerator) → Stands s → NoLine (s .place) → wordAfter (s .place) ≡ s .place → Steps s (wordAfter (s .place)) (itemAfter (stateNet s) (itemOf s)) s
+pub stays : (s : Enumerator) → Stands s → NoItem (s .place) → wordAfter (s .place) ≡ s .place → Steps s (wordAfter (s .place)) (itemAfter (stateNet s) (itemOf s)) s
 stays s h n e = record {
   stands = h;
   net-is = refl;
@@ -114,7 +114,7 @@ module _ (s r : Enumerator) (w : Place) (h : Steps s w (firstFlow (stateNet s)) 
   same-net : stateNet r ≡ stateNet s
   same-net = ap netIn (h .net-is)
 
-  pub counts-none : NoLine (r .place) → (cap : ℕ) → (0 ≤ cap + 1) × (counted cap 0 ≡ countFlows (stateNet s) cap)
+  pub counts-none : NoItem (r .place) → (cap : ℕ) → (0 ≤ cap + 1) × (counted cap 0 ≡ countFlows (stateNet s) cap)
   counts-none n cap = (omega arith, ap (counted cap) (sym (empty (fullList (stateNet s)) (sym (h .item-is) ∙ n (stateFlow r)))))
 
   pub counts-item : r .place ≡ Item → (cap k : ℕ) → (firstFlow (stateNet r) ≡ some (stateFlow r) → counted cap k ≡ countFlows (stateNet r) cap) → counted cap k ≡ countFlows (stateNet s) cap

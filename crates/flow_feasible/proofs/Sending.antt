@@ -41,8 +41,8 @@ module _ (N : Net) (f : List ℕ) (free : List Bool) (s t most : ℕ) (x : ℤ) 
   pub sends-to-blocked : Blocked N f free s t 0 → SendsTo N f f free s t most x false
   sends-to-blocked k = record { within = b; done = λ q. absurd (let w : _≡_ {A = ℕ} 0 1 = cc in omega arith); same = λ _. refl; stuck = λ _ _. k }
 
-path-able : (N : Net) (f : List ℕ) (free : List Bool) (s t from δ : ℕ) (cs : List ℕ) → InBounds N f → FreeWalk N f free s t from cs → Every (λ c. δ ≤ residualCapacity N f c) cs → Pushable N δ f cs
-path-able N f free s t from δ cs b p h = record {
+walk-able : (N : Net) (f : List ℕ) (free : List Bool) (s t from δ : ℕ) (cs : List ℕ) → InBounds N f → FreeWalk N f free s t from cs → Every (λ c. δ ≤ residualCapacity N f c) cs → Pushable N δ f cs
+walk-able N f free s t from δ cs b p h = record {
   within = b;
   codes-in = walk-below (codes N) (src N) (dst N) (goes N f free) s t cs (p .walk);
   distinct = p .distinct;
@@ -55,7 +55,7 @@ module _ (N : Net) (f : List ℕ) (free : List Bool) (x y most : ℕ) (b : InBou
   capacity-is = d-is ∙ sym (capacity-with N [] [] [] f cap cs)
 
   able : Pushable N d f cs
-  able = path-able N f free x y 0 d cs b p (rw capacity-is (capacity-each N f cap cs))
+  able = walk-able N f free x y 0 d cs b p (rw capacity-is (capacity-each N f cap cs))
 
   pub able-here : Pushable (netWith [] (N .tails) [] (N .lows) (N .ups) []) d f cs
   able-here = pushable-with N [] [] [] f d cs able

@@ -1,4 +1,4 @@
--- Ways back along predecessors: one of 64 steps comes to a cycle, and a cycle's codes are a residual cycle of negative cost.
+-- Steps back along predecessors: 64 of them come to a cycle, and a cycle's codes are a residual cycle of negative cost.
 use mathlib.Core.Path.{_≡_, refl, sym, ap, subst, _∙_}
 use mathlib.Core.Logic.{inl, inr, _≢_}
 use mathlib.Core.Bool.{true}
@@ -47,11 +47,11 @@ module _ (N : Net) (p : List ℕ) where
       swap : (a a′ b c d : ℤ) → a ≡ a′ → b ≡ c +ℤ d → a +ℤ b ≡ c +ℤ (a′ +ℤ d)
       swap a a′ b c d e q = given2 e q (simp lin (omega arith))
 
-  -- two places of a way back that are one node: it goes on alike from both
+  -- two places of the steps back that are one node: they go on alike from both
   alike : (v i j s : ℕ) → back N p i v ≡ back N p j v → back N p (s + i) v ≡ back N p (s + j) v
   alike v i j s e = back-add s i v ∙ ap (back N p s) e ∙ sym (back-add s j v)
 
-  -- after 64 steps a way back is on a cycle
+  -- 64 steps back lead to a node on a cycle
   pub comes-round : SmallEnds N → (v : ℕ) → v < 64 → Backs N p 64 v → Returns N p (back N p 64 v)
   comes-round ok v h b = close (pigeon 64 65 (λ i. back N p i v) (omega arith) (λ i l. back-in N ok p v 64 h b i (omega arith)))
     where
@@ -93,7 +93,7 @@ module _ (N : Net) (p : List ℕ) where
   codes-cost zero x = refl
   codes-cost (suc t) x = ap (λ z. stepCost N (pred p x) +ℤ z) (codes-cost t (src N (pred p x))) ∙ sym (cost-first t x)
 
-  -- fewer steps of a way back
+  -- fewer steps back
   backs-first : (t x : ℕ) → Backs N p (suc t) x → Backs N p t (src N (pred p x))
   backs-first t x b i l = subst (λ y. pred p y < codes N) (back-first i x) (b (suc i) (omega arith))
 
@@ -163,7 +163,7 @@ module _ (N : Net) (f : List ℕ) (ok : SmallEnds N) (δ : ℕ) (d : List ℤ) (
     pub period-negative : walkCost N (backCodes N p t x) <ℤ pos 0
     period-negative = subst (λ z. z <ℤ pos 0) (sym (codes-cost N p t x)) (L .negative x t (P .round))
 
-  -- a way back that ends shows that the label is one of a walk; so a label that fell below every walk of k codes has a longer way back
+  -- steps back that end show that the label is one of a walk; so from a label that fell below every walk of k codes, more than k steps lead back
   pub ends-late : (x t k : ℕ) → x < 64 → BackEnds N p x t → (d₀ : List ℤ) → AtMost N f δ k d₀ → getD d x (pos 0) <ℤ getD d₀ x (pos 0) → k < t
   unfolding back
   ends-late x t k h e d₀ m lower = go (native.Mathlib.Decide.decLt k t)

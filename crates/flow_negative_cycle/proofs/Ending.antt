@@ -13,7 +13,7 @@ use Rattle.flow_relax.specs.Labels.{Relaxable, State, state, relaxedAll}
 use Rattle.flow_relax.proofs.Rounds.{zero-at}
 use Rattle.flow_negative_cycle.specs.Predecessors.{pred, back, GoesBack, ended, went, Collects}
 use Rattle.flow_negative_cycle.specs.Search.{FindsCycle}
-use Rattle.flow_negative_cycle.proofs.Ways.{Going, going-none, going-more, going-ends, Collecting, collecting-none, capacity, collecting-more, collecting-done}
+use Rattle.flow_negative_cycle.proofs.StepsBack.{Going, going-none, going-more, going-ends, Collecting, collecting-none, capacity, collecting-more, collecting-done}
 use Rattle.flow_negative_cycle.proofs.Searching.{Searching, finds-none, searching-start, labelled′, unchanged-of, fell, returns-of, searching-more, finds-cycle}
 
 module _ (N : Net) (ok : SmallEnds N) (p : List ℕ) where

@@ -1,6 +1,6 @@
 mod Relaxing
 mod Cycles
-mod Ways
+mod StepsBack
 mod OtherLists
 mod Searching
 pub mod Ending

@@ -1,4 +1,4 @@
--- Ways back read the tails and heads of a network: what is said of them holds whatever its other lists are.
+-- Steps back read the tails and heads of a network: what is said of them holds whatever its other lists are.
 use mathlib.Core.Path.{_≡_, refl, sym, ap, subst, _∙_}
 use mathlib.Core.List.{List, _∷_}
 use Prim.Native.Nat.{ℕ, zero, suc, _≤_, _<_}

@@ -1,4 +1,4 @@
--- Residual arcs relaxed: labels stay labels, and a way back to itself stays negative.
+-- Residual arcs relaxed: labels stay labels, and steps back to where they began stay negative.
 use mathlib.Core.Path.{_≡_, refl, sym, ap, ap₂, subst, _∙_}
 use mathlib.Core.Logic.{_⊎_, inl, inr, _≢_}
 use mathlib.Core.Bool.{Bool, true, false, cond}
@@ -23,13 +23,13 @@ use Rattle.net_theory.proofs.Codes.{src-in, dst-in}
 use Rattle.flow_relax.specs.Labels.{Relaxable, State, label, offer, better, relaxed, relaxedAll}
 use Rattle.flow_negative_cycle.specs.Predecessors.{pred, back, backCost, Backs, PredecessorCycle, Labelled}
 
--- a way back along codes stays among the nodes
+-- steps back along codes stay among the nodes
 pub back-in : (N : Net) → SmallEnds N → (p : List ℕ) (x t : ℕ) → x < 64 → Backs N p t x → (j : ℕ) → j ≤ t → back N p j x < 64
 unfolding back
 back-in N ok p x t h b zero l = h
 back-in N ok p x t h b (suc j) l = src-in N ok (pred p (back N p j x)) (b j (omega arith))
 
--- labels fall by at least the cost of the way back
+-- labels fall by at least the cost of the steps back
 module _ (N : Net) (p : List ℕ) (e : ℕ → ℤ) (x t : ℕ)
     (drop : (i : ℕ) → i < t → (e (back N p (suc i) x) +ℤ stepCost N (pred p (back N p i x))) ≤ℤ e (back N p i x)) where
   pub slope : (j : ℕ) → j ≤ t → (backCost N p j x +ℤ e (back N p j x)) ≤ℤ e x
@@ -100,7 +100,7 @@ module _ (N : Net) (f : List ℕ) (ok : Relaxable N f) (δ : ℕ) (d : List ℤ)
       go (yes q) = given (drop-here w q) (simp lin (omega arith))
       go (no q) = rw (other w q) (L .offers w h (rw (other w q) at k))
 
-  -- a way back that keeps clear of v is an old one
+  -- steps back that keep clear of v are old ones
   module _ (x t : ℕ) (clear : (i : ℕ) → i < t → back N p′ i x ≢ v) where
     same-back : (j : ℕ) → j ≤ t → back N p′ j x ≡ back N p j x
     unfolding back

@@ -10,9 +10,11 @@ use lib.Signed.{_<ℤ_}
 use Rattle.laws.specs.Linear.{lin, given2}
 use Rattle.laws.specs.Range.{bounded-more}
 use Rattle.net_model.specs.Network.{Net}
-use Rattle.net_model.specs.Residual.{codes}
+use Rattle.net_model.specs.Residual.{codes, usable, src, dst}
+use Rattle.net_model.proofs.Walks.{walk-with}
+use Rattle.net_model.proofs.Rises.{closed-nonneg}
+use Rattle.net_theory.specs.ResidualCapacity.{hasCapacity}
 use Rattle.flow_relax.specs.Labels.{Relaxable, State, state, relaxedAll, Sized}
-use Rattle.flow_relax.proofs.Rises.{closed-nonneg}
 use Rattle.flow_relax.proofs.Rounds.{AtMost, zeros-at-most, zeros-sized, left-at-most, left-sized, left-unchanged, left-fell}
 use Rattle.flow_negative_cycle.specs.Predecessors.{pred, back, Returns, Labelled, GoesBack, ended, went, Collects}
 use Rattle.flow_negative_cycle.specs.Search.{PotentialLabels, FindsCycle, found, none}
@@ -21,7 +23,7 @@ use Rattle.flow_negative_cycle.proofs.Cycles.{comes-round, period-cycle
 
 -- labels that show that there is no negative cycle
 pub finds-none : (N : Net) (f : List ℕ) (δ : ℕ) (d : List ℤ) (out : List ℕ) → PotentialLabels N f δ d → FindsCycle N f δ d out out 0
-finds-none N f δ d out q = none refl (λ cs C. given2 (closed-nonneg N f δ (λ v. getD d v (pos 0)) (q .feasible) (C .cycle .node) cs (C .cycle .closed) (C .capacity)) (C .negative) (simp lin (omega arith))) q refl
+finds-none N f δ d out q = none refl (λ cs C. given2 (closed-nonneg N (hasCapacity N f δ) (λ v. getD d v (pos 0)) (q .feasible) (C .cycle .node) cs (walk-with (codes N) (src N) (dst N) (usable N f) (hasCapacity N f δ) (C .cycle .node) (C .cycle .node) cs (C .capacity) (C .cycle .closed))) (C .negative) (simp lin (omega arith))) q refl
 
 pub record Searching (N : Net) (f : List ℕ) (δ : ℕ) (d : List ℤ) (p : List ℕ) (k : ℕ) : Type 0 where
   pub early : k < 64

@@ -1,4 +1,4 @@
--- Predecessors: the way back from a node, the cycles that it comes to, and what labels keep of them.
+-- Predecessors: the steps back from a node, the cycles that they come to, and what labels keep of them.
 use mathlib.Core.Path.{_≡_}
 use mathlib.Core.Bool.{true}
 use mathlib.Core.List.{List, [], _∷_}
@@ -49,7 +49,7 @@ abbrev pub backCodes : Net → List ℕ → ℕ → ℕ → List ℕ
 backCodes N p zero x = []
 backCodes N p (suc t) x = pred p x ∷ backCodes N p t (src N (pred p x))
 
--- the way back from x ends after t steps
+-- the steps back from x end after t
 pub record BackEnds (N : Net) (p : List ℕ) (x t : ℕ) : Type 0 where
   pub few : t < 64
   pub steps : Backs N p t x

@@ -27,10 +27,10 @@ module _ (N : Net) (π : ℕ → ℤ) (free : List Bool) (f : List ℕ) (ti : Fr
   -- arc k - 1 is raised, and those from k on are as low as they can be
   pub next-yes : (g f′ : List ℕ) (k : ℕ) → 0 < k → k ≤ arcs N → TopFrom N k f → RaisedByOne N f g (k - 1) → (FreeMarks N π free g → Minimised N g f′ k) → Next N f f′ true
   next-yes g f′ k some in-k top u low =
-      let m = low (free-any N π free f g ti (u .least)) in
+      let m = low (free-any N π free f g ti (u .least-cost)) in
       record {
-        follows = λ _. next-is N (ti .well-formed) f f′ (k - 1) (ti .least)
-            (record { in-range = omega arith; least-cost = m .least; same-before = agree-trans (k - 1) f g f′ (u .same) (agree-fewer (k - 1) k g f′ (omega arith) (m .same)); one-more = sym (m .same (k - 1) (omega arith)) ∙ u .one-more })
+        follows = λ _. next-is N (ti .well-formed) f f′ (k - 1) (omega arith) (ti .least)
+            (record { least-cost = m .least; same-before = agree-trans (k - 1) f g f′ (u .same-before) (agree-fewer (k - 1) k g f′ (omega arith) (m .same)); at-k = sym (m .same (k - 1) (omega arith)) ∙ u .at-k })
             (λ a h l. top a (omega arith) l) (λ a h l. m .minimal a (omega arith) l);
         least = λ _. m .least;
         end = λ e. absurd (let z : _≡_ {A = ℕ} 0 1 = cc in omega arith);

@@ -1,4 +1,4 @@
--- From a search to a path, or to a set of nodes that no code leaves.
+-- From a search to a walk, or to a set of nodes that no code leaves.
 use mathlib.Core.Path.{_≡_}
 use mathlib.Core.List.{List}
 use mathlib.Core.Bool.{Bool}
@@ -46,7 +46,7 @@ module _ (N : Net) (f : List ℕ) (free : List Bool) (s t from : ℕ) (rank via 
   pub reach-falls : SmallEnds N → Falls 64 (codes N) (src N) rank via
   reach-falls ok = tree-falls 64 (from + from) (codes N) (src N) (dst N) (goes N f free) s rank via count (r .tree) (λ c h. src-in N ok c h)
 
-  pub reach-path : (cs : List ℕ) → TracedAny 64 (codes N) (src N) (dst N) rank via t (λ s. s) cs → FreeWalk N f free s t from cs
-  reach-path cs tr =
+  pub reach-walk : (cs : List ℕ) → TracedAny 64 (codes N) (src N) (dst N) rank via t (λ s. s) cs → FreeWalk N f free s t from cs
+  reach-walk cs tr =
       let d = tr (from + from) (goes N f free) s count (r .tree) in
       record { walk = d .walk; distinct = d .distinct; low = d .low }

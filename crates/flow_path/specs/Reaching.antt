@@ -1,4 +1,4 @@
--- Searches over the residual arcs of the arcs marked free, and the paths that they find.
+-- Searches over the residual arcs of the arcs marked free, and the walks that they find.
 use mathlib.Core.Path.{_≡_}
 use mathlib.Core.List.{List}
 use mathlib.Core.Bool.{Bool}
@@ -50,7 +50,7 @@ pub record Trace (N : Net) (rank via : List ℕ) (t : ℕ) (codes₀ codes₁ : 
   pub traced : TracedAny 64 (codes N) (src N) (dst N) rank via t (λ s. s) (take r codes₁)
   pub rest : drop r codes₁ ≡ drop r codes₀
 
--- the first r codes are a path from s to t, or there is none; the lent list keeps what it held beyond them
+-- the first r codes are a walk from s to t, or there is none; the lent list keeps what it held beyond them
 abbrev pub FindsWalk : Net → List ℕ → List Bool → ℕ → ℕ → ℕ → List ℕ → List ℕ → Route → Type 0
 FindsWalk N f free s t from codes codes′ (Codes r) = (r ≤ length codes′) × FreeWalk N f free s t from (take r codes′) × (drop r codes′ ≡ drop r codes)
 FindsWalk N f free s t from codes codes′ Cut = Blocked N f free s t from × (codes′ ≡ codes)

@@ -1,4 +1,4 @@
-// Searches in the residual network, and the paths that they find.
+// Searches in the residual network, and the walks that they find.
 // A residual arc is a code: 2a is arc a forward, 2a + 1 is arc a backward.
 ghost use mathlib.Core.Path.{_≡_};
 ghost use mathlib.Core.List.{[]};
@@ -10,7 +10,7 @@ ghost use Rattle.net_theory.specs.Graph.{netWith};
 ghost use Rattle.net_theory.specs.Ready.{Searchable};
 ghost use Rattle.flow_path.specs.Reaching.{NoneReached, SearchTree, SpreadArc, Round, Reach, Traceable, Trace, FindsWalk};
 
-// Whether a path was found: how many codes it has, or that there is none.
+// Whether a walk was found: how many codes it has, or that there is none.
 pub enum Route {
     Codes(usize),
     Cut,
@@ -184,7 +184,7 @@ fn trace(
     len
 }
 
-// A path from s to t over the free arcs from `from` on, the last code first.
+// A walk from s to t over the free arcs from `from` on, the last code first.
 pub fn find_walk(
     tails: &[u8],
     heads: &[u8],

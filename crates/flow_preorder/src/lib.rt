@@ -36,7 +36,7 @@ fn joined(s: u64, t: u64, p: usize) -> u64
 }
 
 // Each node leads to itself alone.
-pub fn clear(rows: &mut [u64])
+pub fn alone(rows: &mut [u64])
     requires { ⌜ length (now rows) ≡ 65 ⌝ }
     ensures { λ _. ⌜ Alone (now (rows .exit)) ⌝ }
 {

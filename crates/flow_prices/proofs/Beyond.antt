@@ -10,9 +10,9 @@ use Rattle.net_model.specs.Network.{Net, nodes, WellFormed}
 use Rattle.net_model.specs.Residual.{Walk, walkCost}
 use Rattle.net_theory.specs.Graph.{costed}
 use Rattle.net_theory.proofs.Codes.{dst-below}
-use Rattle.flow_prices.specs.Prices.{Prices}
+use Rattle.flow_prices.specs.Prices.{PriceLabels}
 
-module _ (N : Net) (f : List ℕ) (ok : WellFormed N) (d : List ℤ) (P : Prices (costed N) f d) where
+module _ (N : Net) (f : List ℕ) (ok : WellFormed N) (d : List ℤ) (P : PriceLabels (costed N) f d) where
   pub labels-beyond : (v : ℕ) → nodes N ≤ v → getD d v (pos 0) ≡ pos 0
   labels-beyond v k = go (decLt v 64)
     where

@@ -16,10 +16,10 @@ use Rattle.net_theory.proofs.Codes.{src-in, dst-in}
 use Rattle.net_theory.proofs.ResidualCapacity.{hasCapacity-usable, hasCapacity-walk, walk-hasCapacity}
 use Rattle.flow_relax.specs.Labels.{Relaxable}
 use Rattle.flow_relax.proofs.StepCosts.{step-small}
-use Rattle.flow_prices.specs.Prices.{Prices}
+use Rattle.flow_prices.specs.Prices.{PriceLabels}
 use Rattle.flow_prices.proofs.Shorten.{shorten}
 
-module _ (N : Net) (f : List ℕ) (ok : Relaxable N f) (d : List ℤ) (P : Prices N f d) where
+module _ (N : Net) (f : List ℕ) (ok : Relaxable N f) (d : List ℤ) (P : PriceLabels N f d) where
   -- a walk to where a residual arc starts, and that arc, lead to where it ends
   labels-feasible : FeasiblePotential N (hasCapacity N f 1) (λ v. getD d v (pos 0))
   labels-feasible c k r =

@@ -13,16 +13,16 @@ use Rattle.laws.specs.Tests.{and-true}
 use Rattle.laws.specs.Store.{set-cases}
 use Rattle.net_model.specs.Network.{Net, WellFormed, nodes}
 use Rattle.net_model.specs.Residual.{codes, src, dst, Walk, walkCost, Price, CodeWalk}
+use Rattle.net_model.proofs.Rises.{rise}
 use Rattle.net_theory.specs.Graph.{costed}
 use Rattle.net_theory.specs.ResidualCapacity.{hasCapacity}
 use Rattle.net_theory.proofs.Codes.{src-below, src-in, dst-in}
 use Rattle.net_theory.proofs.ResidualCapacity.{hasCapacity-walk, walk-hasCapacity}
 use Rattle.flow_relax.specs.Labels.{Relaxable, State, state, label, offer, better, relaxed, relaxedAll, Sized}
 use Rattle.flow_relax.specs.Potentials.{HasPotential}
-use Rattle.flow_relax.proofs.Balances.{walk-whole, walk-bare, cost-whole}
-use Rattle.flow_relax.proofs.Rises.{rise}
+use Rattle.flow_relax.proofs.Balances.{cost-whole}
 use Rattle.flow_relax.proofs.Rounds.{AtMost, all-length, zeros-at-most, zeros-sized, left-at-most, left-sized, left-unchanged}
-use Rattle.flow_prices.specs.Prices.{Prices}
+use Rattle.flow_prices.specs.Prices.{PriceLabels}
 use Rattle.flow_prices.proofs.Shorten.{shorten}
 
 -- each label is the cost of a walk
@@ -73,18 +73,18 @@ module _ (N : Net) (f : List ℕ) (ok : Relaxable N f) where
     })
 
     -- a round that changed nothing: no walk costs less
-    pub prices-unchanged : last ≡ 64 → Prices N f d′
+    pub prices-unchanged : last ≡ 64 → PriceLabels N f d′
     prices-unchanged q =
         let (b, c) = left-unchanged N f ok 1 d p (S .sized .labels-len) d′ p′ last e q in
-        subst (Prices N f) (sym b) (record {
+        subst (PriceLabels N f) (sym b) (record {
           len = S .sized .labels-len;
           walked = λ v h. (let (u, cs, t, e) = S .walked v h in (u, cs, hasCapacity-walk N f 1 (omega arith) u v cs t, e));
           least = λ u v cs h w.
-              given2 (rise N f 1 (λ v. getD d v (pos 0)) c u v cs (walk-hasCapacity N f u v cs w)) (S .at-most u u [] (omega arith) refl) (simp lin (omega arith));
+              given2 (rise N (hasCapacity N f 1) (λ v. getD d v (pos 0)) c u v cs (walk-hasCapacity N f u v cs w)) (S .at-most u u [] (omega arith) refl) (simp lin (omega arith));
         })
 
   -- after 64 rounds no walk costs less, however long
-  pub prices-all : (d : List ℤ) (p : List ℕ) → Pricing N f d p 64 → HasPotential N f 1 → Prices N f d
+  pub prices-all : (d : List ℤ) (p : List ℕ) → Pricing N f d p 64 → HasPotential N f 1 → PriceLabels N f d
   prices-all d p S q = record {
     len = S .sized .labels-len;
     walked = λ v h. (let (u, cs, t, e) = S .walked v h in (u, cs, hasCapacity-walk N f 1 (omega arith) u v cs t, e));
@@ -99,14 +99,14 @@ module _ (N : Net) (f : List ℕ) (ok : WellFormed N) where
   start-in x v [] h w = rw w h
   start-in x v (e ∷ cs) h w = start-in x (src N e) cs (src-below (nodes N) N (ok .tail-in) (ok .head-in) e (w .0)) (w .3)
 
-  pub labels-price : nodes N ≤ 64 → (d : List ℤ) → Prices (costed N) f d → (v : ℕ) → v < nodes N → Price N f v (getD d v (pos 0))
+  pub labels-price : nodes N ≤ 64 → (d : List ℤ) → PriceLabels (costed N) f d → (v : ℕ) → v < nodes N → Price N f v (getD d v (pos 0))
   labels-price few d P v k =
       let (x, cs, w, e) = P .walked v (omega arith) in
       record {
         from = x;
         walk = cs;
-        starts = start-in x v cs k (walk-whole N f x v cs w);
-        leads = walk-whole N f x v cs w;
+        starts = start-in x v cs k w;
+        leads = w;
         costs = sym (cost-whole N cs) ∙ e;
-        least = λ y es _ w′. subst (λ z. getD d v (pos 0) ≤ℤ z) (cost-whole N es) (P .least y v es (omega arith) (walk-bare N f y v es w′));
+        least = λ y es _ w′. subst (λ z. getD d v (pos 0) ≤ℤ z) (cost-whole N es) (P .least y v es (omega arith) w′);
       }

@@ -14,10 +14,10 @@ use Rattle.net_model.specs.Network.{Net}
 use Rattle.net_model.specs.Residual.{src, walkCost, CodeWalk, codes, dst}
 use Rattle.net_model.specs.Potential.{FeasiblePotential}
 use Rattle.net_model.proofs.Walks.{walk-append, cost-append}
+use Rattle.net_model.proofs.Rises.{rise}
 use Rattle.net_theory.specs.ResidualCapacity.{hasCapacity}
 use Rattle.net_theory.specs.Limits.{SmallEnds}
 use Rattle.net_theory.proofs.Codes.{src-in}
-use Rattle.flow_relax.proofs.Rises.{rise}
 
 module _ (N : Net) (f : List ℕ) (δ : ℕ) where
   -- the node i codes before the end
@@ -94,7 +94,7 @@ module _ (N : Net) (f : List ℕ) (δ : ℕ) where
 
             free : pos 0 ≤ℤ walkCost N (take (w .j - w .i) (drop (w .i) cs))
             free =
-                given2 (rise N f δ π q (nodeAt (nodeAt v cs (w .i)) (drop (w .i) cs) (w .j - w .i)) (nodeAt v cs (w .i)) (take (w .j - w .i) (drop (w .i) cs))
+                given2 (rise N (hasCapacity N f δ) π q (nodeAt (nodeAt v cs (w .i)) (drop (w .i) cs) (w .j - w .i)) (nodeAt v cs (w .i)) (take (w .j - w .i) (drop (w .i) cs))
                 (walk-take u (nodeAt v cs (w .i)) (drop (w .i) cs) (walk-drop u v cs t (w .i) in-i) (w .j - w .i) (omega (arith, length-drop (w .i) cs, w .in-range))))
                 (ap π closed) (simp lin (omega arith))
 

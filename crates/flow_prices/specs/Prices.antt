@@ -8,7 +8,7 @@ use lib.Signed.{_≤ℤ_}
 use Rattle.net_model.specs.Network.{Net}
 use Rattle.net_model.specs.Residual.{Walk, walkCost}
 
-pub record Prices (N : Net) (f : List ℕ) (d : List ℤ) : Type 0 where
+pub record PriceLabels (N : Net) (f : List ℕ) (d : List ℤ) : Type 0 where
   pub len : length d ≡ 64
   pub walked : (v : ℕ) → v < 64 → (u : ℕ) × (cs : List ℕ) × Walk N f u v cs × (walkCost N cs ≡ getD d v (pos 0))
   pub least : (u v : ℕ) (cs : List ℕ) → v < 64 → Walk N f u v cs → getD d v (pos 0) ≤ℤ walkCost N cs

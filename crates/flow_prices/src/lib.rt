@@ -3,7 +3,7 @@ ghost use mathlib.Core.List.{[]};
 ghost use Rattle.net_theory.specs.Graph.{netWith};
 ghost use Rattle.flow_relax.specs.Labels.{Relaxable};
 ghost use Rattle.flow_relax.specs.Potentials.{HasPotential};
-ghost use Rattle.flow_prices.specs.Prices.{Prices};
+ghost use Rattle.flow_prices.specs.Prices.{PriceLabels};
 
 // The price of each node, for a flow without a negative cycle: the least cost of a residual walk that ends there.
 pub fn prices(
@@ -16,7 +16,7 @@ pub fn prices(
 ) -> [i64; 64]
     requires { let N = netWith [] (now tails) (now heads) (now lows) (now ups) (now costs) in ⌜ Relaxable N (now flow) × HasPotential N (now flow) 1 ⌝ }
     ensures { λ r. let N = netWith [] (now (tails .entry)) (now (heads .entry)) (now (lows .entry)) (now (ups .entry)) (now (costs .entry)) in
-        ⌜ Prices N (now (flow .entry)) r ⌝ }
+        ⌜ PriceLabels N (now (flow .entry)) r ⌝ }
 {
     let mut least = [0i64; 64];
     let mut preds = [65535u16; 64];

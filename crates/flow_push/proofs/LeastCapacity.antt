@@ -1,4 +1,4 @@
--- The capacity along a path: at most that of each code, and not 0 where each code goes.
+-- The capacity along a walk: at most that of each code, and not 0 where each code goes.
 use mathlib.Core.Path.{_≡_, refl, ap, _∙_}
 use mathlib.Core.List.{List, [], _∷_}
 use mathlib.Core.Bool.{Bool, true, false}
@@ -37,7 +37,7 @@ usable-capacity N f c u = go (eqb (c % 2) 0) refl
 pub goes-capacity : (N : Net) (f : List ℕ) (free : List Bool) (c : ℕ) → goes N f free c ≡ true → 0 < residualCapacity N f c
 goes-capacity N f free c g = usable-capacity N f c (and-true (getD free (c / 2) false) (usable N f c) g .1)
 
--- ---- the loop of `capacity`: the codes that are left
+-- ---- the loop of `bottleneck`: the codes that are left
 pub record CapacityTurn (N : Net) (f : List ℕ) (goal least : ℕ) (rest : List ℕ) : Type 0 where
   pub same : bottleneck N f least rest ≡ goal
   pub codes-in : Every (λ c. c < codes N) rest

@@ -1,4 +1,4 @@
--- Pushing reads no balances, heads and costs: the same can be pushed, and the same capacity is along a path, whatever they are.
+-- Pushing reads no balances, heads and costs: the same can be pushed, and the same capacity is along a walk, whatever they are.
 use mathlib.Core.Path.{_≡_, refl}
 use mathlib.Core.List.{List, [], _∷_}
 use Prim.Native.Nat.{ℕ, min}

@@ -1,4 +1,4 @@
--- Pushing along a path, code by code.
+-- Pushing along a walk, code by code.
 use mathlib.Core.Path.{_≡_}
 use mathlib.Core.List.{List, [], _∷_}
 use mathlib.Core.Bool.{true, false}

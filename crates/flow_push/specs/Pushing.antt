@@ -1,4 +1,4 @@
--- What can go along a path, and what pushing it asks.
+-- What can go along a walk, and what pushing it asks.
 use mathlib.Core.Path.{_≡_}
 use mathlib.Core.Bool.{true}
 use mathlib.Core.List.{List, [], _∷_}

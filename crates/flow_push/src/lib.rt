@@ -1,4 +1,4 @@
-// What can go along a path of the residual network, and pushing along it.
+// What can go along a walk in the residual network, and pushing along it.
 // A residual arc is a code: 2a is arc a forward, 2a + 1 is arc a backward.
 ghost use mathlib.Core.Path.{_≡_};
 ghost use mathlib.Core.Bool.{true, false};

@@ -3,5 +3,4 @@ mod Sums
 mod Arcs
 pub mod Accepted
 pub mod Balances
-pub mod Rises
 pub mod Rounds

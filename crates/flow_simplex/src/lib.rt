@@ -15,7 +15,7 @@ ghost use Rattle.flow_simplex.specs.Lengths.{SameLengths};
 // 256 places is read by a u8.
 const ROOT: u8 = 64;
 
-// More than any path costs.
+// More than any walk costs that comes to no node twice.
 const BIG: u32 = 100000000;
 
 // Whether x, as a signed number, is below 0.

@@ -9,12 +9,11 @@ use lib.Seq.{getD-set-same, getD-set-other}
 use lib.IntN.{ℤ, pos, negℤ, _+ℤ_, _-ℤ_}
 use mir.Syntax.{w64}
 use mir.Val.{SFits}
-use Rattle.laws.specs.Divergence.{at, at-same, at-other, div}
+use Rattle.laws.specs.Divergence.{at, at-same, at-other, at-neg, div}
 use Rattle.laws.specs.Linear.{lin, given, given4}
 use Rattle.laws.specs.Range.{Bounded, bounded-add, bounded-neg, bounded-zero, bounded-more, bounded-fits}
 use Rattle.laws.specs.Sum.{sum}
 use Rattle.net_model.specs.Network.{Net, nodes, arcs, tail, head, balance, on}
-use Rattle.net_theory.proofs.Change.{at-neg}
 use Rattle.flow_test.specs.Excess.{SmallNumbers, Excesses}
 
 at-bounded : (u v B : ℕ) (x : ℤ) → Bounded B x → Bounded B (at u v x)

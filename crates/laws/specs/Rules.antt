@@ -8,7 +8,7 @@ pub data Call (F G N : Type 0) : Type 0 where
   first : F → Call F G N
   next : G → N → Call F G N
 
--- Item: a line of the full list. Lent: the lists that a call is lent.
+-- Item: a member of the full list. Lent: the lists that a call is lent.
 pub record Rules (Item F G N Lent : Type 0) : Type 1 where
   -- "The full list"
   pub full-list : List Item

@@ -11,10 +11,10 @@ use Rattle.net_model.specs.Input.{rows}
 use Rattle.net_questions.specs.Questions.{lastNodeNumber}
 use Rattle.net_questions.specs.Arcs.{noArc}
 use Rattle.net_questions.proofs.Rows.{arcs-of}
-use Rattle.net_questions.proofs.Accepted.{Passed, Inside, good-arc, up-from}
+use Rattle.net_questions.proofs.Accepted.{AllPassed, Inside, good-arc, up-from}
 use Rattle.net_check.specs.Columns.{numberAt, Column}
 
-module _ (bs xs : List ℕ) (ok : Passed bs xs) where
+module _ (bs xs : List ℕ) (ok : AllPassed bs xs) where
   column : (place hi : ℕ) → place < 5 → ((a : ℕ) → a < length (rows (ints xs)) → Inside (pos 0) (pos hi) (numberAt place (getD (rows (ints xs)) a noArc))) → Column xs place hi
   column place hi p f = record {
     placed = p;

@@ -116,7 +116,7 @@ module _ {A : Type 0} (key : A → ℤ) where
               all y (inr n) = f y n
 
 module _ (N : Net) (ok : WellFormed N) where
-  -- the full list has a first line, or there is no flow
+  -- the full list has a first item, or there is no flow
   pub record Head : Type 0 where
     pub line : List ℕ
     pub is : first? (fullList N) ≡ some line

@@ -1,5 +1,5 @@
 -- Potentials bound the cost of residual walks from below; with walks that reach the bound they are the prices.
-use mathlib.Core.Path.{_≡_, refl, subst}
+use mathlib.Core.Path.{_≡_, refl}
 use mathlib.Core.Bool.{Bool, true, false, not, _&&_, _||_}
 use mathlib.Core.List.{List, [], _∷_}
 use Prim.Native.Nat.{ℕ, _<_}
@@ -9,23 +9,15 @@ use lib.ListN.{getD}
 use lib.IntN.{ℤ, pos, _+ℤ_}
 use lib.Signed.{leZ, _≤ℤ_}
 use borrow.Author.Tests.{ltb-true, eqb-true}
-use Rattle.laws.specs.Linear.{lin, given3}
+use Rattle.laws.specs.Linear.{lin, given2}
 use Rattle.laws.specs.Integers.{leZ-true, eqZ, eqZ-true}
 use Rattle.laws.specs.Tests.{and-true, allBelow, all-below}
 use Rattle.net_model.specs.Network.{Net, nodes}
 use Rattle.net_model.specs.Potential.{FeasiblePotential}
 use Rattle.net_model.specs.Residual.{codes, usable, src, dst, stepCost, Walk, walkCost, Price}
+use Rattle.net_model.proofs.Rises.{rise}
 
--- a feasible potential that is at most 0 where a walk starts
-potential-least : (N : Net) (f : List ℕ) (π : ℕ → ℤ) → FeasiblePotential N (usable N f) π → (u v : ℕ) (cs : List ℕ) → π u ≤ℤ pos 0 → Walk N f u v cs → π v ≤ℤ walkCost N cs
-potential-least N f π p u v [] h w = subst (λ x. π x ≤ℤ pos 0) w h
-potential-least N f π p u v (c ∷ cs) h w =
-    bound (π v) (π (dst N c)) (π (src N c)) (stepCost N c) (walkCost N cs) (subst (λ x. π x ≡ π (dst N c)) (w .2) refl) (p c (w .0) (w .1)) (potential-least N f π p u (src N c) cs h (w .3))
-  where
-    bound : (a b d s t : ℤ) → a ≡ b → b ≤ℤ (d +ℤ s) → d ≤ℤ t → a ≤ℤ (s +ℤ t)
-    bound a b d s t e g k = given3 e g k (simp lin (omega arith))
-
--- the same as tests that compute: potentials ps, and for each node a walk that costs as much as its potential
+-- as tests that compute: potentials ps, and for each node a walk that costs as much as its potential
 abbrev pub isWalk : Net → List ℕ → ℕ → List ℕ → Bool
 isWalk N f v [] = true
 isWalk N f v (c ∷ cs) = ltb c (codes N) && (usable N f c && (eqb (dst N c) v && isWalk N f (src N c) cs))
@@ -79,7 +71,7 @@ module _ (N : Net) (f : List ℕ) (ps : List ℤ) (walks : List (List ℕ)) wher
     starts = at v h .starts;
     leads = at v h .leads;
     costs = at v h .costs;
-    least = λ u cs k w. potential-least N f (λ u. getD ps u (pos 0)) feasible u v cs (at u k .low) w;
+    least = λ u cs k w. given2 (rise N (usable N f) (λ u. getD ps u (pos 0)) feasible u v cs w) (at u k .low) (simp lin (omega arith));
   }
     where
       at : (u : ℕ) → u < nodes N → Reached u

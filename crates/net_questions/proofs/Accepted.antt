@@ -23,7 +23,7 @@ use Rattle.net_questions.specs.declared.ArcQuestion.the-variants.{Ends, 
 use Rattle.net_questions.proofs.Rows.{FairNodes, FairArcs, fair-nodes, fair-arcs, arcs-of}
 
 -- every question was answered with yes
-pub record Passed (bs xs : List ℕ) : Type 0 where
+pub record AllPassed (bs xs : List ℕ) : Type 0 where
   pub nodes-fair : FairNodes (length bs)
   pub arcs-fair : FairArcs (length xs)
   pub ends : all (passes Ends (lastNodeNumber bs)) (rows (ints xs)) ≡ true
@@ -36,7 +36,7 @@ asked : (b : Bool) (k n : ℕ) → ask b (suc k) n ≡ 0 → (b ≡ true) × (n 
 asked true k n e = (refl, e)
 asked false k n e = absurd (omega arith)
 
-pub passed : (bs xs : List ℕ) → networkRefusal bs xs ≡ 0 → Passed bs xs
+pub passed : (bs xs : List ℕ) → networkRefusal bs xs ≡ 0 → AllPassed bs xs
 passed bs xs e =
     let (a, e2) = asked (fairNodes (length bs)) 0 _ e in
     let (b, e3) = asked (fairArcs (length xs)) 1 _ e2 in
@@ -67,7 +67,7 @@ pub record GoodArc (last : ℤ) (r : Arc) : Type 0 where
   pub up-to : r .up ≤ℤ pos 1000000
   pub cost-in : Inside (negsuc 999999) (pos 1000000) (r .cost)
 
-module _ (bs xs : List ℕ) (ok : Passed bs xs) where
+module _ (bs xs : List ℕ) (ok : AllPassed bs xs) where
   pub good-arc : (a : ℕ) → a < length (rows (ints xs)) → GoodArc (lastNodeNumber bs) (getD (rows (ints xs)) a noArc)
   good-arc a h =
       let r = getD (rows (ints xs)) a noArc in

@@ -4,28 +4,13 @@ use mathlib.Core.Logic.{_≢_}
 use mathlib.Core.List.{List}
 use Prim.Native.Nat.{ℕ, _<_}
 use native.Mathlib.Omega.{arith}
-use native.Mathlib.Decide.{ℕ-discrete}
 use lib.ListN.{length, set}
 use lib.Seq.{getD-set-same, getD-set-other}
-use lib.IntN.{ℤ, pos, negℤ, _+ℤ_, _-ℤ_, _*ℤ_}
-use Rattle.laws.specs.Divergence.{at, at-same, at-other, ends}
+use lib.IntN.{ℤ, pos, _+ℤ_, _-ℤ_, _*ℤ_}
+use Rattle.laws.specs.Divergence.{at, ends, at-sub}
 use Rattle.laws.specs.Linear.{lin, ring, given2}
 use Rattle.laws.specs.Sum.{sum-change}
 use Rattle.net_model.specs.Network.{Net, arcs, tail, head, cost, on, netOut, costOf}
-
-at-sub : (u v : ℕ) (x y : ℤ) → at u v (x -ℤ y) ≡ at u v x -ℤ at u v y
-at-sub u v x y = go (ℕ-discrete u v)
-  where
-    go : Dec (u ≡ v) → at u v (x -ℤ y) ≡ at u v x -ℤ at u v y
-    go (yes q) = rw (at-same q (x -ℤ y), at-same q x, at-same q y)
-    go (no q) = rw (at-other q (x -ℤ y), at-other q x, at-other q y)
-
-pub at-neg : (u v : ℕ) (x : ℤ) → at u v (negℤ x) ≡ negℤ (at u v x)
-at-neg u v x = go (ℕ-discrete u v)
-  where
-    go : Dec (u ≡ v) → at u v (negℤ x) ≡ negℤ (at u v x)
-    go (yes q) = rw (at-same q (negℤ x), at-same q x)
-    go (no q) = rw (at-other q (negℤ x), at-other q x)
 
 ends-change : (m : ℕ) (e : ℕ → ℕ) (f g : ℕ → ℤ) (j v : ℕ) (z : ℤ) → j < m → ((i : ℕ) → i < m → i ≢ j → g i ≡ f i) → g j -ℤ f j ≡ z
     → ends m e g v ≡ ends m e f v +ℤ at (e j) v z

@@ -14,6 +14,7 @@ use Rattle.net_model.proofs.FullList.{full-member, full-ascending}
 use Rattle.net_model.specs.FullList.{firstFlow, nextFlow, fullList}
 use Rattle.net_model.specs.Network.{Net, arcs, LeastCost, WellFormed}
 use Rattle.net_theory.specs.Order.{Agree, MinimalFrom, TopFrom}
+use Rattle.net_theory.specs.Detours.{Moved}
 
 take-agree : (x y : List ℕ) (k : ℕ) → take k x ≡ take k y → Agree k x y
 take-agree x y k e a h = sym (getD-take k x a 0 h) ∙ ap (λ l. getD l a 0) e ∙ getD-take k y a 0 h
@@ -23,13 +24,6 @@ agree-take zero x y p q h = refl
 agree-take (suc k) [] y p q h = absurd (omega arith)
 agree-take (suc k) (a ∷ x) [] p q h = absurd (omega arith)
 agree-take (suc k) (a ∷ x) (b ∷ y) p q h = cc (h 0 (omega arith), agree-take k x y (omega arith) (omega arith) (λ i l. h (suc i) (omega arith)))
-
--- f′ follows f: one more on arc k, the same before it
-pub record Raised (N : Net) (f f′ : List ℕ) (k : ℕ) : Type 0 where
-  pub in-range : k < arcs N
-  pub least-cost : LeastCost N f′
-  pub same-before : Agree k f f′
-  pub one-more : getD f′ k 0 ≡ suc (getD f k 0)
 
 module _ (N : Net) (ok : WellFormed N) where
   minimal-from : (k : ℕ) (f : List ℕ) → LeastCost N f → MinimalFrom N k f → (g : List ℕ) → LeastCost N g → Agree k f g → ¬ (g <lex f)
@@ -51,20 +45,20 @@ module _ (N : Net) (ok : WellFormed N) where
       first-is _<lex_ lex-irrefl lex-trans (fullList N) (full-ascending N ok) f (full-member N ok f .1 lf)
       (λ z m. minimal-from 0 f lf mn z (full-member N ok z .0 m) (λ a h. omega arith))
 
-  raised-greater : (f f′ : List ℕ) (k : ℕ) → LeastCost N f → Raised N f f′ k → f <lex f′
-  raised-greater f f′ k lf r =
+  raised-greater : (f f′ : List ℕ) (k : ℕ) → k < arcs N → LeastCost N f → Moved N f f′ k (suc (getD f k 0)) → f <lex f′
+  raised-greater f f′ k l lf r =
       lex-first-difference f f′ .1 (
         k,
         record {
-          in-left = omega (arith, lf .flow .all-arcs, r .in-range);
-          in-right = omega (arith, r .least-cost .flow .all-arcs, r .in-range);
-          equal-before = agree-take k f f′ (omega (arith, lf .flow .all-arcs, r .in-range)) (omega (arith, r .least-cost .flow .all-arcs, r .in-range)) (r .same-before);
-          smaller = omega (arith, r .one-more);
+          in-left = omega (arith, lf .flow .all-arcs);
+          in-right = omega (arith, r .least-cost .flow .all-arcs);
+          equal-before = agree-take k f f′ (omega (arith, lf .flow .all-arcs)) (omega (arith, r .least-cost .flow .all-arcs)) (r .same-before);
+          smaller = omega (arith, r .at-k);
         },
       )
 
   -- no least-cost flow lies between
-  none-between : (f f′ : List ℕ) (k : ℕ) → LeastCost N f → Raised N f f′ k → TopFrom N (suc k) f → MinimalFrom N (suc k) f′
+  none-between : (f f′ : List ℕ) (k : ℕ) → LeastCost N f → Moved N f f′ k (suc (getD f k 0)) → TopFrom N (suc k) f → MinimalFrom N (suc k) f′
       → (z : List ℕ) → LeastCost N z → f <lex z → ¬ (z <lex f′)
   none-between f f′ k lf r top mn z lz l l′ = go (lex-first-difference f z .0 l) (lex-first-difference z f′ .0 l′)
     where
@@ -93,13 +87,13 @@ module _ (N : Net) (ok : WellFormed N) where
           step (no h) (no q) (no s) (no t) u =
               let p : j ≡ k = omega arith in
               let w : i ≡ k = omega arith in
-              omega (arith, rw p at (d .smaller), rw w at (e .smaller), r .one-more)
+              omega (arith, rw p at (d .smaller), rw w at (e .smaller), r .at-k)
 
-  pub next-is : (f f′ : List ℕ) (k : ℕ) → LeastCost N f → Raised N f f′ k → TopFrom N (suc k) f → MinimalFrom N (suc k) f′
+  pub next-is : (f f′ : List ℕ) (k : ℕ) → k < arcs N → LeastCost N f → Moved N f f′ k (suc (getD f k 0)) → TopFrom N (suc k) f → MinimalFrom N (suc k) f′
       → nextFlow N f ≡ some f′
-  next-is f f′ k lf r top mn =
+  next-is f f′ k l lf r top mn =
       after-is _<lex_ lex-irrefl lex-trans same-list (fullList N) (full-ascending N ok) f f′
-      (full-member N ok f .1 lf) (full-member N ok f′ .1 (r .least-cost)) (raised-greater f f′ k lf r)
+      (full-member N ok f .1 lf) (full-member N ok f′ .1 (r .least-cost)) (raised-greater f f′ k l lf r)
       (λ z m. none-between f f′ k lf r top mn z (full-member N ok z .0 m))
 
   pub next-none : (f : List ℕ) → LeastCost N f → TopFrom N 0 f → nextFlow N f ≡ none

@@ -10,7 +10,7 @@ use lib.Dec.{eqb}
 use lib.ListN.{getD, length-set}
 use lib.Seq.{getD-set-same, getD-set-other}
 use lib.IntN.{ℤ, pos, negℤ, _+ℤ_, _-ℤ_, _*ℤ_}
-use Rattle.laws.specs.Divergence.{at}
+use Rattle.laws.specs.Divergence.{at, at-neg}
 use Rattle.laws.specs.Equality.{test-same, test-differ}
 use Rattle.laws.specs.Linear.{lin, ring, given, given2}
 use Rattle.laws.specs.Members.{Every, every-map2}
@@ -21,7 +21,7 @@ use Rattle.net_theory.specs.Bounds.{InBounds}
 use Rattle.net_theory.specs.Push.{pushOne}
 use Rattle.net_theory.proofs.Codes.{arc-in}
 use Rattle.net_theory.proofs.ResidualCapacity.{hasCapacity-forth, hasCapacity-back, hasCapacity-both}
-use Rattle.net_theory.proofs.Change.{at-neg, set-netOut, set-cost}
+use Rattle.net_theory.proofs.Change.{set-netOut, set-cost}
 
 pos-add : (x δ : ℕ) → pos (x + δ) ≡ pos x +ℤ pos δ
 pos-add x δ = refl

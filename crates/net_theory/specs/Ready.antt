@@ -1,4 +1,4 @@
--- What searches over free arcs, and pushing along a path, ask of the lists that they read.
+-- What searches over free arcs, and pushing along a walk, ask of the lists that they read.
 use mathlib.Core.Path.{_≡_}
 use mathlib.Core.List.{List}
 use mathlib.Core.Bool.{Bool}

@@ -69,9 +69,9 @@ mapped q f s r =
     record { absent = λ z. then-fails q (λ x. give (f x)) s (r .absent z); stands = λ z. then-reads q (λ x. give (f x)) s (r .stands z); within = r .within }
 
 -- all is read
-pub ends : {A : Type 0} {a : A} {p : Parsed A} {s : List ℕ} {n : ℕ} → From p (give a) s n → 0 < n → ReadsFront s p n a
+pub all-read : {A : Type 0} {a : A} {p : Parsed A} {s : List ℕ} {n : ℕ} → From p (give a) s n → 0 < n → ReadsFront s p n a
 unfolding give
-ends f h = present (f .is) h (f .within)
+all-read f h = present (f .is) h (f .within)
 
 pub begin : {A : Type 0} (k : Reader A) (s : List ℕ) → From (k s) k s 0
 begin k s = record { is = refl; within = omega arith }

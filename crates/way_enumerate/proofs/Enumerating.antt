@@ -50,9 +50,9 @@ on-least s h f e = go (s .place) refl
         let l : stateFlow s ≡ f = cc in
         subst (LeastCost (stateNet s)) l (h .marked q .marks .least)
 
--- the network walked is the book's
-pub walked : (b : Book) (s : WayEnumerator) → Enumerates b s → stateNet (s .flows) ≡ bookNet b
-walked b s h = ap netIn (h .net-is) ∙ struct-of (bookNet b) (well-formed b)
+-- the network of an enumerator is the book's
+pub net-of-book : (b : Book) (s : WayEnumerator) → Enumerates b s → stateNet (s .flows) ≡ bookNet b
+net-of-book b s h = ap netIn (h .net-is) ∙ struct-of (bookNet b) (well-formed b)
 
 -- the cost that a state holds is that of its way
 pub cost-held : (b : Book) (s : WayEnumerator) → Enumerates b s → s .flows .cost ≡ wayItemCost b (wayAt b s)
@@ -61,8 +61,8 @@ cost-held b s enumerates = enumerates .stands .cost-is ∙ go (itemOf (s .flows)
     go : (o : Option (List ℕ)) → itemOf (s .flows) ≡ o → flows.itemCost (stateNet (s .flows)) o ≡ wayItemCost b (mapOption (wayOf b) o)
     go none e = refl
     go (some f) e =
-        ap (λ N. costOf N f) (walked b s enumerates)
-        ∙ cost-read b f (subst (λ N. LeastCost N f) (walked b s enumerates) (on-least (s .flows) (enumerates .stands) f e))
+        ap (λ N. costOf N f) (net-of-book b s enumerates)
+        ∙ cost-read b f (subst (λ N. LeastCost N f) (net-of-book b s enumerates) (on-least (s .flows) (enumerates .stands) f e))
 
 placed : (b : Book) (p : Place) (o : Option (List ℕ)) → placeAfter p o ≡ placeAfter p (mapOption (wayOf b) o)
 placed b p none = refl
@@ -98,8 +98,8 @@ follows b s enumerates = go (itemOf (s .flows)) refl
     go : (o : Option (List ℕ)) → itemOf (s .flows) ≡ o → mapOption (wayOf b) (flows.itemAfter (stateNet (s .flows)) o) ≡ wayAfter b (mapOption (wayOf b) o)
     go none e = refl
     go (some f) e =
-        ap (λ N. mapOption (wayOf b) (flows.itemAfter N (some f))) (walked b s enumerates)
-        ∙ next-read b f (subst (λ N. LeastCost N f) (walked b s enumerates) (on-least (s .flows) (enumerates .stands) f e))
+        ap (λ N. mapOption (wayOf b) (flows.itemAfter N (some f))) (net-of-book b s enumerates)
+        ∙ next-read b f (subst (λ N. LeastCost N f) (net-of-book b s enumerates) (on-least (s .flows) (enumerates .stands) f e))
 
 -- an enumerator of the network made of a checked book
 module _ (k : CheckedBook) (N : Network) (makes : MakesNet k N) where
@@ -125,14 +125,14 @@ module _ (k : CheckedBook) (N : Network) (makes : MakesNet k N) where
     }
 
     -- on no way yet
-    pub begins : r .place ≡ Start → At b Start none (record { flows = r; entries = k .count })
-    begins place = at-way b (record { flows = r; entries = k .count }) enumerates Start none (ap (λ p. itemAt p (stateFlow r)) place) place
+    pub on-start : r .place ≡ Start → At b Start none (record { flows = r; entries = k .count })
+    on-start place = at-way b (record { flows = r; entries = k .count }) enumerates Start none (ap (λ p. itemAt p (stateFlow r)) place) place
 
     -- on the way w, if it is a least-cost way; `flow` is what `flow_of` lays
     pub resumes : (w flow : List ℕ) → length w ≡ k .count
         → LaysFlow (k .count) (k .players) (take (N .arcs) (N .tails)) (take (N .arcs) (N .heads)) w flow
         → flows.Resumes (netIn N) (take (N .arcs) flow) r → ResumesIn b w (record { flows = r; entries = k .count })
-    resumes w flow len lays step = record { on = on; off = λ n. begins (step .place-is ∙ ap (placeAfter Start) (no-item (netIn N) ok (take (N .arcs) flow) (λ l. n (is-way l)))) }
+    resumes w flow len lays step = record { on = on; off = λ n. on-start (step .place-is ∙ ap (placeAfter Start) (no-item (netIn N) ok (take (N .arcs) flow) (λ l. n (is-way l)))) }
       where
         made : netIn N ≡ bookNet b
         made = made-net b k h N makes
@@ -176,11 +176,11 @@ module _ (net : Network) (ok : Sound net) where
   in-heads = room (net .heads) (ok .accepted .well-formed .heads-len ∙ sym (ok .arcs-held))
 
 ends : (b : Book) (s : WayEnumerator) → Enumerates b s → ArcEnds b (s .entries) (take (s .flows .net .arcs) (s .flows .net .tails)) (take (s .flows .net .arcs) (s .flows .net .heads))
-ends b s h = rw (h .entries-are) (ends-of b (h .limits) (s .flows .net) (walked b s h))
+ends b s h = rw (h .entries-are) (ends-of b (h .limits) (s .flows .net) (net-of-book b s h))
 
 -- the item that it stands on is a flow of the book's network
 pub on-flow : (b : Book) (s : WayEnumerator) → Enumerates b s → s .flows .place ≡ Item → IsFlow (bookNet b) (stateFlow (s .flows))
-on-flow b s h on = subst (λ N. LeastCost N (stateFlow (s .flows))) (walked b s h) (on-least (s .flows) (h .stands) (stateFlow (s .flows)) (ap (λ p. itemAt p (stateFlow (s .flows))) on)) .flow
+on-flow b s h on = subst (λ N. LeastCost N (stateFlow (s .flows))) (net-of-book b s h) (on-least (s .flows) (h .stands) (stateFlow (s .flows)) (ap (λ p. itemAt p (stateFlow (s .flows))) on)) .flow
 
 pub has-flow : (s : WayEnumerator) → EnumeratesSome s → s .flows .place ≡ Item → HasFlow (s .entries) (take (s .flows .net .arcs) (s .flows .net .tails)) (take (s .flows .net .arcs) (s .flows .net .heads)) (stateFlow (s .flows))
 has-flow s h on =

@@ -1,4 +1,4 @@
--- Lines of a book's network read as ways: the first, the next, and the cost.
+-- Items of a book's network read as ways: the first, the next, and the cost.
 use mathlib.Core.Path.{_≡_, refl, sym, ap, _∙_}
 use mathlib.Core.Logic.{inr}
 use mathlib.Core.List.{List, [], _∷_}

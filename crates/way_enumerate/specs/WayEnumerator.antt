@@ -22,7 +22,7 @@ use Rattle.way_theory.specs.WayFlow.{wayOf}
 use Rattle.way_network.specs.Held.{Holds}
 use Rattle.way_enumerate.specs.declared.WayEnumerator.{WayEnumerator}
 
--- s enumerates through the ways of b, by the network of b
+-- s enumerates the ways of b, by the network of b
 pub record Enumerates (b : Book) (s : WayEnumerator) : Type 0 where
   pub limits : WithinLimits b
   pub entries-are : s .entries ≡ size b
@@ -47,14 +47,14 @@ abbrev pub wayAfter : Book → Option (List ℕ) → Option (List ℕ)
 wayAfter b none = none
 wayAfter b (some w) = nextWay b w
 
--- r enumerates through the ways of b and stands on o, with the word p where that is none
+-- r enumerates the ways of b and stands on o, with the word p where that is none
 pub record At (b : Book) (p : Place) (o : Option (List ℕ)) (r : WayEnumerator) : Type 0 where
   pub enumerates : Enumerates b r
   pub way-is : wayAt b r ≡ o
   pub place-is : r .flows .place ≡ placeAfter p o
   pub cost-is : r .flows .cost ≡ wayItemCost b o
 
--- what the functions promise, of each book that the checked book holds or that is walked
+-- what the functions promise, of each book that the checked book holds, or whose ways are enumerated
 pub record WayStarts (c : CheckedBook) (r : WayEnumerator) : Type 0 where
   pub each : (b : Book) → Holds b c → At b Start none r
 

@@ -18,8 +18,8 @@ use Rattle.way_theory.specs.BookNet.{BookArc, sources, joinArc, joinArcs, bookA
 use Rattle.way_theory.specs.WayFlow.{oneIfSame, marked, joinFlow, flowOf}
 use Rattle.way_theory.proofs.OneIfSame.{same-small}
 use Rattle.way_theory.proofs.Blocks.{joinFlow-length}
-use Rattle.way_theory.proofs.Rows.{rows, rows-length, in-first, in-second, in-last}
-use Rattle.way_theory.proofs.Nodes.{noArc, count-arcs}
+use Rattle.way_theory.proofs.Rows.{behindJoins, rows-length, in-first, in-second, in-one-more}
+use Rattle.way_theory.proofs.Nodes.{noBookArc, count-arcs}
 use Rattle.way_theory.proofs.Size.{arcs-few}
 use Rattle.way_flow.specs.Arcs.{ArcEnds, HasEnds, FlowAt, LaysFlow}
 use Rattle.way_flow.proofs.Reading.{joins-count}
@@ -81,7 +81,7 @@ module _ (e : ℕ) (tails heads : List ℕ) (b : Book) (h : ArcEnds b e tails he
 
   -- what stands behind the joins
   abbrev behind : List ℕ
-  behind = rows (λ j. 1) (λ j. 1 - times j w) (b .players - times 0 w) (size b)
+  behind = behindJoins (λ j. 1) (λ j. 1 - times j w) (b .players - times 0 w) (size b)
 
   pub flow-long : length (flowOf b w) ≡ length tails
   flow-long = omega (arith, length-append (joinFlow b 1 w) behind, rows-length (λ j. 1) (λ j. 1 - times j w) (b .players - times 0 w) (size b), joined-all, h .entries-are)
@@ -93,10 +93,10 @@ module _ (e : ℕ) (tails heads : List ℕ) (b : Book) (h : ArcEnds b e tails he
       let m : k < length (joinArcs b (size b) 1) = omega (arith, joined-length) in
       List·getD-append (joinFlow b 1 w) _ 0 k n
       ∙ ap (λ l. getD l k 0) (sym (joins-carry b w 1 w (omega arith) refl (size b) (sym (len ∙ h .entries-are))))
-      ∙ map-at (carries b w) (joinArcs b (size b) 1) k noArc 0 m
-      ∙ ap (λ a. carries b w a) (sym (List·getD-append (joinArcs b (size b) 1) _ noArc k m))
-      ∙ sym (ap₂ (λ t d. oneIfSame (t / 2) (getD w ((d - 1) / 2) 0)) (ap (λ l. getD l k 0) (h .tails-are) ∙ List·getD-map (λ a. a .tail) (bookArcs b) k noArc)
-      (ap (λ l. getD l k 0) (h .heads-are) ∙ List·getD-map (λ a. a .head) (bookArcs b) k noArc))
+      ∙ map-at (carries b w) (joinArcs b (size b) 1) k noBookArc 0 m
+      ∙ ap (λ a. carries b w a) (sym (List·getD-append (joinArcs b (size b) 1) _ noBookArc k m))
+      ∙ sym (ap₂ (λ t d. oneIfSame (t / 2) (getD w ((d - 1) / 2) 0)) (ap (λ l. getD l k 0) (h .tails-are) ∙ List·getD-map (λ a. a .tail) (bookArcs b) k noBookArc)
+      (ap (λ l. getD l k 0) (h .heads-are) ∙ List·getD-map (λ a. a .head) (bookArcs b) k noBookArc))
 
   module _ (k row : ℕ) (at : k ≡ length tails - (2 * e + 1) + row) where
     shift : getD (flowOf b w) k 0 ≡ getD behind row 0
@@ -111,7 +111,7 @@ module _ (e : ℕ) (tails heads : List ℕ) (b : Book) (h : ArcEnds b e tails he
         ∙ ap (λ n. 1 - times (row - n + 1) w) (sym (h .entries-are))
 
     pub on-last : row ≡ 2 * e → getD (flowOf b w) k 0 ≡ b .players - times 0 w
-    on-last l = shift ∙ in-last (λ j. 1) (λ j. 1 - times j w) (b .players - times 0 w) (size b) row 0 (omega (arith, h .entries-are))
+    on-last l = shift ∙ in-one-more (λ j. 1) (λ j. 1 - times j w) (b .players - times 0 w) (size b) row 0 (omega (arith, h .entries-are))
 
 -- the numbers of the first k arcs are laid
 module _ (e players : ℕ) (tails heads w : List ℕ) where

@@ -20,7 +20,7 @@ use Rattle.way_theory.specs.BookNet.{BookArc, sources, joinArc, joinArcs, bookA
 use Rattle.way_theory.specs.WayFlow.{oneIfSame, marked, joinFlow}
 use Rattle.way_theory.proofs.OneIfSame.{same-one, other-none, Above}
 use Rattle.way_theory.proofs.Blocks.{sources-fall, source, joinFlow-length, joins-member}
-use Rattle.way_theory.proofs.Nodes.{noArc, arcs-parts}
+use Rattle.way_theory.proofs.Nodes.{noBookArc, arcs-parts}
 use Rattle.way_theory.proofs.Arcs.{well-formed}
 use Rattle.way_theory.proofs.Size.{nodes-few}
 use Rattle.way_flow.specs.Arcs.{ArcEnds, ReadsWay}
@@ -119,9 +119,9 @@ module _ (e : ℕ) (tails heads : List ℕ) where
   pub head-at : (b : Book) → ArcEnds b e tails heads → (k : ℕ) → k < length tails - (2 * e + 1) → (1 ≤ getD heads k 0) × ((getD heads k 0 - 1) / 2 < e)
   head-at b h k l =
       let n : k < length (joinArcs b (size b) 1) = omega (arith, joins-count b h) in
-      let (i, j, s, t, u, q) = joins-member b (size b) 1 (getD (joinArcs b (size b) 1) k noArc) (getD-member (joinArcs b (size b) 1) k noArc n) in
+      let (i, j, s, t, u, q) = joins-member b (size b) 1 (getD (joinArcs b (size b) 1) k noBookArc) (getD-member (joinArcs b (size b) 1) k noBookArc n) in
       let x : getD heads k 0 ≡ 2 * j - 1 =
-      ap (λ l. getD l k 0) (h .heads-are) ∙ List·getD-map (λ a. a .head) (bookArcs b) k noArc ∙ ap (λ a. a .head) (List·getD-append (joinArcs b (size b) 1) _ noArc k n ∙ q) in
+      ap (λ l. getD l k 0) (h .heads-are) ∙ List·getD-map (λ a. a .head) (bookArcs b) k noBookArc ∙ ap (λ a. a .head) (List·getD-append (joinArcs b (size b) 1) _ noBookArc k n ∙ q) in
       omega (arith, h .entries-are)
 
   pub tail-at : (b : Book) → ArcEnds b e tails heads → (k : ℕ) → k < length tails → getD tails k 0 ≤ 57

@@ -21,7 +21,7 @@ use Rattle.way_theory.specs.FullWays.{fullWays, firstWay, nextWay}
 use Rattle.way_theory.proofs.FullWays.{full-ways-ascending}
 use Rattle.way_list.specs.WayListing.{wayLines, lastLine}
 
-pub record Progress (b : Book) (before : List ℕ) (at : ℕ) (o : Option (List ℕ)) (out : List ℕ) (k n : ℕ) : Type 0 where
+pub record ListedSoFar (b : Book) (before : List ℕ) (at : ℕ) (o : Option (List ℕ)) (out : List ℕ) (k n : ℕ) : Type 0 where
   pub done : List (List ℕ)
   pub left : List (List ℕ)
   pub whole : done ++ left ≡ fullWays b
@@ -40,14 +40,14 @@ lines-more (v ∷ l) w = ap (λ r. wayLine v ++ r) (lines-more l w) ∙ sym (app
 apart : (b : Book) → Apart (λ (w : List ℕ). w) (fullWays b)
 apart b = ascending-apart _<lex_ lex-irrefl lex-trans (fullWays b) (full-ways-ascending b)
 
-pub starts : (b : Book) (before : List ℕ) (at : ℕ) (o : Option (List ℕ)) → o ≡ firstWay b → at ≤ length before → Progress b before at o before at 0
+pub starts : (b : Book) (before : List ℕ) (at : ℕ) (o : Option (List ℕ)) → o ≡ firstWay b → at ≤ length before → ListedSoFar b before at o before at 0
 starts b before at o e h = record { done = []; left = fullWays b; whole = refl; count = refl; stands = e; written = appended-none before at h }
 
 module _ (b : Book) (before : List ℕ) (at : ℕ) (out : List ℕ) (k n : ℕ) where
-  pub goes-on : (w : List ℕ) → Progress b before at (some w) out k n → (out′ : List ℕ) (k′ : ℕ) → Appended out k (wayLine w) out′ k′ → Progress b before at (nextWay b w) out′ k′ (n + 1)
+  pub goes-on : (w : List ℕ) → ListedSoFar b before at (some w) out k n → (out′ : List ℕ) (k′ : ℕ) → Appended out k (wayLine w) out′ k′ → ListedSoFar b before at (nextWay b w) out′ k′ (n + 1)
   goes-on w p out′ k′ a = go (p .left) (p .whole) (p .stands)
     where
-      go : (l : List (List ℕ)) → p .done ++ l ≡ fullWays b → some w ≡ first? l → Progress b before at (nextWay b w) out′ k′ (n + 1)
+      go : (l : List (List ℕ)) → p .done ++ l ≡ fullWays b → some w ≡ first? l → ListedSoFar b before at (nextWay b w) out′ k′ (n + 1)
       go [] e s = absurd (none-some w (sym s))
       go (v ∷ l) e s =
           let q : w ≡ v = cc in
@@ -62,7 +62,7 @@ module _ (b : Book) (before : List ℕ) (at : ℕ) (out : List ℕ) (k n : ℕ) 
           }
 
   -- a way is left after 1,000
-  pub ends-more : (w : List ℕ) → n ≡ 1000 → Progress b before at (some w) out k n → (out′ : List ℕ) (r : ℕ) → Appended out k moreLine out′ r → Appended before at (allLines b) out′ r
+  pub ends-more : (w : List ℕ) → n ≡ 1000 → ListedSoFar b before at (some w) out k n → (out′ : List ℕ) (r : ℕ) → Appended out k moreLine out′ r → Appended before at (allLines b) out′ r
   ends-more w h p out′ r a = go (p .left) (p .whole) (p .stands)
     where
       go : (l : List (List ℕ)) → p .done ++ l ≡ fullWays b → some w ≡ first? l → Appended before at (allLines b) out′ r
@@ -76,8 +76,8 @@ module _ (b : Book) (before : List ℕ) (at : ℕ) (out : List ℕ) (k n : ℕ) 
           same = rw (lt-leb (length (fullWays b)) 1000 long, sym e, take-at (p .done) (v ∷ l) 1000 (p .count ∙ h)) refl
 
   -- no way is left
-  pub ends : n ≤ 1000 → Progress b before at none out k n → (out′ : List ℕ) (r : ℕ) → Appended out k (endLine n) out′ r → Appended before at (allLines b) out′ r
-  ends h p out′ r a = go (p .left) (p .whole) (p .stands)
+  pub ends-whole : n ≤ 1000 → ListedSoFar b before at none out k n → (out′ : List ℕ) (r : ℕ) → Appended out k (endLine n) out′ r → Appended before at (allLines b) out′ r
+  ends-whole h p out′ r a = go (p .left) (p .whole) (p .stands)
     where
       go : (l : List (List ℕ)) → p .done ++ l ≡ fullWays b → none ≡ first? l → Appended before at (allLines b) out′ r
       go (v ∷ l) e s = absurd (none-some v s)

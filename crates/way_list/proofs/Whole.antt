@@ -23,7 +23,7 @@ use Rattle.way_enumerate.specs.declared.WayEnumerator.{WayEnumerator}
 use Rattle.way_enumerate.proofs.Enumerating.{cost-held}
 use Rattle.way_list.specs.WayListing.{wayLines, lastLine, listWays, waysText}
 use Rattle.way_list.proofs.Progress.{allLines}
-use Rattle.way_list.proofs.Standing.{shown, on-way, shown-few}
+use Rattle.way_list.proofs.Standing.{standingWay, on-way, standing-few}
 
 some-text : (cost : List ℕ → ℕ) (l : List (List ℕ)) (w : List ℕ) → first? l ≡ some w → costLine (cost w) ++ (wayLines (take 1000 l) ++ lastLine (counted 1000 (length l))) ≡ listWays cost l
 some-text cost [] w e = absurd (none-some w e)
@@ -41,8 +41,8 @@ cost-small : (b : Book) → WithinLimits b → (w : List ℕ) → length w ≤ 2
 cost-small b ok w h = omega (arith, arc-cost-sum b 1 w, along-most (λ p k. arcCost b p k) (arc-cost-small b ok) 1 w)
 
 module _ (b : Book) (s : WayEnumerator) (on : s .flows .place ≡ Item) (enumerates : Enumerates b s) where
-  pub cost-is : s .flows .cost ≡ pos (wayCost b (shown b s))
+  pub cost-is : s .flows .cost ≡ pos (wayCost b (standingWay b s))
   cost-is = cost-held b s enumerates ∙ ap (wayItemCost b) (on-way b s on)
 
-  pub cost-few : wayCost b (shown b s) ≤ 28000000
-  cost-few = cost-small b (enumerates .limits) (shown b s) (shown-few b s on enumerates)
+  pub cost-few : wayCost b (standingWay b s) ≤ 28000000
+  cost-few = cost-small b (enumerates .limits) (standingWay b s) (standing-few b s on enumerates)

@@ -40,7 +40,7 @@ pub record OnFirst (s : WayEnumerator) : Type 0 where
   pub first : wayAt book s ≡ firstWay book
   pub on : s .flows .place ≡ Item
 
--- what the functions write, of each book that is walked: the line of the way that the enumerator stands on
+-- what the functions write, of each book whose ways are enumerated: the line of the way that the enumerator stands on
 pub record ListsOne (s : WayEnumerator) (before : List ℕ) (at : ℕ) (after : List ℕ) (r : ℕ) : Type 0 where
   pub each : (b : Book) → Enumerates b s → (w : List ℕ) → wayAt b s ≡ some w → Appended before at (wayLine w) after r
 

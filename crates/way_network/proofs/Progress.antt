@@ -14,7 +14,7 @@ use Rattle.laws.specs.Suffix.{drop-front}
 use Rattle.book_form.specs.Book.{Book}
 use Rattle.way_theory.specs.Ways.{predecessorCost, given?, orNone, permits, oneIf}
 use Rattle.way_theory.specs.BookNet.{BookArc, entryArc, down, sources, arcCost, joinArc}
-use Rattle.way_theory.proofs.Nodes.{noArc}
+use Rattle.way_theory.proofs.Nodes.{noBookArc}
 use Rattle.way_theory.proofs.Rows.{rows-length}
 use Rattle.way_theory.proofs.Accepted.{arc-cost-small}
 use Rattle.way_joins.specs.declared.Join.{Join}
@@ -33,13 +33,13 @@ put-long A m a h = record {
 
 pub progress-put : (l : List BookArc) (A : Arrays) (m : ℕ) (a : BookArc) (rest : List BookArc) → length l ≤ 512 → Progress l A m (a ∷ rest) → Progress l (putArc A m (arcOf a)) (m + 1) rest
 progress-put l A m a rest few p =
-    let n = drop-front noArc l m a rest (p .is-ahead) in
+    let n = drop-front noBookArc l m a rest (p .is-ahead) in
     let k = n .inside in
     record {
       upto = omega arith;
-      tails-are = filled-more (λ a. a .tail) l 512 0 noArc m (A .tails) (a .tail) (p .tails-are) k (omega arith) (ap (λ a. a .tail) (sym (n .here)));
-      heads-are = filled-more (λ a. a .head) l 512 0 noArc m (A .heads) (a .head) (p .heads-are) k (omega arith) (ap (λ a. a .head) (sym (n .here)));
-      costs-are = filled-more (λ a. pos (a .cost)) l 512 (pos 0) noArc m (A .costs) (pos (a .cost)) (p .costs-are) k (omega arith) (ap (λ a. pos (a .cost)) (sym (n .here)));
+      tails-are = filled-more (λ a. a .tail) l 512 0 noBookArc m (A .tails) (a .tail) (p .tails-are) k (omega arith) (ap (λ a. a .tail) (sym (n .here)));
+      heads-are = filled-more (λ a. a .head) l 512 0 noBookArc m (A .heads) (a .head) (p .heads-are) k (omega arith) (ap (λ a. a .head) (sym (n .here)));
+      costs-are = filled-more (λ a. pos (a .cost)) l 512 (pos 0) noBookArc m (A .costs) (pos (a .cost)) (p .costs-are) k (omega arith) (ap (λ a. pos (a .cost)) (sym (n .here)));
       is-ahead = rw add-one (n .later);
     }
 
@@ -100,14 +100,14 @@ module _ (ticks costs instruments starts finishes : List ℕ) (fee e j : ℕ) wh
   abbrev left : Book → ℕ → List BookArc
   left b i = map (joinArc b j) (keep (λ p. permits b p j) (below i))
 
-  pub record Going (A : Arrays) (m : ℕ) (B : Arrays) (r i : ℕ) : Type 0 where
+  pub record JoinsAhead (A : Arrays) (m : ℕ) (B : Arrays) (r i : ℕ) : Type 0 where
     pub upto : i ≤ e + 1
     pub room : r + i ≤ m + e + 1
     pub long : Long B
     pub each : (b : Book) → Tables b fee e ticks costs instruments starts finishes
         → (l rest : List BookArc) → length l ≤ 512 → Progress l A m (map (joinArc b j) (sources b j) ++ rest) → Progress l B r (left b i ++ rest)
 
-  pub going-start : (A : Arrays) (m : ℕ) → Long A → Going A m A m (e + 1)
+  pub going-start : (A : Arrays) (m : ℕ) → Long A → JoinsAhead A m A m (e + 1)
   going-start A m h = record { upto = omega arith; room = omega arith; long = h; each = λ b T l rest few p. rw (add-one e, T .entries-are) p }
 
   keep-below : (b : Book) (i : ℕ) → keep (λ p. permits b p j) (below (suc i)) ≡ keepIf (given? (predecessorCost b i j)) i (keep (λ p. permits b p j) (below i))
@@ -134,8 +134,8 @@ module _ (ticks costs instruments starts finishes : List ℕ) (fee e j : ℕ) wh
       subst (λ c. Progress l (putArc B r (arcWith (2 * i) (2 * j - 1) c)) (r + 1) (left b i ++ rest)) d
       (progress-put l B r (joinArc b j i) (left b i ++ rest) few (subst (λ k. Progress l B r (map (joinArc b j) k ++ rest)) q p))
 
-  pub going-on : (A : Arrays) (m : ℕ) (B C : Arrays) (r s i : ℕ) (o : Join) → Going A m B r i → 1 ≤ i → Joins fee e ticks costs instruments starts finishes (i - 1) j o
-      → C ≡ putIf o (i - 1) j B r → s ≡ r + oneIf (isJoin o) → Going A m C s (i - 1)
+  pub going-on : (A : Arrays) (m : ℕ) (B C : Arrays) (r s i : ℕ) (o : Join) → JoinsAhead A m B r i → 1 ≤ i → Joins fee e ticks costs instruments starts finishes (i - 1) j o
+      → C ≡ putIf o (i - 1) j B r → s ≡ r + oneIf (isJoin o) → JoinsAhead A m C s (i - 1)
   going-on A m B C r s i o g h w q n = record {
     upto = omega (arith, g .upto);
     room = omega (arith, g .room, small o);
@@ -145,5 +145,5 @@ module _ (ticks costs instruments starts finishes : List ℕ) (fee e j : ℕ) wh
         rw (q, n, w .each b T) (one-join b (i - 1) l rest few B r (subst (λ i. Progress l B r (left b i ++ rest)) u (g .each b T l rest few p)) (predecessorCost b (i - 1) j) refl));
   }
 
-  pub going-done : (A : Arrays) (m : ℕ) (B : Arrays) (r i : ℕ) → Going A m B r i → i ≡ 0 → AddsJoins fee e ticks costs instruments starts finishes j A m B r
+  pub going-done : (A : Arrays) (m : ℕ) (B : Arrays) (r i : ℕ) → JoinsAhead A m B r i → i ≡ 0 → AddsJoins fee e ticks costs instruments starts finishes j A m B r
   going-done A m B r i g z = record { long = g .long; each = λ b T l rest few p. subst (λ i. Progress l B r (left b i ++ rest)) z (g .each b T l rest few p) }

@@ -18,7 +18,7 @@ use Rattle.book_form.specs.WithinLimits.{WithinLimits}
 use Rattle.way_theory.specs.Follow.{size, entryAt, stay, link, arrival, inTime}
 use Rattle.way_theory.specs.Ways.{orNone}
 use Rattle.way_theory.specs.BookNet.{arcCost, bookArcs, bookNet}
-use Rattle.way_theory.proofs.Nodes.{Place, origin, odd, even, last, place, noArc, nodes-count, balance-inner, balance-last}
+use Rattle.way_theory.proofs.Nodes.{NodeKind, origin, odd, even, last, node-kind, noBookArc, nodes-count, balance-inner, balance-last}
 use Rattle.way_theory.proofs.Arcs.{arc-holds, part-holds, well-formed}
 use Rattle.way_theory.proofs.Fair.{cost-high}
 use Rattle.way_theory.proofs.Size.{arcs-few, nodes-few}
@@ -60,7 +60,7 @@ module _ (book : Book) (ok : WithinLimits book) where
   fair-cost : (c : ℕ) → c ≤ 1000000 → (negℤ (pos 1000000) ≤ℤ pos c) × (pos c ≤ℤ pos 1000000)
   fair-cost c h = (simp lin (omega arith), simp lin (omega arith))
 
-  fair-balance : (v : ℕ) → Place (size book) v → (negℤ (pos 1000000000) ≤ℤ balance (bookNet book) v) × (balance (bookNet book) v ≤ℤ pos 1000000000)
+  fair-balance : (v : ℕ) → NodeKind (size book) v → (negℤ (pos 1000000000) ≤ℤ balance (bookNet book) v) × (balance (bookNet book) v ≤ℤ pos 1000000000)
   fair-balance v (origin e) = let p = ok .players-high in rw e (simp lin (omega arith), simp lin (omega arith))
   fair-balance v (odd i h k e) = rw (balance-inner book v (omega arith) (omega arith)) (simp lin (omega arith), simp lin (omega arith))
   fair-balance v (even i h k e) = rw (balance-inner book v (omega arith) (omega arith)) (simp lin (omega arith), simp lin (omega arith))
@@ -73,10 +73,10 @@ module _ (book : Book) (ok : WithinLimits book) where
         some-node = omega (arith, nodes-count book);
         few-nodes = omega (arith, nodes-few book ok);
         few-arcs = omega (arith, arcs-few book ok);
-        low-up = λ a h. (let l = List·getD-map (λ a. a .low) (bookArcs book) a noArc in let u = List·getD-map (λ a. a .up) (bookArcs book) a noArc in
+        low-up = λ a h. (let l = List·getD-map (λ a. a .low) (bookArcs book) a noBookArc in let u = List·getD-map (λ a. a .up) (bookArcs book) a noBookArc in
             let k = arc-holds book (λ a. a .low ≤ a .up) (record { joins = λ i j h k l. omega arith; entries = λ j h k. omega arith; ends = λ j h k. omega arith; last = omega arith }) a h in omega arith);
         up-small = part-holds book (λ a. a .up) (λ u. u ≤ 1000000) (record { joins = λ i j h k l. omega arith; entries = λ j h k. omega arith; ends = λ j h k. omega arith; last = omega (arith, ok .players-high) }) 0 refl;
         cost-small = part-holds book (λ a. pos (a .cost)) (λ c. (negℤ (pos 1000000) ≤ℤ c) × (c ≤ℤ pos 1000000))
             (record { joins = λ i j h k l. fair-cost (arcCost book i j) (arc-cost-small i j); entries = λ j h k. fair-cost 0 (omega arith); ends = λ j h k. fair-cost 0 (omega arith); last = fair-cost 0 (omega arith) }) (pos 0) refl;
-        balance-small = λ v h. fair-balance v (place (size book) v (omega (arith, nodes-count book)));
+        balance-small = λ v h. fair-balance v (node-kind (size book) v (omega (arith, nodes-count book)));
       }

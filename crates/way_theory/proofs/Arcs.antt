@@ -14,7 +14,7 @@ use Rattle.way_theory.specs.Follow.{size}
 use Rattle.way_theory.specs.FullWays.{numbers}
 use Rattle.way_theory.specs.BookNet.{BookArc, joinArc, joinArcs, entryArc, endArc, lastArc, bookArcs, bookNet}
 use Rattle.way_theory.proofs.Blocks.{joins-member}
-use Rattle.way_theory.proofs.Nodes.{noArc, count-arcs, nodes-count}
+use Rattle.way_theory.proofs.Nodes.{noBookArc, count-arcs, nodes-count}
 
 module _ (book : Book) where
   -- what holds of every arc
@@ -47,13 +47,13 @@ module _ (book : Book) where
         one (inl m) = let (i, j, b, c, l, q) = joins-member book (size book) 1 a m in subst P (sym q) (holds .joins i j l b (omega arith))
         one (inr m) = two (append-cases (map entryArc (numbers book)) (map (endArc book) (numbers book) ++ (lastArc book ∷ [])) a m)
 
-    pub arc-holds : (k : ℕ) → k < arcs (bookNet book) → P (getD (bookArcs book) k noArc)
-    arc-holds k h = all-hold (getD (bookArcs book) k noArc) (getD-member (bookArcs book) k noArc (subst (λ n. k < n) (count-arcs book) h))
+    pub arc-holds : (k : ℕ) → k < arcs (bookNet book) → P (getD (bookArcs book) k noBookArc)
+    arc-holds k h = all-hold (getD (bookArcs book) k noBookArc) (getD-member (bookArcs book) k noBookArc (subst (λ n. k < n) (count-arcs book) h))
 
   -- of a number that arcs have, as the network holds it
-  pub part-holds : {A : Type 0} (part : BookArc → A) (Q : A → Type 0) → OfArcs (λ a. Q (part a)) → (d : A) → d ≡ part noArc → (k : ℕ) → k < arcs (bookNet book) → Q (getD (map part (bookArcs book)) k d)
+  pub part-holds : {A : Type 0} (part : BookArc → A) (Q : A → Type 0) → OfArcs (λ a. Q (part a)) → (d : A) → d ≡ part noBookArc → (k : ℕ) → k < arcs (bookNet book) → Q (getD (map part (bookArcs book)) k d)
   part-holds part Q holds d e k h =
-      subst Q (sym (subst (λ d. getD (map part (bookArcs book)) k d ≡ part (getD (bookArcs book) k noArc)) (sym e) (List·getD-map part (bookArcs book) k noArc)))
+      subst Q (sym (subst (λ d. getD (map part (bookArcs book)) k d ≡ part (getD (bookArcs book) k noBookArc)) (sym e) (List·getD-map part (bookArcs book) k noBookArc)))
       (arc-holds (λ a. Q (part a)) holds k h)
 
   pub well-formed : WellFormed (bookNet book)

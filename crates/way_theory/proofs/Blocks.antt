@@ -80,7 +80,7 @@ down-falls : (n : ℕ) → Ascending Above (down n)
 down-falls zero = (tt, tt)
 down-falls (suc n) = (member-every (Above (suc n)) (down n) (λ p m. (let h = down-member n p m in omega arith)), down-falls n)
 
--- along a way
+-- the sum of ψ along a way, from entry j on
 abbrev pub along : (ℕ → ℕ → ℕ) → ℕ → List ℕ → ℕ
 along ψ j [] = 0
 along ψ j (p ∷ w) = ψ p j + along ψ (suc j) w

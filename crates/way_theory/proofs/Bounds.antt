@@ -23,9 +23,9 @@ module _ (N : Net) (ok : WellFormed N) (f : List ℕ) where
       flow-member N ok f .0 (keeps (isBalanced N) (within (bounds (N .lows) (N .ups))) f (within-member (bounds (N .lows) (N .ups)) f .1 b)
       (below-all (nodes N) (λ v. eqZ (netOut N f v) (balance N v)) (λ v k. true-eqZ (netOut N f v) (balance N v) (h v k))))
 
-  pub flow-bounds : IsFlow N f → Within (bounds (N .lows) (N .ups)) f
+  pub flow-in-bounds : IsFlow N f → Within (bounds (N .lows) (N .ups)) f
   unfolding flowList
-  flow-bounds h = within-member (bounds (N .lows) (N .ups)) f .0 (kept (isBalanced N) (within (bounds (N .lows) (N .ups))) f (flow-member N ok f .1 h) .0)
+  flow-in-bounds h = within-member (bounds (N .lows) (N .ups)) f .0 (kept (isBalanced N) (within (bounds (N .lows) (N .ups))) f (flow-member N ok f .1 h) .0)
 
 abbrev pub Bounds : List BookArc → List ℕ → Type 0
 Bounds l f = Within (bounds (map (λ a. a .low) l) (map (λ a. a .up) l)) f

@@ -39,11 +39,11 @@ pub data Input : Type 0 where
   network : Net → Input
   book : List ℕ → Input
 
--- a row: the full list, what `first` answers, its cost, which is that of each line too, and, of a network, the prices beside the first line;
+-- a row: the full list, what `first` answers, its cost, which is that of each item too, and, of a network, the prices beside the first item;
 -- `walks` has for each price a residual walk that costs as much, its last code first
 pub record Example : Type 0 where
   pub input : Input
-  pub lines : List (List ℕ)
+  pub items : List (List ℕ)
   pub answer : Reading (List ℕ)
   pub cost : ℤ
   pub prices : List ℤ
@@ -53,14 +53,14 @@ abbrev pub listOf : Input → List (List ℕ)
 listOf (network N) = fullList N
 listOf (book s) = ways s
 
-abbrev pub lineCost : Input → List ℕ → ℤ
-lineCost (network N) f = flows.costOf N f
-lineCost (book s) w = wayCostIn s w
+abbrev pub costIn : Input → List ℕ → ℤ
+costIn (network N) f = flows.costOf N f
+costIn (book s) w = wayCostIn s w
 
 -- "He answers that line and its cost, .. Without lines: 'none', cost 0."
 abbrev pub answerCost : Input → Option (List ℕ) → ℤ
 answerCost i none = pos 0
-answerCost i (some v) = lineCost i v
+answerCost i (some v) = costIn i v
 
 -- "with a network's prices", one for each node
 abbrev pub Priced : Input → Option (List ℕ) → List ℤ → Type 0
@@ -73,19 +73,19 @@ abbrev pub AcceptedInput : Input → Type 0
 AcceptedInput (network N) = AcceptedNet N
 AcceptedInput (book s) = bookRefusal s ≡ 0
 
-pub record Holds (e : Example) : Type 0 where
+pub record ExampleHolds (e : Example) : Type 0 where
   pub accepted : AcceptedInput (e .input)
-  pub lists : listOf (e .input) ≡ e .lines
+  pub lists : listOf (e .input) ≡ e .items
   pub answers : shown (first? (listOf (e .input))) nothing ≡ e .answer
   pub answer-costs : answerCost (e .input) (first? (listOf (e .input))) ≡ e .cost
-  pub costs : (l : List ℕ) → l ∈ e .lines → lineCost (e .input) l ≡ e .cost
+  pub costs : (l : List ℕ) → l ∈ e .items → costIn (e .input) l ≡ e .cost
   pub priced : Priced (e .input) (first? (listOf (e .input))) (e .prices)
 
 -- "One node, balance 0, no arcs: one flow, empty, cost 0."
 abbrev pub no-arcs : Example
 no-arcs = record {
   input = network (netOf (pos 0 ∷ []) []);
-  lines = [] ∷ [];
+  items = [] ∷ [];
   answer = item [];
   cost = pos 0;
   prices = pos 0 ∷ [];
@@ -96,7 +96,7 @@ no-arcs = record {
 abbrev pub unbalanced : Example
 unbalanced = record {
   input = network (netOf (pos 1 ∷ []) []);
-  lines = [];
+  items = [];
   answer = nothing;
   cost = pos 0;
   prices = [];
@@ -107,7 +107,7 @@ unbalanced = record {
 abbrev pub loop : Example
 loop = record {
   input = network (netOf (pos 0 ∷ []) (pos 0 ∷ pos 0 ∷ pos 0 ∷ pos 2 ∷ pos 0 ∷ []));
-  lines = (0 ∷ []) ∷ (1 ∷ []) ∷ (2 ∷ []) ∷ [];
+  items = (0 ∷ []) ∷ (1 ∷ []) ∷ (2 ∷ []) ∷ [];
   answer = item (0 ∷ []);
   cost = pos 0;
   prices = pos 0 ∷ [];
@@ -118,7 +118,7 @@ loop = record {
 abbrev pub cheap-loop : Example
 cheap-loop = record {
   input = network (netOf (pos 0 ∷ []) (pos 0 ∷ pos 0 ∷ pos 0 ∷ pos 2 ∷ negsuc 2 ∷ []));
-  lines = (2 ∷ []) ∷ [];
+  items = (2 ∷ []) ∷ [];
   answer = item (2 ∷ []);
   cost = negsuc 5;
   prices = pos 0 ∷ [];
@@ -129,7 +129,7 @@ cheap-loop = record {
 abbrev pub parallel : Example
 parallel = record {
   input = network (netOf (pos 2 ∷ negsuc 1 ∷ []) (pos 0 ∷ pos 1 ∷ pos 0 ∷ pos 2 ∷ pos 1 ∷ pos 0 ∷ pos 1 ∷ pos 0 ∷ pos 2 ∷ pos 1 ∷ []));
-  lines = (0 ∷ 2 ∷ []) ∷ (1 ∷ 1 ∷ []) ∷ (2 ∷ 0 ∷ []) ∷ [];
+  items = (0 ∷ 2 ∷ []) ∷ (1 ∷ 1 ∷ []) ∷ (2 ∷ 0 ∷ []) ∷ [];
   answer = item (0 ∷ 2 ∷ []);
   cost = pos 2;
   prices = negsuc 0 ∷ pos 0 ∷ [];
@@ -140,7 +140,7 @@ parallel = record {
 abbrev pub opposite : Example
 opposite = record {
   input = network (netOf (pos 0 ∷ pos 0 ∷ []) (pos 0 ∷ pos 1 ∷ pos 0 ∷ pos 1 ∷ pos 0 ∷ pos 1 ∷ pos 0 ∷ pos 0 ∷ pos 1 ∷ pos 0 ∷ []));
-  lines = (0 ∷ 0 ∷ []) ∷ (1 ∷ 1 ∷ []) ∷ [];
+  items = (0 ∷ 0 ∷ []) ∷ (1 ∷ 1 ∷ []) ∷ [];
   answer = item (0 ∷ 0 ∷ []);
   cost = pos 0;
   prices = pos 0 ∷ pos 0 ∷ [];
@@ -151,7 +151,7 @@ opposite = record {
 abbrev pub fixed-arc : Example
 fixed-arc = record {
   input = network (netOf (pos 2 ∷ negsuc 1 ∷ []) (pos 0 ∷ pos 1 ∷ pos 1 ∷ pos 1 ∷ pos 5 ∷ pos 0 ∷ pos 1 ∷ pos 0 ∷ pos 3 ∷ pos 0 ∷ []));
-  lines = (1 ∷ 1 ∷ []) ∷ [];
+  items = (1 ∷ 1 ∷ []) ∷ [];
   answer = item (1 ∷ 1 ∷ []);
   cost = pos 5;
   prices = pos 0 ∷ pos 0 ∷ [];
@@ -167,7 +167,7 @@ triangle last =
 abbrev pub negative-cycle : Example
 negative-cycle = record {
   input = triangle (negsuc 2);
-  lines = (1 ∷ 1 ∷ 1 ∷ []) ∷ [];
+  items = (1 ∷ 1 ∷ 1 ∷ []) ∷ [];
   answer = item (1 ∷ 1 ∷ 1 ∷ []);
   cost = negsuc 0;
   prices = negsuc 1 ∷ negsuc 0 ∷ pos 0 ∷ [];
@@ -178,7 +178,7 @@ negative-cycle = record {
 abbrev pub zero-cycle : Example
 zero-cycle = record {
   input = triangle (negsuc 1);
-  lines = (0 ∷ 0 ∷ 0 ∷ []) ∷ (1 ∷ 1 ∷ 1 ∷ []) ∷ [];
+  items = (0 ∷ 0 ∷ 0 ∷ []) ∷ (1 ∷ 1 ∷ 1 ∷ []) ∷ [];
   answer = item (0 ∷ 0 ∷ 0 ∷ []);
   cost = pos 0;
   prices = negsuc 1 ∷ negsuc 0 ∷ pos 0 ∷ [];
@@ -189,7 +189,7 @@ zero-cycle = record {
 abbrev pub two-players : Example
 two-players = record {
   input = book (bytes "(book\n(players 2)\n(fee 6)\n(move 1 2 24 3)\n(move 2 1 24 3)\n(entry (name snare) 1 0 96)\n(entry (name xylo) 2 120 200)\n(entry (name snare2) 1 240 300)\n)\n");
-  lines = (0 ∷ 0 ∷ 1 ∷ []) ∷ (0 ∷ 1 ∷ 2 ∷ []) ∷ [];
+  items = (0 ∷ 0 ∷ 1 ∷ []) ∷ (0 ∷ 1 ∷ 2 ∷ []) ∷ [];
   answer = item (0 ∷ 0 ∷ 1 ∷ []);
   cost = pos 12;
   prices = [];
@@ -200,7 +200,7 @@ two-players = record {
 abbrev pub one-player : Example
 one-player = record {
   input = book (bytes "(book\n(players 1)\n(fee 6)\n(move 1 2 24 3)\n(move 2 1 24 3)\n(entry (name snare) 1 0 96)\n(entry (name xylo) 2 120 200)\n(entry (name snare2) 1 240 300)\n)\n");
-  lines = (0 ∷ 1 ∷ 2 ∷ []) ∷ [];
+  items = (0 ∷ 1 ∷ 2 ∷ []) ∷ [];
   answer = item (0 ∷ 1 ∷ 2 ∷ []);
   cost = pos 12;
   prices = [];
@@ -211,15 +211,15 @@ one-player = record {
 abbrev pub too-late : Example
 too-late = record {
   input = book (bytes "(book\n(players 1)\n(fee 6)\n(move 1 2 24 3)\n(move 2 1 24 3)\n(entry (name snare) 1 0 97)\n(entry (name xylo) 2 120 200)\n(entry (name snare2) 1 240 300)\n)\n");
-  lines = [];
+  items = [];
   answer = nothing;
   cost = pos 0;
   prices = [];
   walks = [];
 }
 
-abbrev pub table : List Example
-table = no-arcs ∷ unbalanced ∷ loop ∷ cheap-loop ∷ parallel ∷ opposite ∷ fixed-arc ∷ negative-cycle ∷ zero-cycle ∷ two-players ∷ one-player ∷ too-late ∷ []
+abbrev pub exampleTable : List Example
+exampleTable = no-arcs ∷ unbalanced ∷ loop ∷ cheap-loop ∷ parallel ∷ opposite ∷ fixed-arc ∷ negative-cycle ∷ zero-cycle ∷ two-players ∷ one-player ∷ too-late ∷ []
 
 -- the same as tests
 abbrev isSmall : ℕ → ℤ → Bool
@@ -261,10 +261,10 @@ right e =
     let i = e .input in
     let L = listOf i in
     passes i
-    && (test (same-lists same-list L (e .lines))
+    && (test (same-lists same-list L (e .items))
     && (sameAnswer (first? L) (e .answer)
     && (eqZ (answerCost i (first? L)) (e .cost)
-    && (all (λ l. eqZ (lineCost i l) (e .cost)) (e .lines)
+    && (all (λ l. eqZ (costIn i l) (e .cost)) (e .items)
     && pricedBy i (first? L) (e .prices) (e .walks)))))
 
 is-small : (n : ℕ) (z : ℤ) → isSmall n z ≡ true → (negℤ (pos n) ≤ℤ z) × (z ≤ℤ pos n)
@@ -330,28 +330,28 @@ priced-by (network N) (some f) ps ws e = let (a, b) = and-true (eqb (length ps) 
 priced-by (network N) none ps ws e = tt
 priced-by (book s) o ps ws e = tt
 
-right-holds : (e : Example) → right e ≡ true → Holds e
+right-holds : (e : Example) → right e ≡ true → ExampleHolds e
 unfolding right
 right-holds e q =
     let i = e .input in
     let L = listOf i in
     let (a, q1) = and-true (passes i) _ q in
-    let (b, q2) = and-true (test (same-lists same-list L (e .lines))) _ q1 in
+    let (b, q2) = and-true (test (same-lists same-list L (e .items))) _ q1 in
     let (c, q3) = and-true (sameAnswer (first? L) (e .answer)) _ q2 in
     let (d, q4) = and-true (eqZ (answerCost i (first? L)) (e .cost)) _ q3 in
-    let (f, g) = and-true (all (λ l. eqZ (lineCost i l) (e .cost)) (e .lines)) _ q4 in
+    let (f, g) = and-true (all (λ l. eqZ (costIn i l) (e .cost)) (e .items)) _ q4 in
     record {
       accepted = passed i a;
-      lists = test-yes (same-lists same-list L (e .lines)) b;
+      lists = test-yes (same-lists same-list L (e .items)) b;
       answers = same-answer (first? L) (e .answer) c;
       answer-costs = eqZ-true (answerCost i (first? L)) (e .cost) d;
-      costs = λ l m. eqZ-true (lineCost i l) (e .cost) (all-member (λ l. eqZ (lineCost i l) (e .cost)) (e .lines) f l m);
+      costs = λ l m. eqZ-true (costIn i l) (e .cost) (all-member (λ l. eqZ (costIn i l) (e .cost)) (e .items) f l m);
       priced = priced-by i (first? L) (e .prices) (e .walks) g;
     }
 
-all-right : all right table ≡ true
+all-right : all right exampleTable ≡ true
 unfolding right fullList flowList at ℕ-discrete wayList fullWays bytes thenRead _>>=_ _>>_ give guard remaining begins text front run valueFrom number word row more upTo many move entry opening form.book whole parse lines.moves lines.allPass
 all-right = refl
 
-pub examples : (e : Example) → e ∈ table → Holds e
-examples e m = right-holds e (all-member right table all-right e m)
+pub examples : (e : Example) → e ∈ exampleTable → ExampleHolds e
+examples e m = right-holds e (all-member right exampleTable all-right e m)

@@ -19,7 +19,7 @@ use Rattle.way_theory.specs.BookNet.{BookArc, lastNode, sources, arcCost
 use Rattle.way_theory.specs.WayFlow.{oneIfSame, marked, joinFlow, entryFlow}
 use Rattle.way_theory.proofs.OneIfSame.{same-one, other-none, same-iff, same-small}
 use Rattle.way_theory.proofs.Blocks.{along, outOf, into, weigh-joins, joinFlow-length}
-use Rattle.way_theory.proofs.Nodes.{Place, origin, odd, even, last, place, whole, Fits, parts, out-zero, in-zero, out-last, in-last, out-odd, in-odd, out-even, in-even, arcs-parts, netOut-weigh, nodes-count, balance-inner, balance-last}
+use Rattle.way_theory.proofs.Nodes.{NodeKind, origin, odd, even, last, node-kind, fourParts, Fits, parts, out-zero, in-zero, out-last, in-last, out-odd, in-odd, out-even, in-even, arcs-parts, netOut-weigh, nodes-count, balance-inner, balance-last}
 use Rattle.way_theory.proofs.Bounds.{Bounds, bounds-append, bounds-map}
 
 -- whole numbers out of a node and into it
@@ -65,10 +65,10 @@ module _ (book : Book) where
 
   module _ (w : List ℕ) (len : length w ≡ size book) (jd : Joined book 1 w) (y : List ℕ) (z : ℕ) (ly : length y ≡ size book) where
     abbrev pub laid : List ℕ
-    laid = whole (joinFlow book 1 w) (entryFlow book) y z
+    laid = fourParts (joinFlow book 1 w) (entryFlow book) y z
 
-    pub fit : Fits book (joinFlow book 1 w) (entryFlow book) y
-    fit = record {
+    pub laid-fits : Fits book (joinFlow book 1 w) (entryFlow book) y
+    laid-fits = record {
       joins = subst (λ n. length (joinFlow book 1 w) ≡ length (joinArcs book n 1)) len (joinFlow-length book 1 w);
       enters = row-length {A = ℕ} (λ j. 1) (size book) 1;
       ends = ly;
@@ -94,33 +94,33 @@ module _ (book : Book) where
         let b = length-append (entryFlow book) (y ++ (z ∷ [])) in
         let c = length-append y (z ∷ []) in
         let d = row-length {A = ℕ} (λ j. 1) (size book) 1 in
-        let e = fit .joins in
+        let e = laid-fits .joins in
         omega (arith, arcs-parts book)
 
     pub laid-balanced : times 0 w + z ≡ book .players → ((i : ℕ) → 1 ≤ i → i ≤ size book → times i w + getD y (i - 1) 0 ≡ 1) → total y + z ≡ book .players
         → (v : ℕ) → v < nodes (bookNet book) → netOut (bookNet book) laid v ≡ balance (bookNet book) v
-    laid-balanced first each final v h = netOut-weigh book laid laid-length v ∙ step (place (size book) v (omega (arith, nodes-count book)))
+    laid-balanced first each final v h = netOut-weigh book laid laid-length v ∙ step (node-kind (size book) v (omega (arith, nodes-count book)))
       where
-        step : Place (size book) v → pos (weigh (outOf v) (bookArcs book) laid) -ℤ pos (weigh (into v) (bookArcs book) laid) ≡ balance (bookNet book) v
+        step : NodeKind (size book) v → pos (weigh (outOf v) (bookArcs book) laid) -ℤ pos (weigh (into v) (bookArcs book) laid) ≡ balance (bookNet book) v
         step (origin e) =
             rw e (diff-pos (weigh (outOf 0) (bookArcs book) laid) (weigh (into 0) (bookArcs book) laid) (book .players)
-            (let o = out-zero book (joinFlow book 1 w) (entryFlow book) y z fit in let i = in-zero book (joinFlow book 1 w) (entryFlow book) y z fit in let c = joins-out 0 in omega arith))
+            (let o = out-zero book (joinFlow book 1 w) (entryFlow book) y z laid-fits in let i = in-zero book (joinFlow book 1 w) (entryFlow book) y z laid-fits in let c = joins-out 0 in omega arith))
         step (odd i l k e) =
             rw e (diff-pos (weigh (outOf (2 * i - 1)) (bookArcs book) laid) (weigh (into (2 * i - 1)) (bookArcs book) laid) 0
-            (let o = out-odd book (joinFlow book 1 w) (entryFlow book) y z fit i l k in let u = in-odd book (joinFlow book 1 w) (entryFlow book) y z fit i l k in let c = joins-in i l k in let d = one-at i l k in omega arith)
+            (let o = out-odd book (joinFlow book 1 w) (entryFlow book) y z laid-fits i l k in let u = in-odd book (joinFlow book 1 w) (entryFlow book) y z laid-fits i l k in let c = joins-in i l k in let d = one-at i l k in omega arith)
             ∙ sym (balance-inner book (2 * i - 1) (omega arith) (omega arith)))
         step (even i l k e) =
             rw e (diff-pos (weigh (outOf (2 * i)) (bookArcs book) laid) (weigh (into (2 * i)) (bookArcs book) laid) 0
-            (let o = out-even book (joinFlow book 1 w) (entryFlow book) y z fit i l k in let u = in-even book (joinFlow book 1 w) (entryFlow book) y z fit i l k in let c = joins-out i in let d = one-at i l k in let m = each i l k in omega arith)
+            (let o = out-even book (joinFlow book 1 w) (entryFlow book) y z laid-fits i l k in let u = in-even book (joinFlow book 1 w) (entryFlow book) y z laid-fits i l k in let c = joins-out i in let d = one-at i l k in let m = each i l k in omega arith)
             ∙ sym (balance-inner book (2 * i) (omega arith) (omega arith)))
         step (last e) =
             rw e (diff-neg (weigh (outOf (lastNode book)) (bookArcs book) laid) (weigh (into (lastNode book)) (bookArcs book) laid) (book .players)
-            (let o = out-last book (joinFlow book 1 w) (entryFlow book) y z fit in let i = in-last book (joinFlow book 1 w) (entryFlow book) y z fit in omega arith)
+            (let o = out-last book (joinFlow book 1 w) (entryFlow book) y z laid-fits in let i = in-last book (joinFlow book 1 w) (entryFlow book) y z laid-fits in omega arith)
             ∙ sym (balance-last book (lastNode book) refl))
 
     pub laid-cost : weigh (λ a. a .cost) (bookArcs book) laid ≡ along (λ p k. arcCost book p k) 1 w
     laid-cost = omega (
       arith,
-      parts book (joinFlow book 1 w) (entryFlow book) y z fit (λ a. a .cost) (along (λ p k. arcCost book p k) 1 w) 0 0 0 (joins-sum (λ a. a .cost))
+      parts book (joinFlow book 1 w) (entryFlow book) y z laid-fits (λ a. a .cost) (along (λ p k. arcCost book p k) 1 w) 0 0 0 (joins-sum (λ a. a .cost))
           (weigh-none (λ j. 0) (numbers book) (entryFlow book) (λ j m. refl)) (weigh-none (λ j. 0) (numbers book) y (λ j m. refl)) refl,
     )

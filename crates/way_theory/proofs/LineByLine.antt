@@ -57,7 +57,7 @@ module _ (book : Book) where
       (λ w x m n. ap₂ leZ (way-cost book w (way-member book w .0 m)) (way-cost book x (way-member book x .0 n))))
       ∙ ap (best (noDearer (bookNet book))) all-matched
 
-  -- the flow of the way on line k is line k of the flows
+  -- the flow of way k of the list is flow k of the list
   pub line-matched : (k : ℕ) → getElem? (fullList (bookNet book)) k ≡ mapOption (flowOf book) (getElem? (fullWays book) k)
   line-matched k = ap (λ l. getElem? l k) (sym matched) ∙ line-image (flowOf book) (fullWays book) k
 

@@ -20,10 +20,10 @@ use Rattle.way_theory.specs.WayFlow.{joinFlow, entryFlow, endFlow, flowO
 use Rattle.way_theory.proofs.OneIfSame.{other-none}
 use Rattle.way_theory.proofs.Counting.{total-count}
 use Rattle.way_theory.proofs.Blocks.{split, along, outOf, into, unjoin, joinFlow-less}
-use Rattle.way_theory.proofs.Nodes.{whole, Fits, out-zero, in-zero, out-odd, in-odd, out-even, in-even, count-arcs, netOut-weigh, cost-weigh, nodes-count, balance-inner}
+use Rattle.way_theory.proofs.Nodes.{fourParts, Fits, out-zero, in-zero, out-odd, in-odd, out-even, in-even, count-arcs, netOut-weigh, cost-weigh, nodes-count, balance-inner}
 use Rattle.way_theory.proofs.Arcs.{well-formed}
-use Rattle.way_theory.proofs.Bounds.{flow-within, flow-bounds, Bounds, bounds-append, bounds-split, bounds-map, enters-one}
-use Rattle.way_theory.proofs.Laid.{pos-diff, joins-bounds, joined-small, fit, joins-out, one-at, laid-length, laid-balanced, laid-cost}
+use Rattle.way_theory.proofs.Bounds.{flow-within, flow-in-bounds, Bounds, bounds-append, bounds-split, bounds-map, enters-one}
+use Rattle.way_theory.proofs.Laid.{pos-diff, joins-bounds, joined-small, laid-fits, joins-out, one-at, laid-length, laid-balanced, laid-cost}
 use Rattle.way_theory.proofs.WayBack.{way-back}
 
 module _ (book : Book) where
@@ -109,7 +109,7 @@ module _ (book : Book) where
         row-long k l e = e ∙ row-length k (size book) 1
 
         -- the predecessors are known: the rest follows
-        way-of : (w : List ℕ) (y : List ℕ) (z : ℕ) → length w ≡ size book → Joined book 1 w → length y ≡ size book → f ≡ whole (joinFlow book 1 w) (entryFlow book) y z
+        way-of : (w : List ℕ) (y : List ℕ) (z : ℕ) → length w ≡ size book → Joined book 1 w → length y ≡ size book → f ≡ fourParts (joinFlow book 1 w) (entryFlow book) y z
             → IsWay book w × (f ≡ flowOf book w)
         way-of w y z len jd ly q = (
           record { all-entries = len; joined = jd; once = λ i h k. (let e = each i h k in omega arith); openings = omega (arith, at-first) },
@@ -118,16 +118,16 @@ module _ (book : Book) where
           where
             at-first : times 0 w + z ≡ book .players
             at-first =
-                let o = out-zero book (joinFlow book 1 w) (entryFlow book) y z (fit book w len jd y z ly) in
-                let i = in-zero book (joinFlow book 1 w) (entryFlow book) y z (fit book w len jd y z ly) in
+                let o = out-zero book (joinFlow book 1 w) (entryFlow book) y z (laid-fits book w len jd y z ly) in
+                let i = in-zero book (joinFlow book 1 w) (entryFlow book) y z (laid-fits book w len jd y z ly) in
                 let c = joins-out book w len jd y z ly 0 in
                 let b = rw q at first in
                 omega arith
 
             each : (i : ℕ) → 1 ≤ i → i ≤ size book → times i w + getD y (i - 1) 0 ≡ 1
             each i h k =
-                let o = out-even book (joinFlow book 1 w) (entryFlow book) y z (fit book w len jd y z ly) i h k in
-                let u = in-even book (joinFlow book 1 w) (entryFlow book) y z (fit book w len jd y z ly) i h k in
+                let o = out-even book (joinFlow book 1 w) (entryFlow book) y z (laid-fits book w len jd y z ly) i h k in
+                let u = in-even book (joinFlow book 1 w) (entryFlow book) y z (laid-fits book w len jd y z ly) i h k in
                 let c = joins-out book w len jd y z ly i in
                 let d = one-at book w len jd y z ly i h k in
                 let b = rw q at (inner (2 * i) (omega arith) (omega arith)) in
@@ -145,7 +145,7 @@ module _ (book : Book) where
         last g x y (z ∷ u ∷ t) lg lx ly lt q = absurd (omega arith)
         last g x y (z ∷ []) lg lx ly lt q =
             let rest = map entryArc (numbers book) ++ (map (endArc book) (numbers book) ++ (lastArc book ∷ [])) in
-            let b = bounds-split (joinArcs book (size book) 1) rest g (x ++ (y ++ (z ∷ []))) lg (subst (λ k. Bounds (bookArcs book) k) q (flow-bounds (bookNet book) (well-formed book) f flow)) .1 in
+            let b = bounds-split (joinArcs book (size book) 1) rest g (x ++ (y ++ (z ∷ []))) lg (subst (λ k. Bounds (bookArcs book) k) q (flow-in-bounds (bookNet book) (well-formed book) f flow)) .1 in
             let c = bounds-split (map entryArc (numbers book)) (map (endArc book) (numbers book) ++ (lastArc book ∷ [])) x (y ++ (z ∷ [])) lx b .0 in
             let e : x ≡ entryFlow book = enters-one (numbers book) x c in
             let fits : Fits book g x y = record { joins = lg; enters = row-long entryArc x lx; ends = row-long (endArc book) y ly } in

@@ -23,11 +23,11 @@ use Rattle.way_theory.proofs.Blocks.{outOf, into, joins-none}
 use Rattle.way_theory.proofs.Rows.{rows-length}
 
 -- every node is the first, the last, or one of an entry's two
-pub data Place (n v : ℕ) : Type 0 where
-  origin : v ≡ 0 → Place n v
-  odd : (i : ℕ) → 1 ≤ i → i ≤ n → v ≡ 2 * i - 1 → Place n v
-  even : (i : ℕ) → 1 ≤ i → i ≤ n → v ≡ 2 * i → Place n v
-  last : v ≡ 2 * n + 1 → Place n v
+pub data NodeKind (n v : ℕ) : Type 0 where
+  origin : v ≡ 0 → NodeKind n v
+  odd : (i : ℕ) → 1 ≤ i → i ≤ n → v ≡ 2 * i - 1 → NodeKind n v
+  even : (i : ℕ) → 1 ≤ i → i ≤ n → v ≡ 2 * i → NodeKind n v
+  last : v ≡ 2 * n + 1 → NodeKind n v
 
 half : (v : ℕ) → (k : ℕ) × ((v ≡ 2 * k) ⊎ (v ≡ 2 * k + 1))
 half zero = (0, inl refl)
@@ -37,18 +37,18 @@ half (suc v) = let (k, c) = half v in step k c
     step k (inl e) = (k, inr (omega arith))
     step k (inr e) = (suc k, inl (omega arith))
 
-pub place : (n v : ℕ) → v < 2 * n + 2 → Place n v
-place n v h = let (k, c) = half v in step k c (ℕ-discrete k 0) (ℕ-discrete k n)
+pub node-kind : (n v : ℕ) → v < 2 * n + 2 → NodeKind n v
+node-kind n v h = let (k, c) = half v in step k c (ℕ-discrete k 0) (ℕ-discrete k n)
   where
-    step : (k : ℕ) → (v ≡ 2 * k) ⊎ (v ≡ 2 * k + 1) → Dec (k ≡ 0) → Dec (k ≡ n) → Place n v
+    step : (k : ℕ) → (v ≡ 2 * k) ⊎ (v ≡ 2 * k + 1) → Dec (k ≡ 0) → Dec (k ≡ n) → NodeKind n v
     step k (inl e) (yes q) d = origin (omega arith)
     step k (inl e) (no q) d = even k (omega arith) (omega arith) e
     step k (inr e) c (yes q) = last (omega arith)
     step k (inr e) c (no q) = odd (suc k) (omega arith) (omega arith) (omega arith)
 
 -- the four parts of a list of numbers on the arcs
-abbrev pub whole : List ℕ → List ℕ → List ℕ → ℕ → List ℕ
-whole g x y z = g ++ (x ++ (y ++ (z ∷ [])))
+abbrev pub fourParts : List ℕ → List ℕ → List ℕ → ℕ → List ℕ
+fourParts g x y z = g ++ (x ++ (y ++ (z ∷ [])))
 
 pub record Fits (book : Book) (g x y : List ℕ) : Type 0 where
   pub joins : length g ≡ length (joinArcs book (size book) 1)
@@ -58,7 +58,7 @@ pub record Fits (book : Book) (g x y : List ℕ) : Type 0 where
 module _ (book : Book) (g x y : List ℕ) (z : ℕ) (fit : Fits book g x y) where
   pub parts : (φ : BookArc → ℕ) (a b c d : ℕ) → weigh φ (joinArcs book (size book) 1) g ≡ a → weigh (λ j. φ (entryArc j)) (numbers book) x ≡ b
       → weigh (λ j. φ (endArc book j)) (numbers book) y ≡ c → φ (lastArc book) ≡ d
-      → weigh φ (bookArcs book) (whole g x y z) ≡ a + (b + (c + d * z))
+      → weigh φ (bookArcs book) (fourParts g x y z) ≡ a + (b + (c + d * z))
   parts φ a b c d p q r s =
       weigh-append φ (joinArcs book (size book) 1) (map entryArc (numbers book) ++ (map (endArc book) (numbers book) ++ (lastArc book ∷ []))) g (x ++ (y ++ (z ∷ []))) (fit .joins)
       ∙ ap₂ _+_ p (weigh-append φ (map entryArc (numbers book)) (map (endArc book) (numbers book) ++ (lastArc book ∷ [])) x (y ++ (z ∷ [])) (fit .enters ∙ sym (row-length entryArc (size book) 1))
@@ -75,7 +75,7 @@ module _ (book : Book) (g x y : List ℕ) (z : ℕ) (fit : Fits book g x y) wher
       let q : 1 + (i - 1) ≡ i = omega arith in
       weigh-from φ (size book) 1 l e (i - 1) (omega arith) (rw q one) (λ j b n. none j b (λ r. n (omega arith)))
 
-  pub out-zero : weigh (outOf 0) (bookArcs book) (whole g x y z) ≡ weigh (outOf 0) (joinArcs book (size book) 1) g + z
+  pub out-zero : weigh (outOf 0) (bookArcs book) (fourParts g x y z) ≡ weigh (outOf 0) (joinArcs book (size book) 1) g + z
   out-zero = omega (
     arith,
     parts (outOf 0) (weigh (outOf 0) (joinArcs book (size book) 1) g) 0 0 1 refl
@@ -84,7 +84,7 @@ module _ (book : Book) (g x y : List ℕ) (z : ℕ) (fit : Fits book g x y) wher
         (same-one 0 0 refl),
   )
 
-  pub in-zero : weigh (into 0) (bookArcs book) (whole g x y z) ≡ 0
+  pub in-zero : weigh (into 0) (bookArcs book) (fourParts g x y z) ≡ 0
   in-zero = omega (
     arith,
     parts (into 0) 0 0 0 0
@@ -94,7 +94,7 @@ module _ (book : Book) (g x y : List ℕ) (z : ℕ) (fit : Fits book g x y) wher
         (other-none (lastNode book) 0 (λ e. omega arith)),
   )
 
-  pub out-last : weigh (outOf (lastNode book)) (bookArcs book) (whole g x y z) ≡ 0
+  pub out-last : weigh (outOf (lastNode book)) (bookArcs book) (fourParts g x y z) ≡ 0
   out-last = omega (
     arith,
     parts (outOf (lastNode book)) 0 0 0 0
@@ -104,7 +104,7 @@ module _ (book : Book) (g x y : List ℕ) (z : ℕ) (fit : Fits book g x y) wher
         (other-none 0 (lastNode book) (λ e. omega arith)),
   )
 
-  pub in-last : weigh (into (lastNode book)) (bookArcs book) (whole g x y z) ≡ total y + z
+  pub in-last : weigh (into (lastNode book)) (bookArcs book) (fourParts g x y z) ≡ total y + z
   in-last = omega (
     arith,
     parts (into (lastNode book)) 0 0 (total y) 1
@@ -115,7 +115,7 @@ module _ (book : Book) (g x y : List ℕ) (z : ℕ) (fit : Fits book g x y) wher
   )
 
   module _ (i : ℕ) (low : 1 ≤ i) (high : i ≤ size book) where
-    pub out-odd : weigh (outOf (2 * i - 1)) (bookArcs book) (whole g x y z) ≡ getD x (i - 1) 0
+    pub out-odd : weigh (outOf (2 * i - 1)) (bookArcs book) (fourParts g x y z) ≡ getD x (i - 1) 0
     out-odd = omega (
       arith,
       parts (outOf (2 * i - 1)) 0 (getD x (i - 1) 0) 0 0
@@ -125,7 +125,7 @@ module _ (book : Book) (g x y : List ℕ) (z : ℕ) (fit : Fits book g x y) wher
           (other-none 0 (2 * i - 1) (λ e. omega arith)),
     )
 
-    pub in-odd : weigh (into (2 * i - 1)) (bookArcs book) (whole g x y z) ≡ weigh (into (2 * i - 1)) (joinArcs book (size book) 1) g
+    pub in-odd : weigh (into (2 * i - 1)) (bookArcs book) (fourParts g x y z) ≡ weigh (into (2 * i - 1)) (joinArcs book (size book) 1) g
     in-odd = omega (
       arith,
       parts (into (2 * i - 1)) (weigh (into (2 * i - 1)) (joinArcs book (size book) 1) g) 0 0 0 refl
@@ -134,7 +134,7 @@ module _ (book : Book) (g x y : List ℕ) (z : ℕ) (fit : Fits book g x y) wher
           (other-none (lastNode book) (2 * i - 1) (λ e. omega arith)),
     )
 
-    pub out-even : weigh (outOf (2 * i)) (bookArcs book) (whole g x y z) ≡ weigh (outOf (2 * i)) (joinArcs book (size book) 1) g + getD y (i - 1) 0
+    pub out-even : weigh (outOf (2 * i)) (bookArcs book) (fourParts g x y z) ≡ weigh (outOf (2 * i)) (joinArcs book (size book) 1) g + getD y (i - 1) 0
     out-even = omega (
       arith,
       parts (outOf (2 * i)) (weigh (outOf (2 * i)) (joinArcs book (size book) 1) g) 0 (getD y (i - 1) 0) 0 refl
@@ -143,7 +143,7 @@ module _ (book : Book) (g x y : List ℕ) (z : ℕ) (fit : Fits book g x y) wher
           (other-none 0 (2 * i) (λ e. omega arith)),
     )
 
-    pub in-even : weigh (into (2 * i)) (bookArcs book) (whole g x y z) ≡ getD x (i - 1) 0
+    pub in-even : weigh (into (2 * i)) (bookArcs book) (fourParts g x y z) ≡ getD x (i - 1) 0
     in-even = omega (
       arith,
       parts (into (2 * i)) 0 (getD x (i - 1) 0) 0 0
@@ -154,8 +154,8 @@ module _ (book : Book) (g x y : List ℕ) (z : ℕ) (fit : Fits book g x y) wher
     )
 
 -- the network's own words
-abbrev pub noArc : BookArc
-noArc = record { tail = 0; head = 0; low = 0; up = 0; cost = 0 }
+abbrev pub noBookArc : BookArc
+noBookArc = record { tail = 0; head = 0; low = 0; up = 0; cost = 0 }
 
 at-one-if-same : (e v n : ℕ) → at e v (pos n) ≡ pos (oneIfSame e v * n)
 at-one-if-same e v n = go (ℕ-discrete e v)
@@ -176,15 +176,15 @@ arcs-parts book =
 module _ (book : Book) (f : List ℕ) (fits : length f ≡ length (bookArcs book)) where
   pub netOut-weigh : (v : ℕ) → netOut (bookNet book) f v ≡ pos (weigh (outOf v) (bookArcs book) f) -ℤ pos (weigh (into v) (bookArcs book) f)
   netOut-weigh v = ap₂ _-ℤ_
-      (sum-weigh (outOf v) noArc (bookArcs book) f (arcs (bookNet book)) (count-arcs book) fits (λ a. at (getD (bookNet book .tails) a 0) v (pos (getD f a 0)))
-      (λ k. ap (λ e. at e v (pos (getD f k 0))) (List·getD-map (λ a. a .tail) (bookArcs book) k noArc) ∙ at-one-if-same (getD (bookArcs book) k noArc .tail) v (getD f k 0)))
-      (sum-weigh (into v) noArc (bookArcs book) f (arcs (bookNet book)) (count-arcs book) fits (λ a. at (getD (bookNet book .heads) a 0) v (pos (getD f a 0)))
-      (λ k. ap (λ e. at e v (pos (getD f k 0))) (List·getD-map (λ a. a .head) (bookArcs book) k noArc) ∙ at-one-if-same (getD (bookArcs book) k noArc .head) v (getD f k 0)))
+      (sum-weigh (outOf v) noBookArc (bookArcs book) f (arcs (bookNet book)) (count-arcs book) fits (λ a. at (getD (bookNet book .tails) a 0) v (pos (getD f a 0)))
+      (λ k. ap (λ e. at e v (pos (getD f k 0))) (List·getD-map (λ a. a .tail) (bookArcs book) k noBookArc) ∙ at-one-if-same (getD (bookArcs book) k noBookArc .tail) v (getD f k 0)))
+      (sum-weigh (into v) noBookArc (bookArcs book) f (arcs (bookNet book)) (count-arcs book) fits (λ a. at (getD (bookNet book .heads) a 0) v (pos (getD f a 0)))
+      (λ k. ap (λ e. at e v (pos (getD f k 0))) (List·getD-map (λ a. a .head) (bookArcs book) k noBookArc) ∙ at-one-if-same (getD (bookArcs book) k noBookArc .head) v (getD f k 0)))
 
   pub cost-weigh : costOf (bookNet book) f ≡ pos (weigh (λ a. a .cost) (bookArcs book) f)
   cost-weigh =
-      sum-weigh (λ a. a .cost) noArc (bookArcs book) f (arcs (bookNet book)) (count-arcs book) fits (λ a. getD (bookNet book .costs) a (pos 0) *ℤ pos (getD f a 0))
-      (λ k. ap (λ c. c *ℤ pos (getD f k 0)) (List·getD-map (λ a. pos (a .cost)) (bookArcs book) k noArc) ∙ pos-*ℤ-pos (getD (bookArcs book) k noArc .cost) (getD f k 0))
+      sum-weigh (λ a. a .cost) noBookArc (bookArcs book) f (arcs (bookNet book)) (count-arcs book) fits (λ a. getD (bookNet book .costs) a (pos 0) *ℤ pos (getD f a 0))
+      (λ k. ap (λ c. c *ℤ pos (getD f k 0)) (List·getD-map (λ a. pos (a .cost)) (bookArcs book) k noBookArc) ∙ pos-*ℤ-pos (getD (bookArcs book) k noBookArc .cost) (getD f k 0))
 
 module _ (book : Book) where
   pub nodes-count : nodes (bookNet book) ≡ 2 * size book + 2

@@ -8,7 +8,7 @@ use Rattle.book_form.specs.Book.{Book, book}
 use Rattle.text_read.proofs.Sequence.{From, part, part-part, begin, first, first-stops, next}
 use Rattle.book_check.specs.Closing.{Closing}
 use Rattle.book_check.proofs.Form.{parse-fails, parse-closed, parse-open, closing-part, placed-part}
-use Rattle.book_check.proofs.Judged.{long-right, form-right, Found, judged-right}
+use Rattle.book_check.proofs.Judged.{long-right, form-right, PassesFound, judged-right}
 use Rattle.book_check.proofs.check.Statement.{statement}
 use Rattle.book_check.proofs.check.Tie as tie
 
@@ -94,7 +94,7 @@ returns-4 c =
     let o = after-read-opening .read-opening .result in
     let m = after-read-moves .read-moves .ensures in
     let e = after-read-entries .read-entries .ensures in
-    let found : Found s o (after-read-moves .read-moves .result) (after-read-entries .read-entries .result) =
+    let found : PassesFound s o (after-read-moves .read-moves .result) (after-read-entries .read-entries .result) =
     record {
       move-list = m .list;
       entry-list = e .list;

@@ -9,7 +9,7 @@ use Rattle.way_theory.specs.WayFlow.{wayOf}
 use Rattle.flow_enumerate.specs.declared.Place.the-variants.{Start}
 use Rattle.way_enumerate.specs.WayEnumerator.{wayAt, wayAfter, At}
 use Rattle.call_way_bytes.specs.WaySteps.{givenWay}
-use Rattle.call_reply.proofs.Places.{no-item, an-item}
+use Rattle.call_reply.proofs.Places.{no-item-by-test, an-item}
 use Rattle.call_reply.proofs.Given.{on-none, on-some}
 use Rattle.call_book.proofs.BookEntries.{Past, past, fails, is-held, room-way, fails-given, answers-next}
 use borrow.Author.Needs.{needs}
@@ -60,7 +60,7 @@ returns-2 c =
     let w = f .resume-way .result in
     fails-given (a .book .now) _ _ p (a .way .now) refl (a .given .now) (c .code-alone .result)
     (on-none _ (words (a .given .now)) (wayAt (p .book) w) (found f .way-is)
-    (ap (mapOption (wayOf (p .book))) (no-item (w .flows .place) (stateFlow (w .flows)) (sym (l .on-item .ensures) ∙ not-true (l .on-item .result) (c .before .if2 .taken)))))
+    (ap (mapOption (wayOf (p .book))) (no-item-by-test (w .flows .place) (stateFlow (w .flows)) (sym (l .on-item .ensures) ∙ not-true (l .on-item .result) (c .before .if2 .taken)))))
     (c .code-alone .ensures)
 
 next-requires : tie.Need-next-requires

@@ -7,7 +7,7 @@ use Rattle.net_model.specs.Network.{costOf}
 use Rattle.net_model.specs.Struct.{netIn}
 use Rattle.flow_enumerate.specs.Enumerator.{itemOf, stateFlow}
 use Rattle.call_reply.specs.Replies.{HandsItem}
-use Rattle.call_reply.proofs.Places.{no-item, an-item}
+use Rattle.call_reply.proofs.Places.{no-item-by-test, an-item}
 use borrow.Author.Needs.{needs}
 use Rattle.call_flow_bytes.proofs.hand_flow.Statement.{statement}
 use Rattle.call_flow_bytes.proofs.hand_flow.Tie as tie
@@ -15,8 +15,8 @@ use Rattle.call_flow_bytes.proofs.hand_flow.Tie as tie
 returns : tie.Need-returns
 returns c =
     let a = c .before .before .before .before in
-    let s = a .args .walk in
-    let e : itemOf s ≡ none = no-item (s .place) (stateFlow s) (sym (c .before .before .on-item .ensures) ∙ not-true (c .before .before .on-item .result) (c .before .if1 .taken)) in
+    let s = a .args .enumerator in
+    let e : itemOf s ≡ none = no-item-by-test (s .place) (stateFlow s) (sym (c .before .before .on-item .ensures) ∙ not-true (c .before .before .on-item .result) (c .before .if1 .taken)) in
     subst (λ o. HandsItem (costOf (netIn (s .net))) o (a .args .code) (a .args .flows .now) (c .code-alone .result) (a .args .flows .now)) (sym e)
     (record { reply-is = c .code-alone .ensures; list-is = refl })
 
@@ -26,7 +26,7 @@ returns-2 c =
     let t = h .before .before .before in
     let l = t .before .before .before in
     let a = l .before .before .before in
-    let s = a .args .walk in
+    let s = a .args .enumerator in
     let e : itemOf s ≡ some (stateFlow s) = an-item (s .place) (stateFlow s) (sym (l .before .on-item .ensures) ∙ not-false (l .before .on-item .result) (l .if1 .left)) in
     rw e (record {
       reply-is = h .hand-item .ensures .reply-is ∙ rw (toZ-ofZ {w = w64} {z = s .cost} (record { sfits = t .struct-told .given .1 .1 .0 .1 }), a .pre .0 .cost-is, e);

@@ -6,7 +6,7 @@ use borrow.Author.Tests.{not-true, not-false}
 use Rattle.bytes_read.specs.Words.{encodeInts, over}
 use Rattle.net_model.specs.Struct.{netIn}
 use Rattle.flow_enumerate.specs.Enumerator.{itemOf, stateFlow}
-use Rattle.call_reply.proofs.Places.{no-item, is-item, an-item}
+use Rattle.call_reply.proofs.Places.{no-item-by-test, is-item, an-item}
 use Rattle.call_reply.proofs.Room.{room-fits}
 use Rattle.call_flow_bytes.proofs.Prices.{prices-held}
 use borrow.Author.Needs.{needs}
@@ -16,15 +16,15 @@ use Rattle.call_flow_bytes.proofs.hand_prices.Tie as tie
 returns : tie.Need-returns
 returns c =
     let a = c .before .before .before in
-    let s = a .args .walk in
-    let e : itemOf s ≡ none = no-item (s .place) (stateFlow s) (sym (c .before .on-item .ensures) ∙ not-true (c .before .on-item .result) (c .if1 .taken)) in
+    let s = a .args .enumerator in
+    let e : itemOf s ≡ none = no-item-by-test (s .place) (stateFlow s) (sym (c .before .on-item .ensures) ∙ not-true (c .before .on-item .result) (c .if1 .taken)) in
     rw e refl
 
 prices-requires : tie.Need-prices-requires
 prices-requires c κs =
     let l = c .before in
     let a = l .before .before .before in
-    (a .pre .0, is-item (a .args .walk .place) (sym (l .before .on-item .ensures) ∙ not-false (l .before .on-item .result) (l .if1 .left)))
+    (a .pre .0, is-item (a .args .enumerator .place) (sym (l .before .on-item .ensures) ∙ not-false (l .before .on-item .result) (l .if1 .left)))
 
 returns-2 : tie.Need-returns-2
 returns-2 c =
@@ -32,7 +32,7 @@ returns-2 c =
     let p = w .before .before .before in
     let l = p .before .before in
     let a = l .before .before .before in
-    let s = a .args .walk in
+    let s = a .args .enumerator in
     let n = s .net .nodes in
     let ps = p .prices .result in
     let out = a .args .prices .now in

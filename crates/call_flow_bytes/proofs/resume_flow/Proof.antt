@@ -16,8 +16,8 @@ use Rattle.flow_enumerate.specs.Enumerator.{itemAt, itemOf, stateFlow, placeAft
 use Rattle.flow_enumerate.proofs.Given.{resumed-on, resumed-off}
 use Rattle.call_reply.proofs.Items.{every-at, other-length}
 use Rattle.call_flow_bytes.proofs.FlowItems.{full-flows}
-use Rattle.call_reply.proofs.Given.{read-all, found}
-use Rattle.call_reply.proofs.Places.{off-item}
+use Rattle.call_reply.proofs.Given.{read-all, given-found}
+use Rattle.call_reply.proofs.Places.{no-item-by-place}
 use borrow.Author.Needs.{needs}
 use Rattle.call_flow_bytes.proofs.resume_flow.Statement.{statement}
 use Rattle.call_flow_bytes.proofs.resume_flow.Tie as tie
@@ -49,9 +49,9 @@ returns-2 c =
     let member = full-member N (ok .well-formed) (words g) in
     let bytes = every-at g 256 (λ i h. c .before .before .before .shared-slice-known .given i .fits) in
     let item-is : itemOf r ≡ givenFlow N g =
-    found (arcs N) (fullList N) (full-flows N ok) g bytes e (r .place) (itemOf r)
+    given-found (arcs N) (fullList N) (full-flows N ok) g bytes e (r .place) (itemOf r)
     (λ p. (let (same-flow, least) = resumed-on N (ok .well-formed) numbers r resumes p in (ap (λ x. itemAt x (stateFlow r)) p ∙ ap some (same-flow ∙ q), member .1 (rw q at least))))
-    (λ n. (off-item (r .place) (stateFlow r) n, λ m. resumed-off N (ok .well-formed) numbers r resumes n (rw q (member .0 m)))) in
+    (λ n. (no-item-by-place (r .place) (stateFlow r) n, λ m. resumed-off N (ok .well-formed) numbers r resumes n (rw q (member .0 m)))) in
     record { stands = stands; net-is = same; item-is = item-is; place-is = resumes .place-is ∙ ap (placeAfter Start) (sym (resumes .item-is) ∙ item-is) }
 
 pub resume-flow-spec : {M : Type 1} → statement M

@@ -16,7 +16,7 @@ use Rattle.way_theory.specs.FullWays.{firstWay}
 use Rattle.way_theory.specs.WayFlow.{wayOf}
 use Rattle.way_enumerate.specs.WayEnumerator.{Enumerates, At}
 use Rattle.call_reply.specs.Replies.{onItem}
-use Rattle.call_reply.proofs.Places.{no-item, is-item, an-item}
+use Rattle.call_reply.proofs.Places.{no-item-by-test, is-item, an-item}
 use Rattle.call_way_bytes.proofs.Admitting.{accepted, held-book}
 use Rattle.call_listing.proofs.Texts.{question-few, writes-refused, writes-none, writes-ways}
 use Rattle.call_listing.proofs.write_listing.Statement.{statement}
@@ -78,7 +78,7 @@ returns-2 c =
     let w = f .first .result in
     let off = sym (l .on-item .ensures) ∙ not-true (l .on-item .result) (t .if2 .taken) in
     writes-none (a .book .now) (a .out .now) (p .last .0) (p .result) (ok e) (h .0) (h .1)
-    (sym (on-first f .way-is) ∙ ap (mapOption (wayOf (h .0))) (no-item (w .flows .place) (stateFlow (w .flows)) off)) (p .ensures)
+    (sym (on-first f .way-is) ∙ ap (mapOption (wayOf (h .0))) (no-item-by-test (w .flows .place) (stateFlow (w .flows)) off)) (p .ensures)
 
 -- past "none"
 on : (c : tie.Else2) → onItem (c .before .before .before .first .result .flows .place) ≡ true

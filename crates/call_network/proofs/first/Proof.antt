@@ -51,9 +51,9 @@ returns-2 c =
     let e = s .before .before in
     let a = entry (e .before) .args in
     let (stands, fits) = past e in
-    let walk = f .first .result in
+    let enumerator = f .first .result in
     answers-first (a .balances .now) (a .arcs .now) (e .before .admit-network .result .net) stands (a .flows .now) fits
-    (netIn (walk .net)) (itemOf walk) (ap netIn (f .first .ensures .net-is ∙ s .start .ensures .1) ∙ stands .is)
+    (netIn (enumerator .net)) (itemOf enumerator) (ap netIn (f .first .ensures .net-is ∙ s .start .ensures .1) ∙ stands .is)
     (f .first .ensures .item-is ∙ ap firstFlow (ap netIn (s .start .ensures .1) ∙ stands .is))
     (h .hand-flow .result) _ (h .hand-flow .ensures)
 

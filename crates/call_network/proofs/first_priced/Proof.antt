@@ -80,9 +80,9 @@ returns-3 c =
     let e = k .before .before .before in
     let a = entry (e .before) .args in
     let (stands, fits) = past e in
-    let walk = f .first .result in
+    let enumerator = f .first .result in
     answers-first-priced (a .balances .now) (a .arcs .now) (e .before .admit-network .result .net) stands (a .flows .now) fits
-    (netIn (walk .net)) (itemOf walk) (ap netIn (same f) ∙ stands .is) (f .first .ensures .item-is ∙ ap firstFlow (ap netIn (f .before .start .ensures .1) ∙ stands .is))
+    (netIn (enumerator .net)) (itemOf enumerator) (ap netIn (same f) ∙ stands .is) (f .first .ensures .item-is ∙ ap firstFlow (ap netIn (f .before .start .ensures .1) ∙ stands .is))
     (h .hand-flow .result) _ (h .hand-flow .ensures) (a .prices .now) _ (fits-prices k) (p .hand-prices .ensures)
 
 pub first-priced-spec : {M : Type 1} → statement M

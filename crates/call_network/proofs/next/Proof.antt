@@ -10,7 +10,7 @@ use Rattle.call_reply.specs.ByteLists.{room}
 use Rattle.call_flow_bytes.specs.NetworkBytes.{net}
 use Rattle.call_flow_bytes.specs.FlowSteps.{StandsFor, givenFlow}
 use Rattle.flow_enumerate.specs.Enumerator.{itemOf, stateFlow, itemAfter}
-use Rattle.call_reply.proofs.Places.{no-item, an-item}
+use Rattle.call_reply.proofs.Places.{no-item-by-test, an-item}
 use Rattle.call_reply.proofs.Given.{on-none, on-some}
 use Rattle.call_network.proofs.NetworkEntries.{fails, passes, fails-given, answers-next}
 use borrow.Author.Needs.{needs}
@@ -56,7 +56,7 @@ returns-2 c =
     let (stands, fits) = past e in
     let s = f .resume-flow .result in
     fails-given (a .balances .now) (a .arcs .now) (e .before .admit-network .result .net) stands (a .flows .now) fits (a .given .now) (c .code-alone2 .result)
-    (on-none _ (words (a .given .now)) (itemOf s) (found f) (no-item (s .place) (stateFlow s) (sym (l .on-item .ensures) ∙ not-true (l .on-item .result) (c .before .if2 .taken))))
+    (on-none _ (words (a .given .now)) (itemOf s) (found f) (no-item-by-test (s .place) (stateFlow s) (sym (l .on-item .ensures) ∙ not-true (l .on-item .result) (c .before .if2 .taken))))
     (c .code-alone2 .ensures)
 
 hand-flow-requires : tie.Need-hand-flow-requires

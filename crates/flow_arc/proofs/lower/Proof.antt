@@ -15,9 +15,9 @@ use Rattle.net_theory.specs.FreeArcs.{FreeWalk}
 use Rattle.net_theory.proofs.Graph.{bounds-with, within-with}
 use Rattle.net_theory.proofs.Ready.{searchable-again}
 use Rattle.flow_arc.specs.FreeMarks.{FreeMarks, ForAll}
-use Rattle.flow_arc.proofs.Lists.{path-whole}
-use Rattle.flow_arc.proofs.Candidates.{no-less}
-use Rattle.flow_arc.proofs.WalksAbove.{path-capacity, capacity-above-with}
+use Rattle.flow_arc.proofs.Lists.{free-walk-whole}
+use Rattle.flow_arc.proofs.Candidates.{not-lowerable-least}
+use Rattle.flow_arc.proofs.WalksAbove.{walk-capacity-above, capacity-above-with}
 use Rattle.flow_arc.proofs.Lowering.{LowTurn, low-start, low-step, low-done, exact-whole}
 use Rattle.flow_arc.proofs.lower.Statement.{statement}
 use Rattle.flow_arc.proofs.lower.Tie as tie
@@ -71,16 +71,16 @@ len-of d = d .before .before .before .route .given .0 .0
 abbrev codes-of : Use → List ℕ
 codes-of d = take (len-of d) (lent d)
 
--- they are a path from the arc's tail to its head, over the arcs from `from` on
-abbrev PathFrom : Use → ℕ → Type 0
-PathFrom d from = let s = begin-use d in
+-- they are a walk from the arc's tail to its head, over the arcs from `from` on
+abbrev WalkFrom : Use → ℕ → Type 0
+WalkFrom d from = let s = begin-use d in
     FreeWalk (net s) (at-use d .loop .flow) (s .args .free .now) (tail (net s) (s .args .a)) (head (net s) (s .args .a)) from (codes-of d)
 
-told : (d : Use) → (len-of d ≤ length (lent d)) × PathFrom d (begin-use d .args .a + 1)
-told d = let m = d .before .before .before in let (few, path, _) = rw (m .route .given .1) at (m .before .before .before .find-walk .ensures) in (few, path)
+told : (d : Use) → (len-of d ≤ length (lent d)) × WalkFrom d (begin-use d .args .a + 1)
+told d = let m = d .before .before .before in let (few, walk, _) = rw (m .route .given .1) at (m .before .before .before .find-walk .ensures) in (few, walk)
 
-path-of : (d : Use) → PathFrom d (suc (begin-use d .args .a))
-path-of d = rw add-one at (told d .1)
+walk-of : (d : Use) → WalkFrom d (suc (begin-use d .args .a))
+walk-of d = rw add-one at (told d .1)
 
 -- arc a is one of at most 512
 few : (s : tie.Start Inv-loop μ-loop) → s .args .a < 512
@@ -94,7 +94,7 @@ returns c = let s = begin (c .before) in (
   s .pre .0 .within,
   λ b d π ti. low-done (whole s b d) π (s .args .free .now) (s .args .flow .now) (s .args .a) (s .pre .1) (s .args .flow .now)
       (low-start (whole s b d) π (s .args .free .now) (s .args .flow .now) (s .args .a) (s .pre .1) ti)
-      (no-less (whole s b d) π (s .args .free .now) (s .args .flow .now) ti (s .args .a) (s .pre .1) (inl (not-true _ (c .if1 .taken)))),
+      (not-lowerable-least (whole s b d) π (s .args .free .now) (s .args .flow .now) ti (s .args .a) (s .pre .1) (inl (not-true _ (c .if1 .taken)))),
 )
 
 shared-slice-read-s : tie.Need-shared-slice-read-s Inv-loop μ-loop
@@ -132,7 +132,7 @@ returns-2 : tie.Need-returns-2 Inv-loop μ-loop
 returns-2 c = let a = c .before .before .loop in let s = start (c .before .before) in (
   a .inv .1,
   λ b d π ti. low-done (whole s b d) π (s .args .free .now) (s .args .flow .now) (s .args .a) (s .pre .1) (a .flow) (a .inv .2 b d π ti)
-      (no-less (whole s b d) π (s .args .free .now) (a .flow) (a .inv .2 b d π ti .free-still) (s .args .a) (s .pre .1) (inr (inl (c .if2 .taken)))),
+      (not-lowerable-least (whole s b d) π (s .args .free .now) (a .flow) (a .inv .2 b d π ti .free-still) (s .args .a) (s .pre .1) (inr (inl (c .if2 .taken)))),
 )
 
 add-find-walk : tie.Need-add-find-walk Inv-loop μ-loop
@@ -153,7 +153,7 @@ returns-3 : tie.Need-returns-3 Inv-loop μ-loop
 returns-3 c = let d = c .before .before .before in let a = turn d .loop in let s = start (turn d) in (
   a .inv .1,
   λ b x π ti. low-done (whole s b x) π (s .args .free .now) (s .args .flow .now) (s .args .a) (s .pre .1) (a .flow) (a .inv .2 b x π ti)
-      (no-less (whole s b x) π (s .args .free .now) (a .flow) (a .inv .2 b x π ti .free-still) (s .args .a) (s .pre .1)
+      (not-lowerable-least (whole s b x) π (s .args .free .now) (a .flow) (a .inv .2 b x π ti .free-still) (s .args .a) (s .pre .1)
       (inr (inr (rw add-one at ((rw (c .enum-told .given .1) at (d .find-walk .ensures)) .0))))),
 )
 
@@ -164,7 +164,7 @@ take-off-requires c κs = let s = begin-use c in let a = at-use c .loop in (
   within-with (net s) [] [] [] (a .flow) (a .inv .1),
   s .pre .1,
   search-of c .before .before .before .if2 .left,
-  capacity-above-with (net s) [] (a .flow) (s .args .a) (codes-of c) (path-capacity (net s) (a .flow) (s .args .free .now) (tail (net s) (s .args .a)) (head (net s) (s .args .a)) (s .args .a) (codes-of c) (path-of c)),
+  capacity-above-with (net s) [] (a .flow) (s .args .a) (codes-of c) (walk-capacity-above (net s) (a .flow) (s .args .free .now) (tail (net s) (s .args .a)) (head (net s) (s .args .a)) (s .args .a) (codes-of c) (walk-of c)),
 )
 
 loop-less : tie.Need-loop-less Inv-loop μ-loop
@@ -176,7 +176,7 @@ loop-again c = let o = c .before .before .take-off in let d = c .before .before 
   within-with (netWith [] (s .args .tails .now) [] (s .args .lows .now) (s .args .ups .now) []) [] (s .args .heads .now) [] _ (o .ensures .within),
   λ b x π ti. let N = whole s b x in
       low-step N π (s .args .free .now) (s .args .flow .now) (s .args .a) (s .pre .1) (a .flow) _ (codes-of d) (a .inv .2 b x π ti) (not-false _ (marked (at-use d) .if1 .left)) (search-of d .before .before .before .if2 .left)
-      (path-whole N (a .flow) (s .args .free .now) (tail N (s .args .a)) (head N (s .args .a)) (suc (s .args .a)) (codes-of d) (path-of d))
+      (free-walk-whole N (a .flow) (s .args .free .now) (tail N (s .args .a)) (head N (s .args .a)) (suc (s .args .a)) (codes-of d) (walk-of d))
       (exact-whole N (a .flow) _ (s .args .a) (codes-of d) (o .ensures .exact)),
 )
 

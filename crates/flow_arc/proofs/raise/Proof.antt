@@ -10,8 +10,8 @@ use Rattle.net_model.specs.Network.{Net, tail, head}
 use Rattle.net_theory.specs.Graph.{netWith}
 use Rattle.net_theory.specs.FreeArcs.{FreeWalk}
 use Rattle.net_theory.proofs.Graph.{bounds-with, within-with}
-use Rattle.flow_arc.proofs.Lists.{path-whole}
-use Rattle.flow_arc.proofs.WalksAbove.{path-capacity, capacity-above-with}
+use Rattle.flow_arc.proofs.Lists.{free-walk-whole}
+use Rattle.flow_arc.proofs.WalksAbove.{walk-capacity-above, capacity-above-with}
 use Rattle.flow_arc.proofs.Raising.{unblocked, raised-one}
 use Rattle.flow_arc.proofs.raise.Statement.{statement}
 use Rattle.flow_arc.proofs.raise.Tie as tie
@@ -46,15 +46,15 @@ len-of d = d .before .before .before .route .given .0 .0
 abbrev codes-of : tie.After-codes3 → List ℕ
 codes-of d = take (len-of d) (lent d)
 
--- they are a path from the arc's head to its tail, over the arcs from `from` on
-abbrev PathFrom : tie.After-codes3 → ℕ → Type 0
-PathFrom d from = let s = begin-use d in FreeWalk (net s) (s .args .flow .now) (s .args .free .now) (head (net s) (s .args .a)) (tail (net s) (s .args .a)) from (codes-of d)
+-- they are a walk from the arc's head to its tail, over the arcs from `from` on
+abbrev WalkFrom : tie.After-codes3 → ℕ → Type 0
+WalkFrom d from = let s = begin-use d in FreeWalk (net s) (s .args .flow .now) (s .args .free .now) (head (net s) (s .args .a)) (tail (net s) (s .args .a)) from (codes-of d)
 
-told : (d : tie.After-codes3) → (len-of d ≤ length (lent d)) × PathFrom d (begin-use d .args .a + 1)
-told d = let m = d .before .before .before in let (few, path, _) = rw (m .route .given .1) at (m .before .before .before .find-walk .ensures) in (few, path)
+told : (d : tie.After-codes3) → (len-of d ≤ length (lent d)) × WalkFrom d (begin-use d .args .a + 1)
+told d = let m = d .before .before .before in let (few, walk, _) = rw (m .route .given .1) at (m .before .before .before .find-walk .ensures) in (few, walk)
 
-path-of : (d : tie.After-codes3) → PathFrom d (suc (begin-use d .args .a))
-path-of d = rw add-one at (told d .1)
+walk-of : (d : tie.After-codes3) → WalkFrom d (suc (begin-use d .args .a))
+walk-of d = rw add-one at (told d .1)
 
 cast-s : tie.Need-cast-s
 cast-s c = let s = begin c in omega (arith, s .pre .0 .searchable .ends .tail-in (s .args .a) (s .pre .1))
@@ -66,7 +66,7 @@ find-walk-requires : tie.Need-find-walk-requires
 find-walk-requires c κs = let s = begin (c .before .before .before) in let ends = s .pre .0 .searchable .ends in
     (s .pre .0 .searchable, ends .head-in (s .args .a) (s .pre .1), ends .tail-in (s .args .a) (s .pre .1), refl)
 
--- there is a path
+-- there is a walk
 returns : tie.Need-returns
 returns c =
     let d = c .before .before .before in
@@ -83,7 +83,7 @@ put-on-requires c κs = let s = begin-use c in (
   s .pre .1,
   s .pre .2 .1,
   capacity-above-with (net s) [] (s .args .flow .now) (s .args .a) (codes-of c)
-      (path-capacity (net s) (s .args .flow .now) (s .args .free .now) (head (net s) (s .args .a)) (tail (net s) (s .args .a)) (s .args .a) (codes-of c) (path-of c)),
+      (walk-capacity-above (net s) (s .args .flow .now) (s .args .free .now) (head (net s) (s .args .a)) (tail (net s) (s .args .a)) (s .args .a) (codes-of c) (walk-of c)),
 )
 
 returns-2 : tie.Need-returns-2
@@ -91,7 +91,7 @@ returns-2 c = let o = c .before .before .put-on in let d = c .before .before .be
   within-with (netWith [] (s .args .tails .now) [] (s .args .lows .now) (s .args .ups .now) []) [] (s .args .heads .now) [] _ (o .ensures .within),
   λ b x π ti. let N = whole s b x in
       raised-one N π (s .args .free .now) (s .args .flow .now) (s .args .a) (s .pre .1) ti _ (codes-of d) (s .pre .2 .0) (s .pre .2 .1)
-      (path-whole N (s .args .flow .now) (s .args .free .now) (head N (s .args .a)) (tail N (s .args .a)) (suc (s .args .a)) (codes-of d) (path-of d)) (o .ensures .exact),
+      (free-walk-whole N (s .args .flow .now) (s .args .free .now) (head N (s .args .a)) (tail N (s .args .a)) (suc (s .args .a)) (codes-of d) (walk-of d)) (o .ensures .exact),
 )
 
 pub raise-spec : {M : Type 1} → statement M

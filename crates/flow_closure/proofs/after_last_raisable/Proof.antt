@@ -43,11 +43,11 @@ low c = omega (arith, c .loop-test .taken, c .before .loop .inv .1 .in-range)
 behind : (c : tie.In-loop Inv-loop μ-loop) → Closure (net (start c)) (start c .args .flow .now) (start c .args .free .now) (suc (c .before .loop .a - 1)) (c .before .loop .rows)
 behind c = before-arc (net (start c)) _ _ (c .before .loop .a) (c .before .loop .rows) (c .loop-test .taken) (c .before .loop .inv .0)
 
-clear-requires : tie.Need-clear-requires Inv-loop μ-loop
-clear-requires c κs = refl
+alone-requires : tie.Need-alone-requires Inv-loop μ-loop
+alone-requires c κs = refl
 
 loop-holds : tie.Need-loop-holds Inv-loop μ-loop
-loop-holds c = let s = begin c in (closure-start (net s) (s .args .flow .now) (s .args .free .now) _ (c .before .clear .ensures), raisable-start (net s) (s .args .flow .now) (s .args .free .now))
+loop-holds c = let s = begin c in (closure-start (net s) (s .args .flow .now) (s .args .free .now) _ (c .before .alone .ensures), raisable-start (net s) (s .args .flow .now) (s .args .free .now))
 
 shared-slice-read-if1 : tie.Need-shared-slice-read-if1 Inv-loop μ-loop
 shared-slice-read-if1 c = let i = c .before in omega (arith, low i, start i .pre .free-len)
@@ -100,7 +100,7 @@ after-last-raisable-spec =
     (tie.spec
     Inv-loop
     μ-loop
-    (λ c. search needs) clear-requires
+    (λ c. search needs) alone-requires
     loop-holds
     (λ c. search needs) shared-slice-read-if1
     (λ c. search needs) (λ c. search needs) loop-again

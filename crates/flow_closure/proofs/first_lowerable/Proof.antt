@@ -46,11 +46,11 @@ low c = omega (arith, some c, c .before .loop .inv .2 .none .after, c .before .l
 behind : (c : tie.In-loop Inv-loop μ-loop) → Closure (net (start c)) (start c .args .flow .now) (start c .args .free .now) (suc (c .before .loop .a - 1)) (c .before .loop .rows)
 behind c = before-arc (net (start c)) _ _ (c .before .loop .a) (c .before .loop .rows) (some c) (c .before .loop .inv .1)
 
-clear-requires : tie.Need-clear-requires Inv-loop μ-loop
-clear-requires c κs = refl
+alone-requires : tie.Need-alone-requires Inv-loop μ-loop
+alone-requires c κs = refl
 
 loop-holds : tie.Need-loop-holds Inv-loop μ-loop
-loop-holds c = let s = begin c in (s .pre .1, closure-start (net s) (s .args .flow .now) (s .args .free .now) _ (c .before .clear .ensures), lowerable-start (net s) (s .args .flow .now) (s .args .free .now))
+loop-holds c = let s = begin c in (s .pre .1, closure-start (net s) (s .args .flow .now) (s .args .free .now) _ (c .before .alone .ensures), lowerable-start (net s) (s .args .flow .now) (s .args .free .now))
 
 sub-a : tie.Need-sub-a Inv-loop μ-loop
 sub-a c = omega (arith, c .loop-test .taken)
@@ -111,7 +111,7 @@ first-lowerable-spec =
     (tie.spec
     Inv-loop
     μ-loop
-    (λ c. search needs) clear-requires
+    (λ c. search needs) alone-requires
     loop-holds
     sub-a
     shared-slice-read-if1

@@ -28,14 +28,14 @@ begin c = c .before .before .before .before .before .before .before .before .bef
 abbrev start : tie.At-loop Inv-loop μ-loop → tie.Start Inv-loop μ-loop
 start c = begin (c .before .before .before)
 
-clear-requires : tie.Need-clear-requires Inv-loop μ-loop
-clear-requires c κs = refl
+alone-requires : tie.Need-alone-requires Inv-loop μ-loop
+alone-requires c κs = refl
 
 slice-aggregate-add-arcs : tie.Need-slice-aggregate-add-arcs Inv-loop μ-loop
-slice-aggregate-add-arcs c = sym (c .before .before .before .clear .ensures .preorder .rows-len)
+slice-aggregate-add-arcs c = sym (c .before .before .before .alone .ensures .preorder .rows-len)
 
 add-arcs-requires : tie.Need-add-arcs-requires Inv-loop μ-loop
-add-arcs-requires c κs = (begin c .pre, c .before .before .before .clear .ensures)
+add-arcs-requires c κs = (begin c .pre, c .before .before .before .alone .ensures)
 
 loop-holds : tie.Need-loop-holds Inv-loop μ-loop
 loop-holds c = let s = begin (c .before .before) in (omega arith, c .before .add-arcs .ensures, narrowing-start (net s) (s .args .flow .now) (s .args .free .now))
@@ -82,7 +82,7 @@ unmark-fixed-spec =
     Inv-loop
     μ-loop
     (λ c. search needs)
-    clear-requires
+    alone-requires
     slice-aggregate-add-arcs
     add-arcs-requires
     loop-holds

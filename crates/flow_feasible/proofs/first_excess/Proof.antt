@@ -6,7 +6,7 @@ use lib.Signed.{_≤ℤ_}
 use mir.Syntax.{w64}
 use mir.Facts.{toZ-ofZ}
 use borrow.Author.Needs.{needs}
-use Rattle.flow_feasible.proofs.FirstExcess.{first-yes, first-more, first-none}
+use Rattle.flow_feasible.proofs.FirstExcess.{excess-here, excess-later, excess-nowhere}
 use Rattle.flow_feasible.proofs.first_excess.Statement.{statement}
 use Rattle.flow_feasible.proofs.first_excess.Tie as tie
 
@@ -20,16 +20,16 @@ loop-holds : tie.Need-loop-holds Inv-loop μ-loop
 loop-holds c = (omega arith, λ v h. absurd (omega arith))
 
 returns : tie.Need-returns Inv-loop μ-loop
-returns c = first-yes (c .before .before .before .before .args .excess .now) (c .before .before .before .loop .i) _ (c .before .before .loop-test .taken) (toZ-ofZ {w = w64} (record { sfits = c .before .x .given })) (c .if1 .taken)
+returns c = excess-here (c .before .before .before .before .args .excess .now) (c .before .before .before .loop .i) _ (c .before .before .loop-test .taken) (toZ-ofZ {w = w64} (record { sfits = c .before .x .given })) (c .if1 .taken)
 
 loop-less : tie.Need-loop-less Inv-loop μ-loop
 loop-less c = omega (arith, c .before .before .loop-test .taken)
 
 loop-again : tie.Need-loop-again Inv-loop μ-loop
-loop-again c = (omega (arith, c .before .before .loop-test .taken), first-more (c .before .before .before .before .args .excess .now) (c .before .before .before .loop .i) _ (toZ-ofZ {w = w64} (record { sfits = c .before .x .given })) (c .if1 .left) (c .before .before .before .loop .inv .1))
+loop-again c = (omega (arith, c .before .before .loop-test .taken), excess-later (c .before .before .before .before .args .excess .now) (c .before .before .before .loop .i) _ (toZ-ofZ {w = w64} (record { sfits = c .before .x .given })) (c .if1 .left) (c .before .before .before .loop .inv .1))
 
 returns-2 : tie.Need-returns-2 Inv-loop μ-loop
-returns-2 c = first-none (c .before .before .args .excess .now) (c .before .loop .i) (c .before .loop .inv .0) (c .loop-test .left) (c .before .loop .inv .1)
+returns-2 c = excess-nowhere (c .before .before .args .excess .now) (c .before .loop .i) (c .before .loop .inv .0) (c .loop-test .left) (c .before .loop .inv .1)
 
 pub first-excess-spec : {M : Type 1} → statement M
 first-excess-spec =

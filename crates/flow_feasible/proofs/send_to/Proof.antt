@@ -27,7 +27,7 @@ first c = c .before .before .before .before .before .before
 abbrev begin : tie.After-find-walk → tie.Start
 begin c = first (c .before .before .before .before)
 
--- where a path was found, seen from the call of `bottleneck`, from that of `push` and from the end
+-- where a walk was found, seen from the call of `bottleneck`, from that of `push` and from the end
 abbrev at-capacity : tie.After-codes3 → tie.After-known-told
 at-capacity c = c .before .before .before .before
 
@@ -43,7 +43,7 @@ net s = netWith [] (s .args .tails .now) (s .args .heads .now) (s .args .lows .n
 abbrev excess : tie.Start → ℤ
 excess s = toZ w64 (ofZ w64 (s .args .x))
 
--- the search that found a path: where the function begins, how many codes it has, and the codes
+-- the search that found a walk: where the function begins, how many codes it has, and the codes
 abbrev found : tie.After-known-told → tie.After-find-walk
 found k = k .before .before .before .before
 
@@ -62,8 +62,8 @@ codes-of k = take (len-of k) (lent k)
 told : (k : tie.After-known-told) → let s = start k in (len-of k ≤ length (lent k)) × FreeWalk (net s) (s .args .flow .now) (s .args .free .now) (s .args .s) (s .args .t) 0 (codes-of k)
 told k =
     let s = start k in
-    let (few, path, _) = subst (FindsWalk (net s) (s .args .flow .now) (s .args .free .now) (s .args .s) (s .args .t) 0 (replicate 64 0) (lent k)) (k .before .route .given .1) (found k .find-walk .ensures) in
-    (few, path)
+    let (few, walk, _) = subst (FindsWalk (net s) (s .args .flow .now) (s .args .free .now) (s .args .s) (s .args .t) 0 (replicate 64 0) (lent k)) (k .before .route .given .1) (found k .find-walk .ensures) in
+    (few, walk)
 
 returns : tie.Need-returns
 returns c =

@@ -7,7 +7,7 @@ use Rattle.net_model.specs.Network.{Net}
 use Rattle.net_model.specs.Residual.{codes}
 use Rattle.net_theory.specs.Graph.{netWith}
 use Rattle.flow_negative_cycle.specs.Predecessors.{pred}
-use Rattle.flow_negative_cycle.proofs.Ways.{Collecting, arc-of, collecting-none, here, node, capacity, collecting-more, collecting-done}
+use Rattle.flow_negative_cycle.proofs.StepsBack.{Collecting, arc-of, collecting-none, here, node, capacity, collecting-more, collecting-done}
 use Rattle.flow_negative_cycle.proofs.collect.Statement.{statement}
 use Rattle.flow_negative_cycle.proofs.collect.Tie as tie
 

@@ -27,7 +27,7 @@ abbrev μ-rounds : tie.MeasureT-rounds
 abbrev net : tie.Start Inv-rounds μ-rounds → Net
 net s = netWith [] (s .args .tails .now) (s .args .heads .now) (s .args .lows .now) (s .args .ups .now) (s .args .costs .now)
 
--- with the lists that the ways back are read from
+-- with the lists that the steps back are read from
 abbrev ends : tie.Start Inv-rounds μ-rounds → Net
 ends s = netWith [] (s .args .tails .now) (s .args .heads .now) [] [] []
 
@@ -72,7 +72,7 @@ module _ (r : tie.After-round Inv-rounds μ-rounds) where
   small-ends : SmallEnds (ends start)
   small-ends = ends-with (net start) [] [] [] [] (start .pre .0 .ends)
 
-  -- a way back, told of tails and heads alone
+  -- steps back, told of tails and heads alone
   module _ (x : ℕ) (n : ¬ (r .round .result ≡ 64)) (w : GoesBack (ends start) preds (r .round .result) x) where
     back-whole : GoesBack (net start) preds (r .round .result) x
     back-whole = goes-back-with (ends start) [] (start .args .lows .now) (start .args .ups .now) (start .args .costs .now) preds (r .round .result) x w

@@ -5,7 +5,7 @@ use native.Mathlib.Omega.{arith}
 use Rattle.net_model.specs.Network.{Net}
 use Rattle.net_theory.specs.Graph.{netWith}
 use Rattle.flow_negative_cycle.specs.Predecessors.{back, ended, went}
-use Rattle.flow_negative_cycle.proofs.Ways.{Going, arc-of, going-none, going-more, going-ends}
+use Rattle.flow_negative_cycle.proofs.StepsBack.{Going, arc-of, going-none, going-more, going-ends}
 use Rattle.flow_negative_cycle.proofs.go_back.Statement.{statement}
 use Rattle.flow_negative_cycle.proofs.go_back.Tie as tie
 

@@ -6,7 +6,7 @@ use lib.ListN.{take, getD-replicate}
 use borrow.Author.Needs.{needs}
 use Rattle.net_model.specs.Network.{Net}
 use Rattle.net_theory.specs.Graph.{netWith}
-use Rattle.flow_path.proofs.Tracing.{reach-blocked, reach-falls, reach-path}
+use Rattle.flow_path.proofs.Tracing.{reach-blocked, reach-falls, reach-walk}
 use Rattle.flow_path.proofs.find_walk.Statement.{statement}
 use Rattle.flow_path.proofs.find_walk.Tie as tie
 
@@ -49,7 +49,7 @@ returns-2 : tie.Need-returns-2
 returns-2 c = let k = c .before .before in let d = searched (k .before) in let s = begin (d .before) in
     let cs = take (k .trace .result) (k .trace .last .1 .1 .1 .1 .1 .0) in (
       k .trace .ensures .fits,
-      reach-path (net s) (s .args .flow .now) (s .args .free .now) (s .args .s) (s .args .t) (s .args .from) (rank-of d) (via-of d) (d .reach .result) (d .reach .ensures) cs (k .trace .ensures .traced),
+      reach-walk (net s) (s .args .flow .now) (s .args .free .now) (s .args .s) (s .args .t) (s .args .from) (rank-of d) (via-of d) (d .reach .result) (d .reach .ensures) cs (k .trace .ensures .traced),
       k .trace .ensures .rest,
     )
 

@@ -8,12 +8,12 @@ use Rattle.bytes_read.proofs.Words.{length-ints}
 use Rattle.net_model.specs.Input.{rows}
 use Rattle.net_model.specs.declared.Network.{Network}
 use Rattle.net_questions.proofs.Rows.{arcs-of}
-use Rattle.net_questions.proofs.Accepted.{Passed, passed}
+use Rattle.net_questions.proofs.Accepted.{AllPassed, passed}
 use Rattle.net_check.proofs.Limits.{tails-column, heads-column, lows-column, ups-column}
 use Rattle.net_check.proofs.fill.Statement.{statement}
 use Rattle.net_check.proofs.fill.Tie as tie
 
-ok : (c : tie.Start) → Passed (c .args .balances .now) (c .args .arcs .now)
+ok : (c : tie.Start) → AllPassed (c .args .balances .now) (c .args .arcs .now)
 ok c = passed (c .args .balances .now) (c .args .arcs .now) (c .pre)
 
 same : {n n′ m m′ : ℕ} {b b′ c c′ : List ℤ} {t t′ d d′ l l′ u u′ : List ℕ} → n ≡ n′ → m ≡ m′ → b ≡ b′ → t ≡ t′ → d ≡ d′ → l ≡ l′ → u ≡ u′ → c ≡ c′

@@ -8,7 +8,7 @@ use borrow.Fn.Kinds.{In}
 use borrow.Fn.PlainCycle.{Measures, is, falls, and}
 use lib.ListN.{length, drop}
 use Rattle.text_read.specs.Reader.{Parsed, _>>=_, give, bytes, text, number, row}
-use Rattle.text_read.proofs.Sequence.{From, first, first-stops, next-right, stops, ends}
+use Rattle.text_read.proofs.Sequence.{From, first, first-stops, next-right, stops, all-read}
 use Rattle.text_read.proofs.Rows.{row-none, row-absent, row-more, put-first, put-before}
 use Rattle.text_read.proofs.read_row.Reads as read-row
 use Rattle.text_read.proofs.read_row.Kinds as kinds
@@ -160,7 +160,7 @@ module _ (t : ℕ) where
       let start : lts.Start (claims t) (at t) read-row.Post = search in
       let some = else1 .if1 .left in
       record {
-        right = rw (put-first _ (start .args .n) _ four (start .pre .1 .0) some) (ends (ended c) (omega (arith, c .before .if4 .left)));
+        right = rw (put-first _ (start .args .n) _ four (start .pre .1 .0) some) (all-read (ended c) (omega (arith, c .before .if4 .left)));
         before = put-before (c .before .before .read-row .result .numbers) (start .args .n) (after-read-number .read-number .result .value) some (c .before .before .read-row .ensures .before);
         none = λ z. absurd (omega (arith, c .before .if4 .left));
       }

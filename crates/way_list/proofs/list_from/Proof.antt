@@ -10,14 +10,14 @@ use Rattle.text_write.proofs.Sizes.{more-size, end-size}
 use Rattle.book_form.specs.Book.{Book}
 use Rattle.way_theory.specs.FullWays.{firstWay}
 use Rattle.way_enumerate.specs.WayEnumerator.{EnumeratesSome, Enumerates, wayAt}
-use Rattle.way_list.proofs.Progress.{Progress, starts, ends-more, ends}
-use Rattle.way_list.proofs.Standing.{shown, on-way, off-way}
+use Rattle.way_list.proofs.Progress.{ListedSoFar, starts, ends-more, ends-whole}
+use Rattle.way_list.proofs.Standing.{standingWay, on-way, off-way}
 use Rattle.way_list.proofs.Turn.{step}
 use Rattle.way_list.proofs.list_from.Statement.{statement}
 use Rattle.way_list.proofs.list_from.Tie as tie
 
 abbrev Inv-loop : tie.InvT-loop
-Inv-loop out₀ at w₀ k₀ n₀ out w k n = (length out ≡ length out₀) × (n ≤ 1000) × (k ≤ at + 90 * n) × (w .flows .place ≡ Item) × EnumeratesSome w × ((b : Book) → Enumerates b w₀ → wayAt b w₀ ≡ firstWay b → Enumerates b w × Progress b out₀ at (wayAt b w) out k n)
+Inv-loop out₀ at w₀ k₀ n₀ out w k n = (length out ≡ length out₀) × (n ≤ 1000) × (k ≤ at + 90 * n) × (w .flows .place ≡ Item) × EnumeratesSome w × ((b : Book) → Enumerates b w₀ → wayAt b w₀ ≡ firstWay b → Enumerates b w × ListedSoFar b out₀ at (wayAt b w) out k n)
 
 abbrev μ-loop : tie.MeasureT-loop
 μ-loop out₀ at w₀ k₀ n₀ out w k n = 1000 - n
@@ -39,7 +39,7 @@ returns c =
     let full = then1 .if1 .taken in
     record {
       each = λ b enumerates e. (let (now, p) = l .inv .5 b enumerates e in
-          ends-more b (s .args .out .now) (s .args .at) (l .out) (l .k) (l .n) (shown b (l .w)) full (subst (λ o. Progress b (s .args .out .now) (s .args .at) o (l .out) (l .k) (l .n)) (on-way b (l .w) (l .inv .3)) p) (m .last .0) (m .result) (m .ensures));
+          ends-more b (s .args .out .now) (s .args .at) (l .out) (l .k) (l .n) (standingWay b (l .w)) full (subst (λ o. ListedSoFar b (s .args .out .now) (s .args .at) o (l .out) (l .k) (l .n)) (on-way b (l .w) (l .inv .3)) p) (m .last .0) (m .result) (m .ensures));
     }
 
 list-one-requires : tie.Need-list-one-requires Inv-loop μ-loop
@@ -95,8 +95,8 @@ returns-2 c =
     let f = c .before .before .put-end in
     record {
       each = λ b enumerates e. (let (now, p) = step b (s .args .out .now) (s .args .at) (l .w) (l .out) (l .k) (l .n) (l .inv .3) (l .inv .5 b enumerates e) (one .last .1 .0) (one .result) (one .ensures .1) (m .result) (wordAfter (l .w .flows .place)) (m .ensures) in
-          ends b (s .args .out .now) (s .args .at) (one .last .1 .0) (one .result) (l .n + 1) (omega (arith, l .inv .1, else1 .if1 .left))
-          (subst (λ o. Progress b (s .args .out .now) (s .args .at) o (one .last .1 .0) (one .result) (l .n + 1)) (off-way b (m .result) (no-item-at (m .result .flows .place) (at-match-keys2 .match .keys2))) p) (f .last .0) (f .result) (f .ensures));
+          ends-whole b (s .args .out .now) (s .args .at) (one .last .1 .0) (one .result) (l .n + 1) (omega (arith, l .inv .1, else1 .if1 .left))
+          (subst (λ o. ListedSoFar b (s .args .out .now) (s .args .at) o (one .last .1 .0) (one .result) (l .n + 1)) (off-way b (m .result) (no-item-at (m .result .flows .place) (at-match-keys2 .match .keys2))) p) (f .last .0) (f .result) (f .ensures));
     }
 
 pub list-from-spec : {M : Type 1} → statement M

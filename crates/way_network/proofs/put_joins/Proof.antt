@@ -2,13 +2,13 @@ use Prim.Native.Nat.{_≤_}
 use native.Mathlib.Omega.{arith}
 use borrow.Author.Needs.{needs}
 use Rattle.way_network.specs.Arrays.{arrays}
-use Rattle.way_network.proofs.Progress.{cost-small, Going, going-start, going-on, going-done}
+use Rattle.way_network.proofs.Progress.{cost-small, JoinsAhead, going-start, going-on, going-done}
 use Rattle.way_network.proofs.put_joins.Statement.{statement}
 use Rattle.way_network.proofs.put_joins.Tie as tie
 
 abbrev Inv-loop : tie.InvT-loop
 Inv-loop fee e ticks move-costs instruments starts finishes j tails₀ heads₀ costs₀ m at₀ i₀ tails heads costs at i =
-    Going ticks move-costs instruments starts finishes fee e j (arrays tails₀ heads₀ costs₀) m (arrays tails heads costs) at i
+    JoinsAhead ticks move-costs instruments starts finishes fee e j (arrays tails₀ heads₀ costs₀) m (arrays tails heads costs) at i
 
 abbrev μ-loop : tie.MeasureT-loop
 μ-loop fee e ticks move-costs instruments starts finishes j tails₀ heads₀ costs₀ m at₀ i₀ tails heads costs at i = i

@@ -9,18 +9,18 @@ use lib.ListN.{length}
 use Rattle.book_lines.specs.Lines.{Entry, entry}
 use Rattle.book_lines.specs.Passes.{entryOf, putIn}
 use Rattle.text_read.proofs.Lines.{Lines, lines-none, lines-more, lines-fall, lines-all}
-use Rattle.book_lines.proofs.EntryPass.{Known, known-none, known-more}
+use Rattle.book_lines.proofs.EntryPass.{KnownEntries, known-entries-none, known-entries-more}
 use Rattle.book_lines.proofs.entries.read_entries.Statement.{statement}
 use Rattle.book_lines.proofs.entries.read_entries.Tie as tie
 
 abbrev Inv-loop : tie.InvT-loop
-Inv-loop book first total columns₀ count₀ line₀ bad₀ rest₀ columns count line bad rest = (done : List Entry) × Lines entry book done rest × Known book first total done count line bad columns
+Inv-loop book first total columns₀ count₀ line₀ bad₀ rest₀ columns count line bad rest = (done : List Entry) × Lines entry book done rest × KnownEntries book first total done count line bad columns
 
 abbrev μ-loop : tie.MeasureT-loop
 μ-loop book first total columns₀ count₀ line₀ bad₀ rest₀ columns count line bad rest = length rest
 
 loop-holds : tie.Need-loop-holds Inv-loop μ-loop
-loop-holds c = ([], lines-none entry _, known-none _ _ _)
+loop-holds c = ([], lines-none entry _, known-entries-none _ _ _)
 
 sub-t19 : tie.Need-sub-t19 Inv-loop μ-loop
 sub-t19 c = omega (arith, c .before .before .loop .inv .1 .shorter)
@@ -88,7 +88,7 @@ loop-again c =
       v .0 ++ (entryOf t r ∷ []),
       lines-more (v .1) (e .right) (else1 .if1 .left),
       rw (c .before .first-bad .ensures, c .before .before .is-fair .ensures)
-          (known-more _ _ _ (v .0) _ _ _ _ _ t r (v .2) (start .pre .0) (stored (c .before .before .before)) (passed-over (c .before .before .before)) e (else1 .if1 .left) (v .1 .part-is)),
+          (known-entries-more _ _ _ (v .0) _ _ _ _ _ t r (v .2) (start .pre .0) (stored (c .before .before .before)) (passed-over (c .before .before .before)) e (else1 .if1 .left) (v .1 .part-is)),
     )
 
 pub read-entries-spec : {M : Type 1} → statement M

@@ -8,18 +8,18 @@ use Rattle.text_read.specs.Reader.{bytes, row, ReadsFront}
 use Rattle.book_lines.specs.Lines.{move, moveFrom}
 use Rattle.text_read.proofs.Sequence.{mapped}
 use Rattle.text_read.proofs.Lines.{Lines, lines-none, lines-more, lines-fall, lines-all}
-use Rattle.book_lines.proofs.MovePass.{Known, known-none, known-more}
+use Rattle.book_lines.proofs.MovePass.{KnownMoves, known-moves-none, known-moves-more}
 use Rattle.book_lines.proofs.moves.read_moves.Statement.{statement}
 use Rattle.book_lines.proofs.moves.read_moves.Tie as tie
 
 abbrev Inv-loop : tie.InvT-loop
-Inv-loop book ticks₀ costs₀ line₀ bad₀ rest₀ t12 ticks costs line bad rest = (done : List Move) × Lines move book done rest × Known done line bad ticks costs
+Inv-loop book ticks₀ costs₀ line₀ bad₀ rest₀ t12 ticks costs line bad rest = (done : List Move) × Lines move book done rest × KnownMoves done line bad ticks costs
 
 abbrev μ-loop : tie.MeasureT-loop
 μ-loop book ticks₀ costs₀ line₀ bad₀ rest₀ t12 ticks costs line bad rest = length rest
 
 loop-holds : tie.Need-loop-holds Inv-loop μ-loop
-loop-holds c = ([], lines-none move _, known-none)
+loop-holds c = ([], lines-none move _, known-moves-none)
 
 -- the line of a turn
 got : (c : tie.After-read-row Inv-loop μ-loop)
@@ -77,7 +77,7 @@ loop-again c =
     let m = moveFrom (after-read-row .read-row .result .numbers) in (
       v .0 ++ (m ∷ []),
       lines-more (v .1) (got after-read-row) (else1 .if1 .left),
-      rw (c .before .first-bad .ensures) (known-more (v .0) m _ _ _ _ _ _ _ (v .2) (c .before .before .put-move .ensures)),
+      rw (c .before .first-bad .ensures) (known-moves-more (v .0) m _ _ _ _ _ _ _ (v .2) (c .before .before .put-move .ensures)),
     )
 
 pub read-moves-spec : {M : Type 1} → statement M

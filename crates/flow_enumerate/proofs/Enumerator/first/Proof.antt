@@ -17,7 +17,7 @@ use Rattle.flow_least.proofs.Premises.{summable}
 use Rattle.flow_enumerate.specs.Enumerator.{stateNet}
 use Rattle.flow_enumerate.specs.declared.Place.the-variants.{None}
 use Rattle.flow_enumerate.proofs.Held.{few, in-tails, in-heads, in-lows, in-ups, in-costs, in-balances, as-many}
-use Rattle.flow_enumerate.proofs.Steps.{step-off, step-on, not-found, found, cost-summed}
+use Rattle.flow_enumerate.proofs.Steps.{step-off, step-on, not-found, first-found, cost-summed}
 use Rattle.flow_enumerate.proofs.Enumerator.first.Statement.{statement}
 use Rattle.flow_enumerate.proofs.Enumerator.first.Tie as tie
 
@@ -74,7 +74,7 @@ told : (c : tie.Else1) → let a = answered (c .before) in
 told c =
     let a = answered (c .before) in
     let f = a .first-flow in
-    found (stateNet (begin a .args .self)) (flow a) _ (free a) (f .result) (f .ensures) (not-false (f .result) (c .if1 .left))
+    first-found (stateNet (begin a .args .self)) (flow a) _ (free a) (f .result) (f .ensures) (not-false (f .result) (c .if1 .left))
 
 -- it stands in the first places of the array, and so do its marks
 flow-kept : (c : tie.Else1) → let a = answered (c .before) in length (flow a) ≡ begin a .args .self .net .arcs

@@ -16,7 +16,7 @@ use Rattle.flow_negative_cycle.specs.Predecessors.{pred, back, Backs, Re
 use Rattle.flow_negative_cycle.proofs.Relaxing.{back-in}
 use Rattle.flow_negative_cycle.proofs.Cycles.{codes-more}
 
--- one step more of a way back
+-- one step back more
 backs-more : (N : Net) (p : List ℕ) (t x : ℕ) → Backs N p t x → pred p (back N p t x) < codes N → Backs N p (suc t) x
 backs-more N p t x b h i l = go (ℕ-discrete i t)
   where

@@ -8,8 +8,8 @@ use borrow.Author.Needs.{needs}
 use Rattle.laws.specs.Padded.{set-more}
 use Rattle.flow_preorder.specs.NodeSet.{has}
 use Rattle.flow_preorder.proofs.Preorder.{alone}
-use Rattle.flow_preorder.proofs.clear.Statement.{statement}
-use Rattle.flow_preorder.proofs.clear.Tie as tie
+use Rattle.flow_preorder.proofs.alone.Statement.{statement}
+use Rattle.flow_preorder.proofs.alone.Tie as tie
 
 abbrev Inv-loop : tie.InvT-loop
 Inv-loop rows₀ v₀ rows v = (length rows ≡ 65) × (v ≤ 64) × (getD rows 64 0 ≡ 0) × ((u : ℕ) → u < v → (w : ℕ) → has (getD rows u 0) w ≡ eqb w u)
@@ -36,8 +36,8 @@ same-length c = c .before .loop .inv .0 ∙ sym (c .before .before .before .pre)
 returns : tie.Need-returns Inv-loop μ-loop
 returns c = let a = c .before .loop in alone (a .rows) (a .inv .0) (λ u h. a .inv .3 u (omega (arith, c .loop-test .left))) (a .inv .2)
 
-pub clear-spec : {M : Type 1} → statement M
-clear-spec =
+pub alone-spec : {M : Type 1} → statement M
+alone-spec =
     tie.close
     (tie.spec
     Inv-loop
