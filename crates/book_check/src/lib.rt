@@ -11,7 +11,7 @@ use text_read::read_text;
 ghost use Rattle.text_read.specs.Reader.{ReadsFront};
 ghost use Rattle.book_form.specs.Book.{opening};
 ghost use Rattle.book_check.specs.Closing.{Closing};
-ghost use Rattle.book_check.specs.Judged.{Judged};
+ghost use Rattle.book_check.specs.BookCheck.{ChecksBook};
 
 // Reads the lines `(book`, `(players P)` and `(fee C)`.
 fn read_opening(book: &[u8]) -> Opening
@@ -66,7 +66,7 @@ fn closes(rest: &[u8]) -> bool
 
 // Puts the questions 11 to 16 to a book.
 pub fn check(book: &[u8]) -> Checked
-    ensures { λ r. ⌜ Judged (now (book .entry)) r ⌝ }
+    ensures { λ r. ⌜ ChecksBook (now (book .entry)) r ⌝ }
 {
     if 16384 < book.len() {
         return refused(Answer::TooLong);

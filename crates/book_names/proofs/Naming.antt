@@ -14,7 +14,7 @@ use Rattle.book_form.specs.declared.Checked.{Checked}
 use Rattle.book_form.specs.Book.{Book, parse}
 use Rattle.book_form.specs.Questions.{bookRefusal}
 use Rattle.book_form.specs.Checked.{checkedUnless, entriesOf}
-use Rattle.book_check.specs.Judged.{Judged}
+use Rattle.book_check.specs.BookCheck.{ChecksBook}
 use Rattle.book_names.specs.Name.{askEntry, nameRefusal}
 
 pub from-one : (j n : ℕ) → (leb 1 j && leb j n) ≡ true → (1 ≤ j) × (j ≤ n)
@@ -33,7 +33,7 @@ module _ (s : List ℕ) (j : ℕ) where
       go (suc q) z = refl
 
   -- by what the check of the book gave
-  module _ (r : Checked) (c : Judged s r) where
+  module _ (r : Checked) (c : ChecksBook s r) where
     counted : (t : Bool) → (leb 1 j && leb j (r .book .count)) ≡ t → (leb 1 j && leb j (checkedUnless (bookRefusal s) (length s) (parse s) .count)) ≡ t
     counted t e = ap (λ (b : CheckedBook). leb 1 j && leb j (b .count)) (sym (c .book)) ∙ e
 

@@ -14,7 +14,7 @@ use Rattle.book_form.specs.declared.Checked.{Checked}
 use Rattle.book_form.specs.Book.{Book, parse}
 use Rattle.book_form.specs.Questions.{bookRefusal}
 use Rattle.book_form.specs.Checked.{checkedUnless, checkedBook, entriesOf}
-use Rattle.book_check.specs.Judged.{Lies, Judged}
+use Rattle.book_check.specs.BookCheck.{Lies, ChecksBook}
 use Rattle.book_form.proofs.Judging.{column-at}
 use Rattle.book_form.proofs.WithinLimits.{within-limits}
 use Rattle.book_names.specs.Name.{orEmptyPart}
@@ -41,7 +41,7 @@ no-name zero name z = absurd (z refl)
 no-name (suc q) name z = refl
 
 -- by what the check of the book gave
-module _ (s : List ℕ) (j : ℕ) (r : Checked) (c : Judged s r) where
+module _ (s : List ℕ) (j : ℕ) (r : Checked) (c : ChecksBook s r) where
   pub nowhere : (leb 1 j && leb j (r .book .count)) ≡ false → BookName s j (record { start = 0; length = 0 })
   nowhere e =
       let z = refused s j r c e in

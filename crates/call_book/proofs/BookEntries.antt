@@ -19,7 +19,7 @@ use Rattle.bytes_read.specs.Words.{words, encodeWords}
 use Rattle.book_form.specs.Book.{Book, parse}
 use Rattle.book_form.specs.Questions.{bookRefusal, questionOf, lineTold}
 use Rattle.book_form.specs.Checked.{entriesOf}
-use Rattle.book_check.specs.Judged.{Judged}
+use Rattle.book_check.specs.BookCheck.{ChecksBook}
 use Rattle.book_form.specs.declared.Checked.{Checked}
 use Rattle.book_form.specs.declared.CheckedBook.{CheckedBook}
 use Rattle.way_theory.specs.FullWays.{fullWays, firstWay, nextWay, countWays}
@@ -116,7 +116,7 @@ module _ (s : List ℕ) where
           subst (λ a. Shows (bookRules s) (next g l) a (sees r l′)) (sym says) (handed (next g l) o r l′ (of-book o 101 r l′ d))
 
   -- counting
-  pub counts-refused : (v : Checked) → Judged s v → (k t cap : ℕ) (r : Reply) → k ≡ questionOf (v .answer) → t ≡ lineTold (v .answer) → ¬ (k ≡ 0) → r ≡ refusedAt k t → BookCount s cap r
+  pub counts-refused : (v : Checked) → ChecksBook s v → (k t cap : ℕ) (r : Reply) → k ≡ questionOf (v .answer) → t ≡ lineTold (v .answer) → ¬ (k ≡ 0) → r ≡ refusedAt k t → BookCount s cap r
   counts-refused v h zero t cap r e l n q = absurd (n refl)
   counts-refused v h (suc k) t cap r e l n q =
       let no : bookRefusal s ≡ suc k = sym (h .question) ∙ sym e in

@@ -17,7 +17,7 @@ use Rattle.book_form.specs.Questions.{bookRefusal, questionOf, lineTold}
 use Rattle.book_form.specs.declared.Answer.{Answer}
 use Rattle.book_form.specs.declared.Answer.the-variants.{Accepted, TooLong, Malformed, BadHeader, BadMove, BadEntry, TooMany}
 use Rattle.book_form.specs.declared.Checked.{Checked}
-use Rattle.book_check.specs.Judged.{Judged}
+use Rattle.book_check.specs.BookCheck.{ChecksBook}
 use Rattle.way_theory.specs.Ways.{wayCost}
 use Rattle.way_theory.specs.FullWays.{fullWays, firstWay}
 use Rattle.way_list.specs.WayListing.{listWays, waysText}
@@ -52,7 +52,7 @@ accepted-untold s ok = rw ok (untold 0 (λ e. omega arith) (λ e. omega arith) (
 
 -- what is written
 module _ (s before after : List ℕ) (n : ℕ) where
-  pub writes-refused : (v : Checked) → Judged s v → (k t : ℕ) → k ≡ questionOf (v .answer) → t ≡ lineTold (v .answer) → ¬ (k ≡ 0) → Appended before 0 (refusedLine k) after n
+  pub writes-refused : (v : Checked) → ChecksBook s v → (k t : ℕ) → k ≡ questionOf (v .answer) → t ≡ lineTold (v .answer) → ¬ (k ≡ 0) → Appended before 0 (refusedLine k) after n
       → WritesListing s before (record { len = n; code = k; line = t }) after
   writes-refused v h zero t e l f a = absurd (f refl)
   writes-refused v h (suc k) t e l f a =

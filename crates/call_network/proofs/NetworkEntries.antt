@@ -17,7 +17,7 @@ use Rattle.net_model.specs.Struct.{netIn}
 use Rattle.net_model.specs.declared.Network.{Network}
 use Rattle.net_questions.specs.Questions.{networkRefusal, numberOf}
 use Rattle.net_questions.proofs.Accepted.{accepted-net}
-use Rattle.net_check.specs.Checked.{Checks}
+use Rattle.net_check.specs.Checked.{ChecksNetwork}
 use Rattle.net_check.specs.declared.Checked.{Checked}
 use Rattle.call_flow_bytes.specs.declared.AdmittedNetwork.{AdmittedNetwork}
 use Rattle.call_reply.specs.declared.Reply.{Reply}
@@ -103,7 +103,7 @@ module _ (bs xs : List ℕ) where
           (handed (next g fs) o r fs′ none (subst (λ M. HandsItem (costOf M) o 101 fs r fs′) same h) (unpriced (net bs xs) o))
 
 -- counting
-pub counts-refused : (bs xs : List ℕ) (v : Checked) (k : ℕ) (n : Count) (r : Reply) → Checks bs xs v → k ≡ numberOf (v .verdict) → ¬ (k ≡ 0) → r ≡ codeAlone k → r ≡ countUnless (networkRefusal bs xs) n
+pub counts-refused : (bs xs : List ℕ) (v : Checked) (k : ℕ) (n : Count) (r : Reply) → ChecksNetwork bs xs v → k ≡ numberOf (v .verdict) → ¬ (k ≡ 0) → r ≡ codeAlone k → r ≡ countUnless (networkRefusal bs xs) n
 counts-refused bs xs v zero n r h e z q = absurd (z refl)
 counts-refused bs xs v (suc k) n r h e z q = rw (sym (h .number) ∙ sym e) q
 

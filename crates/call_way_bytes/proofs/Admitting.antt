@@ -12,7 +12,7 @@ use Rattle.book_form.specs.Questions.{bookRefusal, questionOf, lineTold}
 use Rattle.book_form.specs.Told.{Told}
 use Rattle.book_form.specs.Checked.{checkedBook, entriesOf}
 use Rattle.book_form.proofs.Told.{untold}
-use Rattle.book_check.specs.Judged.{Judged}
+use Rattle.book_check.specs.BookCheck.{ChecksBook}
 use Rattle.book_form.specs.declared.Checked.{Checked}
 use Rattle.book_form.specs.declared.CheckedBook.{CheckedBook}
 use Rattle.way_network.specs.Held.{Holds}
@@ -23,17 +23,17 @@ use Rattle.way_theory.specs.BookBytes.{entryCount}
 use Rattle.call_way_bytes.specs.WaySteps.{AdmitsBook}
 
 module _ (s : List ℕ) where
-  pub accepted : (v : Checked) → Judged s v → questionOf (v .answer) ≡ 0 → bookRefusal s ≡ 0
+  pub accepted : (v : Checked) → ChecksBook s v → questionOf (v .answer) ≡ 0 → bookRefusal s ≡ 0
   accepted v h z = sym (h .question) ∙ z
 
-  pub held-book : (v : Checked) → Judged s v → bookRefusal s ≡ 0 → (b : Book) × (parse s ≡ some b) × Holds b (v .book)
+  pub held-book : (v : Checked) → ChecksBook s v → bookRefusal s ≡ 0 → (b : Book) × (parse s ≡ some b) × Holds b (v .book)
   held-book v h ok = let (b, p, k) = held s ok in (b, p, subst (Holds b) (sym (h .book)) k)
 
   count-is : bookRefusal s ≡ 0 → checkedBook s .count ≡ entryCount s
   count-is e = let (b, p, h) = held s e in ap (λ (c : CheckedBook). c .count) (h .is) ∙ sym (ap (λ o. length (entriesOf o)) p)
 
   -- questions 11 to 17 with a list of so many bytes for the way: what `admit_book` hands back
-  module _ (r : Checked) (judged : Judged s r) (bytes : ℕ) where
+  module _ (r : Checked) (judged : ChecksBook s r) (bytes : ℕ) where
     pub admits-refused : (k t : ℕ) → k ≡ questionOf (r .answer) → t ≡ lineTold (r .answer) → ¬ (k ≡ 0) → AdmitsBook s bytes (record { number = k; line = t; book = r .book })
     admits-refused k t e l n = record { number-is = fails-first (bookRefusal s) _ k (e ∙ judged .question) n; told = rw (e, l) (judged .line); book-is = judged .book }
 

@@ -17,13 +17,13 @@ use Rattle.net_model.proofs.Walks.{walk-holds, walk-with}
 use Rattle.net_theory.specs.ReducedCost.{reduced}
 use Rattle.net_theory.specs.Cuts.{Closed}
 use Rattle.net_theory.specs.ResidualCapacity.{residualCapacity, hasCapacity}
-use Rattle.net_theory.specs.Detours.{TightWalk, Moved}
+use Rattle.net_theory.specs.ArcChange.{TightWalk, Moved}
 use Rattle.net_theory.specs.Push.{pushAll}
 use Rattle.net_theory.specs.FreeArcs.{goes, FreeWalk, Blocked}
 use Rattle.net_theory.proofs.Optimality.{feasible-any}
 use Rattle.net_theory.proofs.Cuts.{closed-steps, no-more, no-less}
 use Rattle.net_theory.proofs.Bounds.{flow-bounds}
-use Rattle.net_theory.proofs.Detours.{raised, lowered}
+use Rattle.net_theory.proofs.ArcChange.{raised, lowered}
 use Rattle.net_theory.proofs.ResidualCapacity.{all-hasCapacity}
 use Rattle.flow_arc.specs.FreeMarks.{FreeMarks}
 use Rattle.flow_arc.proofs.WalksAbove.{walk-capacity-above}

@@ -4,7 +4,7 @@ use Prim.Native.Nat.{ℕ, suc}
 use lib.ListN.{getD}
 use Rattle.net_model.specs.Network.{Net, LeastCost}
 use Rattle.net_theory.specs.Order.{Agree, NoLess}
-use Rattle.net_theory.specs.Detours.{Moved}
+use Rattle.net_theory.specs.ArcChange.{Moved}
 
 -- arc k as low as the arcs before it let it be
 pub record Lowered (N : Net) (f f′ : List ℕ) (k : ℕ) : Type 0 where

@@ -24,5 +24,5 @@ abbrev pub CancelsAll : Net → List ℕ → List ℕ → ℕ → List ℤ → T
 CancelsAll N f g δ d = Rerouted N f g × PotentialLabels N g δ d
 
 -- every cycle cancelled
-abbrev pub Cheapens : Net → List ℕ → List ℕ → List ℤ → Type 0
-Cheapens N f g d = CancelsAll N f g 1 d
+abbrev pub CancelsNegativeCycles : Net → List ℕ → List ℕ → List ℤ → Type 0
+CancelsNegativeCycles N f g d = CancelsAll N f g 1 d

@@ -5,7 +5,7 @@ ghost use Prim.Native.Nat.{_≤_, _<_};
 ghost use lib.ListN.{length};
 ghost use Rattle.net_theory.specs.Graph.{netWith};
 ghost use Rattle.flow_relax.specs.Labels.{Relaxable};
-ghost use Rattle.flow_cancel.specs.Cancelling.{Cancels, CancelsAll, Cheapens};
+ghost use Rattle.flow_cancel.specs.Cancelling.{Cancels, CancelsAll, CancelsNegativeCycles};
 
 // As much as its capacity allows, sent along a negative cycle that has capacity for `need`; false, and the same flow, if there is none.
 fn cancel(
@@ -104,7 +104,7 @@ pub fn cancel_negative_cycles(
     requires { let N = netWith [] (now tails) (now heads) (now lows) (now ups) (now costs) in
         ⌜ Relaxable N (now flow) × (length (now labels) ≡ 64) ⌝ }
     ensures { λ _. let N = netWith [] (now (tails .entry)) (now (heads .entry)) (now (lows .entry)) (now (ups .entry)) (now (costs .entry)) in
-        ⌜ Cheapens N (now (flow .entry)) (now (flow .exit)) (now (labels .exit)) ⌝ }
+        ⌜ CancelsNegativeCycles N (now (flow .entry)) (now (flow .exit)) (now (labels .exit)) ⌝ }
 {
     if !cancel(tails, heads, lows, ups, costs, flow, 1, labels) {
         return;

@@ -11,7 +11,7 @@ use Rattle.laws.specs.After.{after, Apart, after-at}
 use Rattle.laws.specs.Rules.{Call, first, next, Rules}
 use Rattle.laws.specs.Seen.{Reading, refused, nothing, end, item, Seen, Shows}
 
--- where the finger is: on no line, or on the line at a place counted from 0
+-- where the finger is: on no item, or on the item at a place counted from 0
 pub data Cursor : Type 0 where
   off : Cursor
   on : ℕ → Cursor

@@ -10,10 +10,10 @@ use Rattle.net_model.specs.Struct.{structOf, netIn, Sound}
 use Rattle.net_model.proofs.Struct.{struct-of, struct-sound}
 use Rattle.net_questions.specs.Questions.{networkRefusal}
 use Rattle.net_questions.proofs.Accepted.{accepted-net}
-use Rattle.net_check.specs.Checked.{noNet, Checks}
+use Rattle.net_check.specs.Checked.{noNet, ChecksNetwork}
 use Rattle.net_check.specs.declared.Checked.{Checked}
 
-module _ (bs xs : List ℕ) (r : Checked) (checks : Checks bs xs r) (none : networkRefusal bs xs ≡ 0) where
+module _ (bs xs : List ℕ) (r : Checked) (checks : ChecksNetwork bs xs r) (none : networkRefusal bs xs ≡ 0) where
   is-struct : r .net ≡ structOf (netOf (ints bs) (ints xs))
   is-struct = checks .net-is ∙ ap (λ t. structOf (cond t (netOf (ints bs) (ints xs)) noNet)) (eq-eqb (networkRefusal bs xs) 0 none)
 

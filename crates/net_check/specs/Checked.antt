@@ -20,6 +20,6 @@ abbrev pub checkedNet : List ℕ → List ℕ → Network
 checkedNet bs xs = structOf (cond (eqb (networkRefusal bs xs) 0) (netOf (ints bs) (ints xs)) noNet)
 
 -- what the check answers: the number of the verdict, and the struct
-pub record Checks (bs xs : List ℕ) (r : Checked) : Type 0 where
+pub record ChecksNetwork (bs xs : List ℕ) (r : Checked) : Type 0 where
   pub number : numberOf (r .verdict) ≡ networkRefusal bs xs
   pub net-is : r .net ≡ checkedNet bs xs

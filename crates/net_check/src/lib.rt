@@ -9,7 +9,7 @@ ghost use Rattle.bytes_read.specs.Words.{ints};
 ghost use Rattle.net_model.specs.Input.{rows, netOf};
 ghost use Rattle.net_model.specs.Struct.{structOf};
 ghost use Rattle.net_questions.specs.Questions.{networkRefusal};
-ghost use Rattle.net_check.specs.Checked.{noNet, Checks};
+ghost use Rattle.net_check.specs.Checked.{noNet, ChecksNetwork};
 ghost use Rattle.net_check.specs.Columns.{numberAt, Column};
 use net_model::Network;
 use net_questions::Verdict;
@@ -110,7 +110,7 @@ fn empty() -> Network
 
 // The network of two lists of bytes, or the first question that it fails.
 pub fn check(balances: &[u8], arcs: &[u8]) -> Checked
-    ensures { λ r. ⌜ Checks (now (balances .entry)) (now (arcs .entry)) r ⌝ }
+    ensures { λ r. ⌜ ChecksNetwork (now (balances .entry)) (now (arcs .entry)) r ⌝ }
 {
     let verdict = net_questions::judge(balances, arcs);
     match verdict {

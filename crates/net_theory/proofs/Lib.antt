@@ -9,7 +9,7 @@ pub mod Change
 pub mod PushOne
 pub mod PushAll
 pub mod TightWalks
-pub mod Detours
+pub mod ArcChange
 pub mod Excess
 pub mod Order
 pub mod Reach

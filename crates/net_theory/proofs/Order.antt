@@ -14,7 +14,7 @@ use Rattle.net_model.proofs.FullList.{full-member, full-ascending}
 use Rattle.net_model.specs.FullList.{firstFlow, nextFlow, fullList}
 use Rattle.net_model.specs.Network.{Net, arcs, LeastCost, WellFormed}
 use Rattle.net_theory.specs.Order.{Agree, MinimalFrom, TopFrom}
-use Rattle.net_theory.specs.Detours.{Moved}
+use Rattle.net_theory.specs.ArcChange.{Moved}
 
 take-agree : (x y : List ℕ) (k : ℕ) → take k x ≡ take k y → Agree k x y
 take-agree x y k e a h = sym (getD-take k x a 0 h) ∙ ap (λ l. getD l a 0) e ∙ getD-take k y a 0 h

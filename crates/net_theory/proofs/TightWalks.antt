@@ -15,7 +15,7 @@ use Rattle.net_model.specs.Network.{Net, tail, head, cost, balance, netOut, IsF
 use Rattle.net_model.specs.Residual.{src, dst, stepCost, CodeWalk, walkCost}
 use Rattle.net_theory.specs.ResidualCapacity.{hasCapacity}
 use Rattle.net_theory.specs.Push.{pushAll}
-use Rattle.net_theory.specs.Detours.{TightStep}
+use Rattle.net_theory.specs.ArcChange.{TightStep}
 use Rattle.net_theory.proofs.Bounds.{flow-bounds}
 use Rattle.net_theory.proofs.PushAll.{all-bounds, all-netOut, all-cost}
 

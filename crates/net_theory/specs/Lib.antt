@@ -10,5 +10,5 @@ pub mod Reach
 pub mod Trace
 pub mod Order
 pub mod Cuts
-pub mod Detours
+pub mod ArcChange
 pub mod Excess

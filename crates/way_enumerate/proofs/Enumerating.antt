@@ -30,8 +30,8 @@ use Rattle.way_theory.proofs.WayBack.{way-back}
 use Rattle.way_theory.proofs.Matched.{flow-back}
 use Rattle.way_network.proofs.Made.{made-net, made-sound}
 use Rattle.way_network.specs.Held.{Holds, Held}
-use Rattle.way_network.specs.Arrays.{MakesNet}
-use Rattle.way_flow.specs.Arcs.{ArcEnds, HasEnds, HasFlow, ReadsWay, LaysFlow}
+use Rattle.way_network.specs.Arrays.{IsNetworkOf}
+use Rattle.way_flow.specs.Arcs.{ArcEnds, HasEnds, HasFlow, IsWayOf, IsFlowOf}
 use Rattle.way_flow.proofs.Lines.{ends-of, reads-flow, laid-flow, laid-least}
 use Rattle.way_enumerate.specs.declared.WayEnumerator.{WayEnumerator}
 use Rattle.way_enumerate.specs.WayEnumerator.{Enumerates, EnumeratesSome, wayAt, wayItemCost, wayAfter, At, ResumesIn, Tells}
@@ -102,7 +102,7 @@ follows b s enumerates = go (itemOf (s .flows)) refl
         ∙ next-read b f (subst (λ N. LeastCost N f) (net-of-book b s enumerates) (on-least (s .flows) (enumerates .stands) f e))
 
 -- an enumerator of the network made of a checked book
-module _ (k : CheckedBook) (N : Network) (makes : MakesNet k N) where
+module _ (k : CheckedBook) (N : Network) (makes : IsNetworkOf k N) where
   pub net-sound : Held k → Sound N
   net-sound h = made-sound (h .book) k (h .holds) N makes
 
@@ -130,7 +130,7 @@ module _ (k : CheckedBook) (N : Network) (makes : MakesNet k N) where
 
     -- on the way w, if it is a least-cost way; `flow` is what `flow_of` lays
     pub resumes : (w flow : List ℕ) → length w ≡ k .count
-        → LaysFlow (k .count) (k .players) (take (N .arcs) (N .tails)) (take (N .arcs) (N .heads)) w flow
+        → IsFlowOf (k .count) (k .players) (take (N .arcs) (N .tails)) (take (N .arcs) (N .heads)) w flow
         → flows.Resumes (netIn N) (take (N .arcs) flow) r → ResumesIn b w (record { flows = r; entries = k .count })
     resumes w flow len lays step = record { on = on; off = λ n. on-start (step .place-is ∙ ap (placeAfter Start) (no-item (netIn N) ok (take (N .arcs) flow) (λ l. n (is-way l)))) }
       where
@@ -143,8 +143,8 @@ module _ (k : CheckedBook) (N : Network) (makes : MakesNet k N) where
         held : N .arcs ≡ length (take (N .arcs) (N .tails))
         held = made-sound b k h N makes .arcs-held
 
-        lays-it : LaysFlow (k .count) (b .players) (take (N .arcs) (N .tails)) (take (N .arcs) (N .heads)) w flow
-        lays-it = subst (λ p. LaysFlow (k .count) p (take (N .arcs) (N .tails)) (take (N .arcs) (N .heads)) w flow) (ap (λ (c : CheckedBook). c .players) (h .is)) lays
+        lays-it : IsFlowOf (k .count) (b .players) (take (N .arcs) (N .tails)) (take (N .arcs) (N .heads)) w flow
+        lays-it = subst (λ p. IsFlowOf (k .count) p (take (N .arcs) (N .tails)) (take (N .arcs) (N .heads)) w flow) (ap (λ (c : CheckedBook). c .players) (h .is)) lays
 
         laid : take (N .arcs) flow ≡ flowOf b w
         laid = ap (λ n. take n flow) held ∙ laid-flow b (k .count) _ _ (made-ends b h) w flow len lays-it
@@ -190,7 +190,7 @@ has-flow s h on =
 
 -- the way read off the item is the way that the enumerator stands on
 pub tells : (s : WayEnumerator) (r : List ℕ) → s .flows .place ≡ Item
-    → ReadsWay (s .entries) (take (s .flows .net .arcs) (s .flows .net .tails)) (take (s .flows .net .arcs) (s .flows .net .heads)) (stateFlow (s .flows)) r → Tells s r
+    → IsWayOf (s .entries) (take (s .flows .net .arcs) (s .flows .net .tails)) (take (s .flows .net .arcs) (s .flows .net .heads)) (stateFlow (s .flows)) r → Tells s r
 tells s r on reads = record { each = go }
   where
     go : (b : Book) → Enumerates b s → (w : List ℕ) → wayAt b s ≡ some w → r ≡ padded 28 0 w

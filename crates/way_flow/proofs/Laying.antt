@@ -21,7 +21,7 @@ use Rattle.way_theory.proofs.Blocks.{joinFlow-length}
 use Rattle.way_theory.proofs.Rows.{behindJoins, rows-length, in-first, in-second, in-one-more}
 use Rattle.way_theory.proofs.Nodes.{noBookArc, count-arcs}
 use Rattle.way_theory.proofs.Size.{arcs-few}
-use Rattle.way_flow.specs.Arcs.{ArcEnds, HasEnds, FlowAt, LaysFlow}
+use Rattle.way_flow.specs.Arcs.{ArcEnds, HasEnds, FlowAt, IsFlowOf}
 use Rattle.way_flow.proofs.Reading.{joins-count}
 
 -- counting from the front: n were counted in the first k numbers
@@ -134,7 +134,7 @@ module _ (e players : ℕ) (tails heads w : List ℕ) where
     each = λ b h p. filled-more (λ x. x) (flowOf b w) 512 0 0 k flow x (g .each b h p) (omega (arith, flow-long e tails heads b h w len)) (omega (arith, few b h)) (a .each b h p);
   }
 
-  pub laying-done : (flow : List ℕ) (k : ℕ) → length w ≡ e → Laying flow k → length tails ≤ k → LaysFlow e players tails heads w flow
+  pub laying-done : (flow : List ℕ) (k : ℕ) → length w ≡ e → Laying flow k → length tails ≤ k → IsFlowOf e players tails heads w flow
   laying-done flow k len g l = record {
     each = λ b h p.
         g .each b h p ∙ filled-all (λ x. x) (flowOf b w) 512 0 k (omega (arith, g .upto, flow-long e tails heads b h w len)) ∙ ap (padded 512 0) (map-id (flowOf b w));

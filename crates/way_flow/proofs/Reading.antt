@@ -23,7 +23,7 @@ use Rattle.way_theory.proofs.Blocks.{sources-fall, source, joinFlow-length, joi
 use Rattle.way_theory.proofs.Nodes.{noBookArc, arcs-parts}
 use Rattle.way_theory.proofs.Arcs.{well-formed}
 use Rattle.way_theory.proofs.Size.{nodes-few}
-use Rattle.way_flow.specs.Arcs.{ArcEnds, ReadsWay}
+use Rattle.way_flow.specs.Arcs.{ArcEnds, IsWayOf}
 
 -- an arc from t to h with x, noted in y
 abbrev pub noted : ℕ → ℕ → ℕ → List ℕ → List ℕ
@@ -130,7 +130,7 @@ module _ (e : ℕ) (tails heads : List ℕ) where
       let x : getD tails k 0 ≡ tail (bookNet b) k = ap (λ l. getD l k 0) (h .tails-are) in
       omega (arith, nodes-few b (h .limits))
 
-  pub reads-way : (flow way : List ℕ) (n : ℕ) → n ≡ length tails - (2 * e + 1) → way ≡ read n tails heads flow (replicate 28 0) → ReadsWay e tails heads flow way
+  pub reads-way : (flow way : List ℕ) (n : ℕ) → n ≡ length tails - (2 * e + 1) → way ≡ read n tails heads flow (replicate 28 0) → IsWayOf e tails heads flow way
   reads-way flow way n c q = record {
     each = λ b h w v f.
         (let len = v .all-entries in

@@ -33,12 +33,12 @@ pub record HasFlow (e : ℕ) (tails heads flow : List ℕ) : Type 0 where
   pub flow-is : flow ≡ flowOf book way
 
 -- the way whose flow it is, of each book that has these arcs
-pub record ReadsWay (e : ℕ) (tails heads flow way : List ℕ) : Type 0 where
+pub record IsWayOf (e : ℕ) (tails heads flow way : List ℕ) : Type 0 where
   pub each : (b : Book) → ArcEnds b e tails heads → (w : List ℕ) → IsWay b w → flow ≡ flowOf b w → way ≡ padded 28 0 w
 
 -- the flow of the list w, of each book that has these arcs and as many players: on arc k, and on all
 pub record FlowAt (e players : ℕ) (tails heads w : List ℕ) (k r : ℕ) : Type 0 where
   pub each : (b : Book) → ArcEnds b e tails heads → players ≡ b .players → r ≡ getD (flowOf b w) k 0
 
-pub record LaysFlow (e players : ℕ) (tails heads w flow : List ℕ) : Type 0 where
+pub record IsFlowOf (e players : ℕ) (tails heads w flow : List ℕ) : Type 0 where
   pub each : (b : Book) → ArcEnds b e tails heads → players ≡ b .players → flow ≡ padded 512 0 (flowOf b w)

@@ -20,7 +20,7 @@ use Rattle.way_theory.specs.BookNet.{bookNet}
 use Rattle.way_theory.proofs.Arcs.{well-formed}
 use Rattle.way_theory.proofs.Accepted.{accepted-net}
 use Rattle.way_network.specs.Held.{Holds}
-use Rattle.way_network.specs.Arrays.{MakesNet}
+use Rattle.way_network.specs.Arrays.{IsNetworkOf}
 
 pub held : (s : List ℕ) → bookRefusal s ≡ 0 → (b : Book) × (parse s ≡ some b) × Holds b (checkedBook s)
 held s e = go (parse s) refl
@@ -33,7 +33,7 @@ held s e = go (parse s) refl
     go none q = absurd (no-form (leb (length s) 16384) (rw q at e))
     go (some b) q = (b, q, record { limits = within-limits s b e q; total = length s; is = rw (e, q) })
 
-module _ (b : Book) (s : CheckedBook) (h : Holds b s) (r : Network) (m : MakesNet s r) where
+module _ (b : Book) (s : CheckedBook) (h : Holds b s) (r : Network) (m : IsNetworkOf s r) where
   pub made-net : netIn r ≡ bookNet b
   made-net = ap netIn (m .each b h) ∙ struct-of (bookNet b) (well-formed b)
 

@@ -18,7 +18,7 @@ use Rattle.way_theory.proofs.Size.{arcs-few}
 use Rattle.way_joins.specs.Tables.{Tables, HasTables}
 use Rattle.way_network.specs.Held.{Holds, Held}
 use Rattle.way_network.proofs.Bounds.{lows-are, ups-are}
-use Rattle.way_network.specs.Arrays.{Arrays, Long, rowsBy, Progress, AddsJoins, AddsRows, blank, AddsAll, MakesNet}
+use Rattle.way_network.specs.Arrays.{Arrays, Long, rowsBy, Progress, AddsJoins, AddsRows, blank, AddsAll, IsNetworkOf}
 
 pub progress-room : (l : List BookArc) (A : Arrays) (m : ℕ) (ahead : List BookArc) → Progress l A m ahead → m + length ahead ≡ length l
 progress-room l A m ahead p = ap (λ k. m + length k) (sym (p .is-ahead)) ∙ omega (arith, length-drop m l, p .upto)
@@ -142,7 +142,7 @@ module _ (s : CheckedBook) (A : Arrays) (m : ℕ) (a : AddsAll (s .fee) (s .coun
   pub makes-net : (balances : List ℤ) (lows ups : List ℕ)
       → balances ≡ padded 64 (pos 0) (pos (s .players) ∷ (replicate (2 * s .count) (pos 0) ++ (negℤ (pos (s .players)) ∷ [])))
       → lows ≡ padded 512 0 (replicate m 0 ++ replicate (s .count) 1) → ups ≡ padded 512 0 (replicate (m + 2 * s .count) 1 ++ (s .players ∷ []))
-      → MakesNet s (record { nodes = 2 * s .count + 2; arcs = m + 2 * s .count + 1; balances = balances; tails = A .tails; heads = A .heads; lows = lows; ups = ups; costs = A .costs })
+      → IsNetworkOf s (record { nodes = 2 * s .count + 2; arcs = m + 2 * s .count + 1; balances = balances; tails = A .tails; heads = A .heads; lows = lows; ups = ups; costs = A .costs })
   makes-net balances lows ups w x y = record {
     each = λ b h.
         (let T = tables-of b s h in

@@ -96,5 +96,5 @@ pub record AddsAll (fee e : ℕ) (ticks costs instruments starts finishes : List
   pub each : (b : Book) → Tables b fee e ticks costs instruments starts finishes → Progress (bookArcs b) B (r + e + e + 1) []
 
 -- the struct of the network of each book that the checked book holds
-pub record MakesNet (s : CheckedBook) (r : Network) : Type 0 where
+pub record IsNetworkOf (s : CheckedBook) (r : Network) : Type 0 where
   pub each : (b : Book) → Holds b s → r ≡ structOf (bookNet b)

@@ -11,7 +11,7 @@ ghost use Rattle.laws.specs.Padded.{padded};
 ghost use Rattle.way_theory.specs.Ways.{oneIf};
 ghost use Rattle.way_joins.specs.Tables.{HasTables};
 ghost use Rattle.way_network.specs.Held.{Held};
-ghost use Rattle.way_network.specs.Arrays.{arrays, arcWith, Long, putArc, isJoin, joinCost, putIf, IsRow, AddsRows, AddsJoins, blank, AddsAll, MakesNet};
+ghost use Rattle.way_network.specs.Arrays.{arrays, arcWith, Long, putArc, isJoin, joinCost, putIf, IsRow, AddsRows, AddsJoins, blank, AddsAll, IsNetworkOf};
 
 // An arc in the types of the arrays, without its bounds.
 struct NetworkArc {
@@ -221,7 +221,7 @@ fn put_arcs<'a>(
 // The network of a book.
 pub fn network_of(book: CheckedBook) -> Network
     requires { ⌜ Held book ⌝ }
-    ensures { λ r. ⌜ MakesNet book r ⌝ }
+    ensures { λ r. ⌜ IsNetworkOf book r ⌝ }
 {
     let e = book.count;
     let players = book.players;

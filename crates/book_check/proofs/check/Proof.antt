@@ -8,7 +8,7 @@ use Rattle.book_form.specs.Book.{Book, book}
 use Rattle.text_read.proofs.Sequence.{From, part, part-part, begin, first, first-stops, next}
 use Rattle.book_check.specs.Closing.{Closing}
 use Rattle.book_check.proofs.Form.{parse-fails, parse-closed, parse-open, closing-part, placed-part}
-use Rattle.book_check.proofs.Judged.{long-right, form-right, PassesFound, judged-right}
+use Rattle.book_check.proofs.BookChecking.{long-right, form-right, PassesFound, judged-right}
 use Rattle.book_check.proofs.check.Statement.{statement}
 use Rattle.book_check.proofs.check.Tie as tie
 

@@ -33,8 +33,8 @@ abbrev given : tie.After-starting-flow → List ℕ
 given a = a .starting-flow .last .1 .1 .1 .1 .1 .1 .0
 
 -- each call, seen from the next: `cancel_negative_cycles` from `mark`, `mark` from `unmark_fixed`, that from `minimise`
-abbrev cheapened : tie.After-mark-arg2 → tie.After-cancel-negative-cycles
-cheapened c = c .before .before .before .before .before .before
+abbrev cancelled : tie.After-mark-arg2 → tie.After-cancel-negative-cycles
+cancelled c = c .before .before .before .before .before .before
 
 abbrev marked : tie.After-unmark-fixed → tie.After-mark
 marked c = c .before .before .before .before .before
@@ -89,38 +89,38 @@ slice-aggregate-mark c = let k = c .before .before .before .before .before in sy
 
 mark-requires : tie.Need-mark-requires
 mark-requires c κs =
-    let k = cheapened c in
+    let k = cancelled c in
     let s = start k in
     (s .pre .0, least k, labels-whole (whole s) (flow k) (labels k) (k .cancel-negative-cycles .ensures .1), s .pre .2)
 
 unmark-fixed-requires : tie.Need-unmark-fixed-requires
 unmark-fixed-requires c κs =
     let m = c .before .before .before .before in
-    ready (cheapened (m .before)) (m .mark .last .1 .1 .1 .1 .1 .1 .1 .1 .0) (m .mark .ensures .marks-len) .searchable
+    ready (cancelled (m .before)) (m .mark .last .1 .1 .1 .1 .1 .1 .1 .1 .0) (m .mark .ensures .marks-len) .searchable
 
-marked-of : (c : tie.After-unmark-fixed) → let k = cheapened (marked c .before) in Marked (whole (start k)) (c .unmark-fixed .last .1 .1 .1 .1 .0) (flow k)
+marked-of : (c : tie.After-unmark-fixed) → let k = cancelled (marked c .before) in Marked (whole (start k)) (c .unmark-fixed .last .1 .1 .1 .1 .0) (flow k)
 marked-of c =
     let m = marked c .mark in
-    let k = cheapened (marked c .before) in
+    let k = cancelled (marked c .before) in
     let n = c .unmark-fixed in
     marked-narrowed (whole (start k)) (flow k) (m .last .1 .1 .1 .1 .1 .1 .1 .1 .0) (n .last .1 .1 .1 .1 .0) (m .ensures) (n .kept .1 .1 .1 .1 .0) (n .ensures)
 
 minimise-requires : tie.Need-minimise-requires
 minimise-requires c κs =
     let n = c .before .before .before .before in
-    (ready (cheapened (marked n .before)) (n .unmark-fixed .last .1 .1 .1 .1 .0) (marked-of n .marks-len), omega arith)
+    (ready (cancelled (marked n .before)) (n .unmark-fixed .last .1 .1 .1 .1 .0) (marked-of n .marks-len), omega arith)
 
 same-length-2 : tie.Need-same-length-2
 same-length-2 c =
     let d = c .before .before in
-    let k = cheapened (marked (unmarked d) .before) in
+    let k = cancelled (marked (unmarked d) .before) in
     d .minimise .kept .1 .1 .1 .1 .1 .0 ∙ k .cancel-negative-cycles .kept .1 .1 .1 .1 .1 .0 ∙ searched (else k .before) .starting-flow .kept .1 .1 .1 .1 .1 .1 .0
 
 returns-2 : tie.Need-returns-2
 returns-2 c =
     let d = c .before .before in
     let n = unmarked d in
-    let k = cheapened (marked n .before) in
+    let k = cancelled (marked n .before) in
     let s = start k in
     first-marked (whole s) (n .unmark-fixed .last .1 .1 .1 .1 .0) (flow k) (d .minimise .last .1 .1 .1 .1 .1 .0) (marked-of n)
     (d .minimise .ensures .1 (s .args .balances .now) (s .args .costs .now) (marked-of n .potential) (marked-of n .marks))

@@ -31,7 +31,7 @@ use Rattle.book_lines.proofs.Verdicts.{verdict-none, verdict-more}
 use Rattle.book_lines.proofs.MovePass.{kept-all}
 use Rattle.book_form.proofs.Judging.{column-at}
 use Rattle.book_form.proofs.Told.{told-header, told-move, told-entry, none-told, untold}
-use Rattle.book_check.specs.Judged.{Lies, Judged}
+use Rattle.book_check.specs.BookCheck.{Lies, ChecksBook}
 
 -- some line fails
 not-all : (l : List Bool) (n : ℕ) → getD l n true ≡ false → allPass l ≡ false
@@ -44,7 +44,7 @@ not-all (false ∷ l) (suc n) e = refl
 asked : (s : List ℕ) (b : Book) → length s ≤ 16384 → parse s ≡ some b → bookRefusal s ≡ askBook b
 asked s b h e = rw (le-leb (length s) 16384 h, e)
 
-refused-right : (s : List ℕ) (r : Checked) (a : Answer) (q : ℕ) → r ≡ record { answer = a; book = noBook } → bookRefusal s ≡ suc q → questionOf a ≡ suc q → Told s (questionOf a) (lineTold a) → Judged s r
+refused-right : (s : List ℕ) (r : Checked) (a : Answer) (q : ℕ) → r ≡ record { answer = a; book = noBook } → bookRefusal s ≡ suc q → questionOf a ≡ suc q → Told s (questionOf a) (lineTold a) → ChecksBook s r
 refused-right s r a q e f g told =
     rw e
     (record {
@@ -55,10 +55,10 @@ refused-right s r a q e f g told =
     })
 
 -- a refusal by 11, and by 12
-pub long-right : (s : List ℕ) (r : Checked) → r ≡ record { answer = TooLong; book = noBook } → 16384 < length s → Judged s r
+pub long-right : (s : List ℕ) (r : Checked) → r ≡ record { answer = TooLong; book = noBook } → 16384 < length s → ChecksBook s r
 long-right s r e h = refused-right s r TooLong 10 e (rw (lt-leb (length s) 16384 h)) refl (untold 11 (λ e. omega arith) (λ e. omega arith) (λ e. omega arith) s)
 
-pub form-right : (s : List ℕ) (r : Checked) → r ≡ record { answer = Malformed; book = noBook } → length s ≤ 16384 → parse s ≡ none → Judged s r
+pub form-right : (s : List ℕ) (r : Checked) → r ≡ record { answer = Malformed; book = noBook } → length s ≤ 16384 → parse s ≡ none → ChecksBook s r
 form-right s r e h p = refused-right s r Malformed 11 e (rw (le-leb (length s) 16384 h, p)) refl (untold 12 (λ e. omega arith) (λ e. omega arith) (λ e. omega arith) s)
 
 -- What the passes found of a book that keeps the form.
@@ -152,7 +152,7 @@ module _ (s : List ℕ) (o : Opening) (m : Moves) (e : Entries) (f : PassesFound
       (record { some = p .some; within = omega (arith, p .begins, p .ends); is = p .is })
   lies-in (suc q) h x e n k = absurd (omega (arith, ap (λ (y : CheckedBook). y .count) e))
 
-  pub judged-right : length s ≤ 16384 → Judged s (judgedOf A o m e)
+  pub judged-right : length s ≤ 16384 → ChecksBook s (judgedOf A o m e)
   judged-right h =
       record {
         question = sym same;

@@ -15,7 +15,7 @@ use Rattle.net_model.specs.Residual.{codes, src, dst}
 use Rattle.net_theory.specs.ResidualCapacity.{hasCapacity}
 use Rattle.net_theory.specs.Push.{pushOne, pushAll}
 use Rattle.net_theory.specs.ReducedCost.{reduced}
-use Rattle.net_theory.specs.Detours.{TightWalk, Moved}
+use Rattle.net_theory.specs.ArcChange.{TightWalk, Moved}
 use Rattle.net_theory.proofs.Codes.{even-code, odd-code, even-arc, odd-arc}
 use Rattle.net_theory.proofs.PushAll.{all-other}
 use Rattle.net_theory.proofs.TightWalks.{closed-least}

@@ -17,7 +17,7 @@ pub record Lies (s : List ℕ) (start len : ℕ) (name : List ℕ) : Type 0 wher
   pub is : take len (drop start s) ≡ name
 
 -- what a check of the bytes s promises
-pub record Judged (s : List ℕ) (r : Checked) : Type 0 where
+pub record ChecksBook (s : List ℕ) (r : Checked) : Type 0 where
   pub question : questionOf (r .answer) ≡ bookRefusal s
   pub line : Told s (questionOf (r .answer)) (lineTold (r .answer))
   pub book : r .book ≡ checkedBook s
