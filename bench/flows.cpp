@@ -29,7 +29,7 @@ static void first(Table &table, const char *what, const std::vector<Network> &se
         lemon_shown(median(ratio)), lemon_shown(largest(ratio)), Lemon::installed ? whole(above) : "none"});
 }
 
-// Next from outside, which tests that the given list is a least-cost flow: the first 50 lines of each list.
+// Next from outside, which tests that the given list is a least-cost flow: the first 50 items of each list.
 static void next(Table &table, const char *what, const std::vector<Network> &set) {
     std::vector<double> times, ends, beside;
     for (const Network &n : set) {
@@ -52,8 +52,8 @@ static void next(Table &table, const char *what, const std::vector<Network> &set
     table.row({what, whole(double(times.size())), middle(times), times.empty() ? "" : shown(largest(times)), times.empty() ? "" : lemon_shown(median(beside)), whole(double(ends.size())), middle(ends)});
 }
 
-// Count less first, by line.
-static double line_time(LentNetwork &lent, int cap) {
+// Count less first, by item.
+static double item_time(LentNetwork &lent, int cap) {
     double start = time_of([&] { lent.count(0); });
     return (time_of([&] { lent.count(uint16_t(cap)); }) - start) / cap;
 }
@@ -63,17 +63,17 @@ static void count(Table &table, const char *what, const std::vector<Network> &se
     std::vector<double> by_cap[2], beside;
     for (const Network &n : set) {
         LentNetwork lent(n);
-        for (int k = 0; k < 2; k++) by_cap[k].push_back(line_time(lent, caps[k]));
+        for (int k = 0; k < 2; k++) by_cap[k].push_back(item_time(lent, caps[k]));
         beside.push_back(by_cap[1].back() / lemon_time(n));
     }
     table.row({what, whole(double(set.size())), shown(median(by_cap[0])), shown(median(by_cap[1])), lemon_shown(median(beside))});
 }
 
-// The lines of a hostile network, as far as 1,000.
+// The items of a hostile network, as far as 1,000.
 static void long_count(Table &table, const Network &n) {
     LentNetwork lent(n);
-    double line = line_time(lent, 1000);
-    table.row({n.name, "1", shown(line), "", lemon_shown(line / lemon_time(n))});
+    double item = item_time(lent, 1000);
+    table.row({n.name, "1", shown(item), "", lemon_shown(item / lemon_time(n))});
 }
 
 static void hostile() {
@@ -107,14 +107,14 @@ int main() {
     }
     {
         printf("### Next, of a network, the list given\n\n");
-        Table table({"networks", "lines", "a line", "at most", "to LEMON's whole solve", "\"end\" met", "\"end\""});
+        Table table({"networks", "items", "an item", "at most", "to LEMON's whole solve", "\"end\" met", "\"end\""});
         for (auto &s : sets) next(table, s.what, networks(s.books));
         next(table, "random, 64 nodes", random);
         next(table, "random, 64 nodes, costs -3 to 3", few);
     }
     {
-        printf("### Next with the state kept: count of a network, less first, by line\n\n");
-        Table table({"networks with more than 65,535 lines", "how many", "to cap 1,000", "65,535", "to LEMON's whole solve"});
+        printf("### Next with the state kept: count of a network, less first, by item\n\n");
+        Table table({"networks with more than 65,535 items", "how many", "to cap 1,000", "65,535", "to LEMON's whole solve"});
         for (auto &s : lists) count(table, s.what, networks(s.books));
         count(table, "random, 64 nodes, costs -3 to 3", {few.begin(), few.begin() + 5});
         for (bool full : {false, true}) long_count(table, long_lists(full));

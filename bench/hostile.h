@@ -152,8 +152,8 @@ inline Network level_network(int entries, int players) {
     return n;
 }
 
-// For next: arc 0 is a loop with a line for each of its values; no other arc can ever be raised (there is no way back), or, `full`, lowered, but
-// each must be looked at again for every line.
+// For next: arc 0 is a loop with an item for each of its values; no other arc can ever be raised (there is no way back), or, `full`, lowered, but
+// each must be looked at again for every item.
 inline Network long_lists(bool full) {
     Network n;
     n.name = full ? "a loop before full arcs" : "a loop before empty arcs";

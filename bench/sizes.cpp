@@ -1,23 +1,23 @@
-// How the costs grow: with the entries of a book, its bytes and the lines listed, and with the nodes and arcs of a network.
+// How the costs grow: with the entries of a book, its bytes and the items listed, and with the nodes and arcs of a network.
 #include "lemon.h"
 #include "sets.h"
 
-// The median time of next with the line given, over the first 20 lines of each list; nothing where no list has a second line.
-template <class Lent> static std::vector<double> next_times(Lent &lent, std::vector<uint8_t> &line) {
+// The median time of next with the item given, over the first 20 items of each list; nothing where no list has a second item.
+template <class Lent> static std::vector<double> next_times(Lent &lent, std::vector<uint8_t> &item) {
     std::vector<double> times;
-    std::vector<uint8_t> to(line.size());
+    std::vector<uint8_t> to(item.size());
     if (lent.first().code != DESK_OK) return times;
     while (times.size() < 20 && lent.next(to).code == DESK_OK) {
         times.push_back(time_of([&] { lent.next(to); }, 200));
-        line = to;
+        item = to;
     }
     return times;
 }
 
-// The lines as far as 1,000, and count less first, by line; the last line's "end" counts as a line.
-struct Lines { double many, time; };
+// The items as far as 1,000, and count less first, by item; the last item's "end" counts as an item.
+struct Items { double many, time; };
 
-template <class Lent> static Lines lines(Lent &lent) {
+template <class Lent> static Items items(Lent &lent) {
     desk_reply r = lent.count(1000);
     double many = r.code == DESK_MORE ? 1000 : double(r.value);
     return {many, many ? (time_of([&] { lent.count(1000); }) - time_of([&] { lent.count(0); })) / many : 0};
@@ -26,10 +26,10 @@ template <class Lent> static Lines lines(Lent &lent) {
 static void add(std::vector<double> &to, const std::vector<double> &from) { to.insert(to.end(), from.begin(), from.end()); }
 
 static void by_entries() {
-    printf("### By entries\n\nBooks of which a line or way is measured have at least 4 ways.\n\n");
-    Table table({"entries", "arcs", "bytes", "`desk_first`", "`desk_next`", "count, a line", "listing less first, a way", "first of its network", "LEMON", "network / LEMON"});
+    printf("### By entries\n\nBooks of which an item or way is measured have at least 4 ways.\n\n");
+    Table table({"entries", "arcs", "bytes", "`desk_first`", "`desk_next`", "count, an item", "listing less first, a way", "first of its network", "LEMON", "network / LEMON"});
     for (int e : {4, 8, 12, 16, 20, 24, 28}) {
-        std::vector<double> arcs, bytes, first, next, line, way, flow, lemon, ratio;
+        std::vector<double> arcs, bytes, first, next, item, way, flow, lemon, ratio;
         for (int bars : {e * 3 / 2, e / 2})
             for (const Book &b : books(bars, 3, 30, e)) {
                 LentBook book(b);
@@ -43,22 +43,22 @@ static void by_entries() {
                 lemon.push_back(lemon_time(n));
                 ratio.push_back(flow.back() / lemon.back());
                 add(next, next_times(book, book.way));
-                if (Lines l = lines(book); l.many >= 4) {
-                    line.push_back(l.time);
+                if (Items l = items(book); l.many >= 4) {
+                    item.push_back(l.time);
                     way.push_back((time_of([&] { book.list(); }) - time_of([&] { book.count(0); })) / l.many);
                 }
             }
-        table.row({whole(e), whole(median(arcs)), whole(median(bytes)), shown(median(first)), middle(next), middle(line), middle(way), shown(median(flow)), lemon_shown(median(lemon)),
+        table.row({whole(e), whole(median(arcs)), whole(median(bytes)), shown(median(first)), middle(next), middle(item), middle(way), shown(median(flow)), lemon_shown(median(lemon)),
             lemon_shown(median(ratio))});
     }
 }
 
 static void by_arcs() {
     printf("### By nodes and arcs: random networks, costs -3 to 3\n\n");
-    Table table({"nodes", "arcs", "first", "LEMON", "first / LEMON", "next, the list given", "count, a line"});
+    Table table({"nodes", "arcs", "first", "LEMON", "first / LEMON", "next, the list given", "count, an item"});
     for (int nodes : {8, 16, 32, 64})
         for (int arcs : {32, 64, 128, 256, 512}) {
-            std::vector<double> first, lemon, ratio, next, line;
+            std::vector<double> first, lemon, ratio, next, item;
             for (const Network &n : random_networks(nodes, arcs, 3, 15)) {
                 LentNetwork net(n);
                 agree_with_lemon(n, net.first());
@@ -66,25 +66,25 @@ static void by_arcs() {
                 lemon.push_back(lemon_time(n));
                 ratio.push_back(first.back() / lemon.back());
                 add(next, next_times(net, net.flows));
-                if (Lines l = lines(net); l.many >= 4) line.push_back(l.time);
+                if (Items l = items(net); l.many >= 4) item.push_back(l.time);
             }
-            table.row({whole(nodes), whole(arcs), shown(median(first)), lemon_shown(median(lemon)), lemon_shown(median(ratio)), middle(next), middle(line)});
+            table.row({whole(nodes), whole(arcs), shown(median(first)), lemon_shown(median(lemon)), lemon_shown(median(ratio)), middle(next), middle(item)});
         }
 }
 
 static void by_lines() {
-    printf("### By lines: count of 28-entry books with more than 65,535 ways\n\n");
+    printf("### By items: count of 28-entry books with more than 65,535 ways\n\n");
     std::vector<Book> set;
     for (auto &s : long_movements()) set.insert(set.end(), s.books.begin(), s.books.end());
-    Table table({"lines", "count, whole call", "less first, a line"});
+    Table table({"items", "count, whole call", "less first, an item"});
     for (int cap : {0, 1, 10, 100, 1000, 10000, 65535}) {
-        std::vector<double> all, line;
+        std::vector<double> all, item;
         for (const Book &b : set) {
             LentBook book(b);
             all.push_back(time_of([&] { book.count(uint16_t(cap)); }));
-            if (cap) line.push_back((all.back() - time_of([&] { book.count(0); })) / cap);
+            if (cap) item.push_back((all.back() - time_of([&] { book.count(0); })) / cap);
         }
-        table.row({whole(cap), shown(median(all)), middle(line)});
+        table.row({whole(cap), shown(median(all)), middle(item)});
     }
 }
 

@@ -23,7 +23,7 @@ static void first(Table &table, const Named &set) {
     table.row({set.what, whole(double(set.books.size())), shown(median(times)), shown(largest(times)), shown(median(flows)), shown(median(questions))});
 }
 
-// Next from outside, which tests that the given list is a least-cost way: the first 50 lines of each list.
+// Next from outside, which tests that the given list is a least-cost way: the first 50 items of each list.
 static void next(Table &table, const Named &set) {
     std::vector<double> times, ends, flows;
     for (const Book &b : set.books) {
@@ -48,7 +48,7 @@ static void next(Table &table, const Named &set) {
     table.row({set.what, whole(double(times.size())), shown(median(times)), shown(largest(times)), shown(median(flows)), whole(double(ends.size())), shown(median(ends))});
 }
 
-// Count less first, by line, and the listing of 1,000 ways.
+// Count less first, by item, and the listing of 1,000 ways.
 static void long_lists_of(Table &table, const Named &set) {
     const int caps[] = {1000, 65535};
     std::vector<double> by_cap[2], all, listings, lengths;
@@ -112,12 +112,12 @@ int main() {
     }
     {
         printf("### Next, of a book, the way given\n\n");
-        Table table({"books", "lines", "`desk_next`", "at most", "next of its network", "\"end\" met", "\"end\""});
+        Table table({"books", "items", "`desk_next`", "at most", "next of its network", "\"end\" met", "\"end\""});
         for (auto &s : sets) next(table, s);
     }
     {
-        printf("### With the state kept: count less first, by line, and the listing\n\n");
-        Table table({"books with more than 65,535 ways", "how many", "a line to cap 1,000", "65,535", "count to 65,535, ms", "listing of 1,000 ways, ms", "its bytes"});
+        printf("### With the state kept: count less first, by item, and the listing\n\n");
+        Table table({"books with more than 65,535 ways", "how many", "an item to cap 1,000", "65,535", "count to 65,535, ms", "listing of 1,000 ways, ms", "its bytes"});
         for (auto &s : long_movements()) long_lists_of(table, s);
     }
     printf("### The questions\n\n");

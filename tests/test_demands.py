@@ -11,7 +11,7 @@ import unittest
 ROOT = pathlib.Path(__file__).parent.parent
 DESK = "crates/desk/src/lib.rt"
 # what an entry says that does nothing, by the type of its result
-NOTHING = {"Reply": "calls::word(101)", "Span": "Span { start: 0, length: 0 }", "u32": "0"}
+NOTHING = {"Reply": "call_reply::code_alone(101)", "Span": "Span { start: 0, length: 0 }", "u32": "0"}
 ENTRY = re.compile(r'pub extern "C" fn (\w+)\(.*?\) -> (\w+)\n    ensures \{.*?\n\{\n.*?\n\}\n', re.S)
 
 

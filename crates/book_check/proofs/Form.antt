@@ -9,22 +9,22 @@ use lib.ListN.{length, length-drop, drop, getD}
 use lib.Seq.{getD-drop}
 use lib.Dec.{eqb}
 use borrow.Author.Tests.{eq-eqb, ne-eqb}
-use Rattle.text.specs.Reader.{_>>=_, give, bytes, text, fails, reads, Right}
-use Rattle.lines.specs.Lines.{Entry}
-use Rattle.lines.proofs.EntryPass.{placed-drop}
-use Rattle.book.specs.Book.{opening, Book, book, whole, parse}
-use Rattle.lines.specs.Passes.{Placed}
+use Rattle.text_read.specs.Reader.{_>>=_, give, bytes, text, fails, reads, ReadsFront}
+use Rattle.book_lines.specs.Lines.{Entry}
+use Rattle.book_lines.proofs.EntryPass.{placed-drop}
+use Rattle.book_form.specs.Book.{opening, Book, book, whole, parse}
+use Rattle.book_lines.specs.Passes.{Placed}
 use Rattle.book_check.specs.Closing.{Closing}
 use Rattle.laws.specs.Suffix.{take-rest}
-use Rattle.text.proofs.Sequence.{From, part, part-part, mapped, ends}
+use Rattle.text_read.proofs.Sequence.{From, part, part-part, mapped, all-read}
 
 -- the numbers of the first lines stand in the last places of their rows
-pub opening-present : (s ps cs : List ℕ) (used : ℕ) → From (opening s) (give (getD (drop 3 ps) 0 0, getD (drop 3 cs) 0 0)) s used → 0 < used → Right s (opening s) used (getD ps 3 0, getD cs 3 0)
-opening-present s ps cs used f h = rw (← getD-drop 3 ps 0 0, ← getD-drop 3 cs 0 0) (ends f h)
+pub opening-present : (s ps cs : List ℕ) (used : ℕ) → From (opening s) (give (getD (drop 3 ps) 0 0, getD (drop 3 cs) 0 0)) s used → 0 < used → ReadsFront s (opening s) used (getD ps 3 0, getD cs 3 0)
+opening-present s ps cs used f h = rw (← getD-drop 3 ps 0 0, ← getD-drop 3 cs 0 0) (all-read f h)
 
 -- the last line
-module _ (s : List ℕ) (n : ℕ) (r : Right s (text (bytes ")\n") s) n tt) where
-  closes : (b : Book) → Right s ((text (bytes ")\n") >>= (λ _. give b)) s) n b
+module _ (s : List ℕ) (n : ℕ) (r : ReadsFront s (text (bytes ")\n") s) n tt) where
+  closes : (b : Book) → ReadsFront s ((text (bytes ")\n") >>= (λ _. give b)) s) n b
   closes b = mapped (text (bytes ")\n")) (λ _. b) s r
 
   pub closing-absent : n ≡ 0 → Closing s false

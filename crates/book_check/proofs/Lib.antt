@@ -1,2 +1,2 @@
 mod Form
-mod Judged
+mod BookChecking

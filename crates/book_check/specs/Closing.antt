@@ -4,8 +4,8 @@ use mathlib.Core.Path.{_≡_}
 use mathlib.Core.Bool.{Bool, cond}
 use mathlib.Core.Option.{some, none}
 use mathlib.Core.List.{List}
-use Rattle.text.specs.Reader.{_>>=_, give, bytes, text}
-use Rattle.book.specs.Book.{Book, whole}
+use Rattle.text_read.specs.Reader.{_>>=_, give, bytes, text}
+use Rattle.book_form.specs.Book.{Book, whole}
 
 -- s is `)` and byte 10, and nothing more
 pub record Closing (s : List ℕ) (r : Bool) : Type 0 where

@@ -1,21 +1,21 @@
 // The check of a book: its form, read from the bytes, and then its questions.
-use book::Answer;
-use book::Checked;
-use book::Opening;
-use book::judge;
-use book::refused;
-use lines::entries::read_entries;
-use lines::moves::read_moves;
-use text::read_row;
-use text::read_text;
-ghost use Rattle.text.specs.Reader.{Right};
-ghost use Rattle.book.specs.Book.{opening};
+use book_form::Answer;
+use book_form::Checked;
+use book_form::Opening;
+use book_form::judge;
+use book_form::refused;
+use book_lines::entries::read_entries;
+use book_lines::moves::read_moves;
+use text_read::read_row;
+use text_read::read_text;
+ghost use Rattle.text_read.specs.Reader.{ReadsFront};
+ghost use Rattle.book_form.specs.Book.{opening};
 ghost use Rattle.book_check.specs.Closing.{Closing};
-ghost use Rattle.book_check.specs.Judged.{Judged};
+ghost use Rattle.book_check.specs.BookCheck.{ChecksBook};
 
 // Reads the lines `(book`, `(players P)` and `(fee C)`.
 fn read_opening(book: &[u8]) -> Opening
-    ensures { λ r. ⌜ Right (now (book .entry)) (opening (now (book .entry))) (r .used) (r .players, r .fee) ⌝ }
+    ensures { λ r. ⌜ ReadsFront (now (book .entry)) (opening (now (book .entry))) (r .used) (r .players, r .fee) ⌝ }
 {
     let n1 = read_text(book, b"(book\n");
     if n1 == 0 {
@@ -66,7 +66,7 @@ fn closes(rest: &[u8]) -> bool
 
 // Puts the questions 11 to 16 to a book.
 pub fn check(book: &[u8]) -> Checked
-    ensures { λ r. ⌜ Judged (now (book .entry)) r ⌝ }
+    ensures { λ r. ⌜ ChecksBook (now (book .entry)) r ⌝ }
 {
     if 16384 < book.len() {
         return refused(Answer::TooLong);

@@ -1,5 +1,5 @@
 // The names of a book's entries: where one lies, the name, and the question that refuses it.
-ghost use Rattle.book_names.specs.Name.{Given};
+ghost use Rattle.book_names.specs.Name.{NameGiven};
 ghost use Rattle.book_names.specs.BookNames.{BookName, BookNameRefusal};
 
 // A part of a book.
@@ -30,7 +30,7 @@ pub fn place(book: &[u8], entry: u32) -> Span
 
 // The name of an entry of a book, counted from 1; the empty part if it is refused.
 pub fn name(book: &[u8], entry: u32) -> &[u8]
-    ensures { λ r. ⌜ Given (now (book .entry)) entry (now r) ⌝ }
+    ensures { λ r. ⌜ NameGiven (now (book .entry)) entry (now r) ⌝ }
 {
     let at = place(book, entry);
     let start = at.start;
@@ -44,7 +44,7 @@ pub fn name_refusal(book: &[u8], entry: u32) -> u32
 {
     let checked = book_check::check(book);
     let answer = checked.answer;
-    let q = book::question(answer);
+    let q = book_form::question(answer);
     if q != 0 {
         return q;
     }

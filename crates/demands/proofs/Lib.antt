@@ -3,4 +3,4 @@ pub mod Runs
 pub mod Matched
 pub mod Listings
 pub mod Names
-pub mod Walks
+pub mod ThreeCalls

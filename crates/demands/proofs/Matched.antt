@@ -6,24 +6,24 @@ use lib.ListN.{getElem?}
 use lib.IntN.{pos}
 use Rattle.laws.specs.Members.{at-member}
 use Rattle.laws.specs.Image.{mapOption}
-use Rattle.book.specs.Questions.{refusal}
-use Rattle.book_network.proofs.Made.{held}
-use Rattle.allocation.specs.WayFlow.{flowOf}
-use Rattle.allocation.specs.FullWays.{fullWays}
-use Rattle.allocation.specs.BookBytes.{waysIn, costIn}
-use Rattle.allocation.proofs.Accepted.{accepted-net}
-use Rattle.allocation.proofs.FullWays.{full-way}
-use Rattle.allocation.proofs.Matched.{way-cost}
-use Rattle.allocation.proofs.LineByLine.{line-matched}
-use Rattle.demands.specs.Demands.{MatchedLines}
+use Rattle.book_form.specs.Questions.{bookRefusal}
+use Rattle.way_network.proofs.Made.{held}
+use Rattle.way_theory.specs.WayFlow.{flowOf}
+use Rattle.way_theory.specs.FullWays.{fullWays}
+use Rattle.way_theory.specs.BookBytes.{waysIn, wayCostOrZero}
+use Rattle.way_theory.proofs.Accepted.{accepted-net}
+use Rattle.way_theory.proofs.FullWays.{full-way}
+use Rattle.way_theory.proofs.Matched.{way-cost}
+use Rattle.way_theory.proofs.LineByLine.{line-matched}
+use Rattle.demands.specs.Demands.{MatchedItems}
 
-pub book-matched : (s : List ℕ) → refusal s ≡ 0 → MatchedLines s
+pub book-matched : (s : List ℕ) → bookRefusal s ≡ 0 → MatchedItems s
 book-matched s ok =
     let (b, p, h) = held s ok in
     record {
       book = b;
       holds = p;
       accepted = accepted-net b (h .limits);
-      lines = λ k. line-matched b k ∙ ap (λ o. mapOption (flowOf b) (getElem? (waysIn o) k)) (sym p);
-      costs = λ k w e. way-cost b w (full-way b w .0 (at-member (fullWays b) k w (ap (λ o. getElem? (waysIn o) k) (sym p) ∙ e)) .way) ∙ ap (λ o. pos (costIn o w)) (sym p);
+      items = λ k. line-matched b k ∙ ap (λ o. mapOption (flowOf b) (getElem? (waysIn o) k)) (sym p);
+      costs = λ k w e. way-cost b w (full-way b w .0 (at-member (fullWays b) k w (ap (λ o. getElem? (waysIn o) k) (sym p) ∙ e)) .way) ∙ ap (λ o. pos (wayCostOrZero o w)) (sym p);
     }

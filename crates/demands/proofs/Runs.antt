@@ -4,73 +4,73 @@ use mathlib.Core.List.{List, [], _∷_, _++_}
 use mathlib.Core.Option.{Option, none, some}
 use Prim.Native.Nat.{ℕ}
 use native.Mathlib.Omega.{arith}
-use Rattle.laws.specs.Equality.{same-list}
-use Rattle.laws.specs.Run.{Call, first, next, Answer, respond, Kept}
+use Rattle.laws.specs.Rules.{Call, first, next, Rules}
 use Rattle.laws.specs.Seen.{Seen}
-use Rattle.bytes32.specs.Words.{encodeWords}
-use Rattle.network.specs.Network.{costOf}
-use Rattle.network.specs.FullList.{fullList, countFlows}
-use Rattle.network_questions.specs.Questions.{refusal}
-use Rattle.calls.specs.declared.Reply.{Reply}
-use Rattle.calls.specs.Replies.{failed, countReply, countUnless}
-use Rattle.calls.proofs.Turns.{count-line}
-use Rattle.flow_bytes.specs.NetworkBytes.{net}
-use Rattle.network_calls.specs.NetworkCalls.{Lent, NetCall, lent, number, refuses, Wrote}
-use Rattle.network_calls.specs.NetworkRun.{NoLine, RightNetwork, Answers}
-use Rattle.network_calls.specs.NetworkEntries.{NetworkCount}
-use Rattle.network_calls.proofs.NetworkRun.{network-run, network-lists, network-count}
-use Rattle.network_calls.proofs.FirstFlow.{first-finds}
-use Rattle.book.specs.Questions.{refusal as bookRefusal}
-use Rattle.book.specs.Book.{Book, parse}
-use Rattle.book.specs.Told.{ToldIn, Told}
-use Rattle.allocation.specs.BookBytes.{ways, costOf as bookCost}
-use Rattle.book_calls.specs.BookCalls.{BookCall, countWays, lent as bookLent, number as bookNumber, refuses as bookRefuses, Wrote as BookWrote}
-use Rattle.book_calls.specs.BookRun.{RightBook, AnswersBook}
-use Rattle.book_calls.specs.BookEntries.{BookCount}
-use Rattle.book_calls.proofs.BookRun.{book-run, book-lists, book-count}
-use Rattle.book_calls.proofs.FirstWay.{first-finds-way}
-use Rattle.demands.specs.Demands.{Demand3Network, FirstFlowDemands, NextFlowDemands, CountFlowsDemands, Demand3Book, FirstWayDemands, NextWayDemands, CountWaysDemands}
+use Rattle.laws.specs.Run.{Answers, Run, Kept, Readable, run-is-read}
+use Rattle.laws.specs.Listing.{complete-shows-all}
+use Rattle.laws.specs.Count.{count-is}
+use Rattle.net_model.specs.FullList.{countFlows}
+use Rattle.net_questions.specs.Questions.{networkRefusal}
+use Rattle.call_reply.specs.declared.Reply.{Reply}
+use Rattle.call_reply.specs.Replies.{countReply, countUnless}
+use Rattle.call_reply.proofs.Turns.{count-line}
+use Rattle.call_flow_bytes.specs.NetworkBytes.{net}
+use Rattle.call_network.specs.NetworkCalls.{Lent}
+use Rattle.call_network.specs.NetworkRules.{NoLine, networkRules}
+use Rattle.call_network.specs.NetworkEntries.{NetworkCount}
+use Rattle.call_network.proofs.NetworkRun.{flows-apart, network-readable}
+use Rattle.call_network.proofs.FirstFlow.{first-finds}
+use Rattle.book_form.specs.Questions.{bookRefusal}
+use Rattle.book_form.specs.Book.{Book, parse}
+use Rattle.book_form.specs.Told.{ToldIn, Told}
+use Rattle.call_book.specs.BookCalls.{countWaysIn}
+use Rattle.call_book.specs.BookRules.{bookRules}
+use Rattle.call_book.specs.BookEntries.{BookCount}
+use Rattle.call_book.proofs.BookRun.{ways-apart, book-readable}
+use Rattle.call_book.proofs.FirstWay.{first-finds-way}
+use Rattle.demands.specs.Demands.{Demand3, FirstFlowDemands, NextFlowDemands, CountFlowsDemands, FirstWayDemands, NextWayDemands, CountWaysDemands}
 use Rattle.demands.proofs.Refusals.{demand-1, count-1}
 
 -- a run of calls that keep their contracts, with one more
-module _ {Line F G N S : Type 0} (same : Discrete G) (copy : Line → G) (L : List Line) (refuses : Call F G N → Option ℕ) (Right : Call F G N → Answer Line → S → Type 0)
-    (e : Call F G N × S) (h : Right (e .0) (respond same copy L refuses (e .0)) (e .1)) where
-  one-more : (r : List (Call F G N × S)) → Kept same copy L refuses Right r → Kept same copy L refuses Right (r ++ (e ∷ []))
+module _ {Item F G N Lists : Type 0} (R : Rules Item F G N Lists) (e : Call F G N × Seen Lists) (h : Answers R (e .0) (e .1)) where
+  one-more : (r : Run R) → Kept R r → Kept R (r ++ (e ∷ []))
   one-more [] k = (h, tt)
   one-more (a ∷ r) k = (k .0, one-more r (k .1))
+
+  demand-3 : Readable R → Demand3 R e
+  demand-3 readable = record {
+    kept = one-more;
+    read = λ r k g. run-is-read R readable (r ++ (e ∷ [])) g (one-more r k);
+    lists = λ r k w. complete-shows-all R readable (r ++ (e ∷ [])) w (one-more r k);
+  }
 
 -- a reply is what its fields are
 reply-is : (r q : Reply) → r .code ≡ q .code → r .line ≡ q .line → r .value ≡ q .value → r ≡ q
 reply-is r q c l v = rw (← c, ← l, ← v) refl
 
 module _ (bs xs : List ℕ) where
-  demand-3 : (e : NetCall × Seen Lent) → Answers bs xs (e .0) (e .1) → Demand3Network bs xs e
-  demand-3 e h =
-      let more = one-more same-list encodeWords (fullList (net bs xs)) (refuses bs xs) (RightNetwork bs xs) e h in
-      record { kept = more; read = λ r k g. network-run bs xs (r ++ (e ∷ [])) g (more r k); lists = λ r k w. network-lists bs xs (r ++ (e ∷ [])) w (more r k) }
-
-  pub first-flow-demands : (l : Lent) (s : Seen Lent) → Answers bs xs (first l) s → FirstFlowDemands bs xs l s
+  pub first-flow-demands : (l : Lent) (s : Seen Lent) → Answers (networkRules bs xs) (first l) s → FirstFlowDemands bs xs l s
   first-flow-demands l s h = record {
-    demand1 = demand-1 NoLine (costOf (net bs xs)) lent (Wrote (net bs xs)) (fullList (net bs xs)) (number bs xs) (first l) s h;
-    demand2 = λ z. first-finds bs xs l s (ap failed z) h;
-    demand3 = demand-3 (first l, s) h;
+    demand1 = demand-1 (networkRules bs xs) (first l) s h;
+    demand2 = λ z. first-finds bs xs l s z h;
+    demand3 = demand-3 (networkRules bs xs) (first l, s) h (network-readable bs xs);
   }
 
-  pub next-flow-demands : (g fs : List ℕ) (s : Seen Lent) → Answers bs xs (next g fs) s → NextFlowDemands bs xs g fs s
+  pub next-flow-demands : (g fs : List ℕ) (s : Seen Lent) → Answers (networkRules bs xs) (next g fs) s → NextFlowDemands bs xs g fs s
   next-flow-demands g fs s h = record {
-    demand1 = demand-1 NoLine (costOf (net bs xs)) lent (Wrote (net bs xs)) (fullList (net bs xs)) (number bs xs) (next g fs) s h;
-    demand3 = demand-3 (next g fs, s) h;
+    demand1 = demand-1 (networkRules bs xs) (next g fs) s h;
+    demand3 = demand-3 (networkRules bs xs) (next g fs, s) h (network-readable bs xs);
   }
 
   pub count-flows-demands : (cap : ℕ) (r : Reply) → NetworkCount bs xs cap r → CountFlowsDemands bs xs cap r
   count-flows-demands cap r h =
       let k = countFlows (net bs xs) cap in
-      let line-is : r .line ≡ 0 = ap (λ (x : Reply). x .line) h ∙ count-line (refusal bs xs) k in
-      let passed : refusal bs xs ≡ 0 → r ≡ countReply k = λ ok. h ∙ ap (λ n. countUnless n k) ok in
+      let line-is : r .line ≡ 0 = ap (λ (x : Reply). x .line) h ∙ count-line (networkRefusal bs xs) k in
+      let passed : networkRefusal bs xs ≡ 0 → r ≡ countReply k = λ ok. h ∙ ap (λ n. countUnless n k) ok in
       record {
-        demand1 = count-1 NoLine r (refusal bs xs) k (ap (λ (x : Reply). x .code) h) (ap (λ (x : Reply). x .value) h) line-is (λ _. line-is);
+        demand1 = count-1 NoLine r (networkRefusal bs xs) k (ap (λ (x : Reply). x .code) h) (ap (λ (x : Reply). x .value) h) line-is (λ _. line-is);
         exact = passed;
-        handed-out = λ ok. rw (network-count bs xs ok cap) (passed ok);
+        handed-out = λ ok. passed ok ∙ ap countReply (sym (count-is (networkRules bs xs) (flows-apart bs xs ok) cap));
       }
 
 -- no question failed, no line told
@@ -79,32 +79,27 @@ no-line-told none l h = h
 no-line-told (some b) l h = h .of-other (λ e. omega arith) (λ e. omega arith) (λ e. omega arith)
 
 module _ (s : List ℕ) where
-  demand-3-book : (e : BookCall × Seen (List ℕ)) → AnswersBook s (e .0) (e .1) → Demand3Book s e
-  demand-3-book e h =
-      let more = one-more same-list encodeWords (ways s) (bookRefuses s) (RightBook s) e h in
-      record { kept = more; read = λ r k g. book-run s (r ++ (e ∷ [])) g (more r k); lists = λ r k w. book-lists s (r ++ (e ∷ [])) w (more r k) }
-
-  pub first-way-demands : (l : List ℕ) (t : Seen (List ℕ)) → AnswersBook s (first l) t → FirstWayDemands s l t
+  pub first-way-demands : (l : List ℕ) (t : Seen (List ℕ)) → Answers (bookRules s) (first l) t → FirstWayDemands s l t
   first-way-demands l t h = record {
-    demand1 = demand-1 (Told s) (bookCost s) bookLent BookWrote (ways s) (bookNumber s) (first l) t h;
-    demand2 = λ z. first-finds-way s l t (ap failed z) h;
-    demand3 = demand-3-book (first l, t) h;
+    demand1 = demand-1 (bookRules s) (first l) t h;
+    demand2 = λ z. first-finds-way s l t z h;
+    demand3 = demand-3 (bookRules s) (first l, t) h (book-readable s);
   }
 
-  pub next-way-demands : (g l : List ℕ) (t : Seen (List ℕ)) → AnswersBook s (next g l) t → NextWayDemands s g l t
+  pub next-way-demands : (g l : List ℕ) (t : Seen (List ℕ)) → Answers (bookRules s) (next g l) t → NextWayDemands s g l t
   next-way-demands g l t h = record {
-    demand1 = demand-1 (Told s) (bookCost s) bookLent BookWrote (ways s) (bookNumber s) (next g l) t h;
-    demand3 = demand-3-book (next g l, t) h;
+    demand1 = demand-1 (bookRules s) (next g l) t h;
+    demand3 = demand-3 (bookRules s) (next g l, t) h (book-readable s);
   }
 
   pub count-ways-demands : (cap : ℕ) (r : Reply) → BookCount s cap r → CountWaysDemands s cap r
   count-ways-demands cap r h =
-      let k = countWays s cap in
+      let k = countWaysIn s cap in
       let line-is : bookRefusal s ≡ 0 → r .line ≡ 0 = λ ok. no-line-told (parse s) (r .line) (rw ok at (h .told)) in
       let passed : bookRefusal s ≡ 0 → r ≡ countReply k =
       λ ok. reply-is r (countReply k) (h .code-is ∙ ap (λ n. countUnless n k .code) ok) (line-is ok ∙ sym (count-line 0 k)) (h .value-is ∙ ap (λ n. countUnless n k .value) ok) in
       record {
         demand1 = count-1 (Told s) r (bookRefusal s) k (h .code-is) (h .value-is) (h .told) line-is;
         exact = passed;
-        handed-out = λ ok. rw (book-count s ok cap) (passed ok);
+        handed-out = λ ok. passed ok ∙ ap countReply (sym (count-is (bookRules s) (ways-apart s ok) cap));
       }

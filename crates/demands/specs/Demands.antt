@@ -8,125 +8,119 @@ use Prim.Native.Nat.{ℕ, zero, suc, _+_, _*_, _-_, _≤_, _<_}
 use lib.ListN.{length, getD, getElem?}
 use lib.IntN.{pos}
 use Rattle.laws.specs.Image.{mapOption}
-use Rattle.laws.specs.Equality.{same-list}
-use Rattle.laws.specs.Run.{first, next, off, Strange}
+use Rattle.laws.specs.Rules.{Call, first, next, Rules}
 use Rattle.laws.specs.Seen.{Seen}
+use Rattle.laws.specs.Run.{Run, Strange, ConsistentRun, Kept, AsRead}
+use Rattle.laws.specs.Listing.{CompleteRun, ShowsFullList}
 use Rattle.laws.specs.Count.{counted, count}
-use Rattle.bytes32.specs.Words.{encodeWords}
-use Rattle.network.specs.Network.{costOf}
-use Rattle.network.specs.Accepted.{AcceptedNet}
-use Rattle.network.specs.FullList.{fullList}
-use Rattle.network_questions.specs.Questions.{refusal}
-use Rattle.calls.specs.declared.Reply.{Reply}
-use Rattle.calls.specs.Replies.{sees, countReply}
-use Rattle.flow_bytes.specs.NetworkBytes.{net}
-use Rattle.network_calls.specs.NetworkCalls.{Lent, NetCall, lends, number, refuses}
-use Rattle.network_calls.specs.NetworkRun.{NoLine, ConsistentNetwork, KeptNetwork, ReadNetwork, WalksNetwork, ListsNetwork}
-use Rattle.network_calls.specs.FirstFlow.{Finds, FindsNone}
-use Rattle.lines.specs.Columns.{nobody}
-use Rattle.book.specs.Book.{Book, parse}
-use Rattle.book.specs.Questions.{refusal as bookRefusal}
-use Rattle.book.specs.Checked.{entriesOf}
+use Rattle.net_model.specs.Network.{costOf}
+use Rattle.net_model.specs.Accepted.{AcceptedNet}
+use Rattle.net_model.specs.FullList.{fullList}
+use Rattle.net_questions.specs.Questions.{networkRefusal}
+use Rattle.call_reply.specs.declared.Reply.{Reply}
+use Rattle.call_reply.specs.Replies.{sees, countReply}
+use Rattle.call_flow_bytes.specs.NetworkBytes.{net}
+use Rattle.call_network.specs.NetworkCalls.{Lent, lends, networkQuestion}
+use Rattle.call_network.specs.NetworkRules.{NoLine, networkRules}
+use Rattle.call_network.specs.FirstFlow.{FindsFlow, FindsNoFlow}
+use Rattle.book_lines.specs.Columns.{nobody}
+use Rattle.book_form.specs.Book.{Book, parse}
+use Rattle.book_form.specs.Questions.{bookRefusal}
+use Rattle.book_form.specs.Checked.{entriesOf}
 use Rattle.book_names.specs.declared.Span.{Span}
 use Rattle.book_names.specs.Name.{nameRefusal}
-use Rattle.book_names.specs.BookNames.{part, placeOf}
-use Rattle.book.specs.Told.{Told}
-use Rattle.allocation.specs.BookNet.{bookNet}
-use Rattle.allocation.specs.WayFlow.{flowOf}
-use Rattle.allocation.specs.BookBytes.{ways, size, costIn, costOf as wayCost}
-use Rattle.book_calls.specs.BookCalls.{BookCall, number as bookNumber, refuses as bookRefuses}
-use Rattle.book_calls.specs.BookRun.{ConsistentBook, KeptBook, ReadBook, WalksBook, ListsBook}
-use Rattle.book_calls.specs.FirstWay.{FindsWay, FindsNoWay}
-use Rattle.listing.specs.Fit.{fit}
-use Rattle.way_listing.specs.WayListing.{listWays}
-use Rattle.book_listing.specs.Listing.{listing}
+use Rattle.book_names.specs.BookNames.{spanned, nameStart}
+use Rattle.book_form.specs.Told.{Told}
+use Rattle.way_theory.specs.BookNet.{bookNet}
+use Rattle.way_theory.specs.WayFlow.{flowOf}
+use Rattle.way_theory.specs.BookBytes.{ways, entryCount, wayCostOrZero, wayCostIn}
+use Rattle.call_book.specs.BookCalls.{bookQuestion}
+use Rattle.call_book.specs.BookRules.{bookRules}
+use Rattle.call_book.specs.FirstWay.{FindsWay, FindsNoWay}
+use Rattle.text_write.specs.Fit.{fit}
+use Rattle.way_list.specs.WayListing.{listWays}
+use Rattle.call_listing.specs.Listing.{listing}
 
 -- Demand 1. That every call ends and keeps to the memory lent to it is what the prover shows of every function. It "answers each bad book or network
 -- with the number of the first question it fails and changes nothing, and refuses nothing else". s is what is seen of a call that is lent l.
-pub record Demand1 {Lists : Type 0} (Tells : ℕ → ℕ → Type 0) (n : ℕ) (l : Lists) (s : Seen Lists) : Type 0 where
-  pub number-told : ¬ (n ≡ 0) → (s .number ≡ n) × Tells n (s .told)
+pub record Demand1 {Lists : Type 0} (TellsLine : ℕ → ℕ → Type 0) (n : ℕ) (l : Lists) (s : Seen Lists) : Type 0 where
+  pub number-told : ¬ (n ≡ 0) → (s .number ≡ n) × TellsLine n (s .told)
   -- numbers from 100 on are words, "none", "end" and "more", and no question's
   pub nothing-else : n ≡ 0 → ((s .number ≡ 0) ⊎ (100 ≤ s .number)) × (s .told ≡ 0)
   -- "'None' and 'end' are no refusals; they too write nothing."
   pub changes-nothing : ¬ (s .number ≡ 0) → (s .cost ≡ pos 0) × (s .lists ≡ l)
 
 -- Demand 3, of one call more: whatever calls of the entries were made before, each of which has kept its contract, this one keeps it too; if the run
--- is consistent, all its calls are answered as by the reader; if it is first and then next until there is no line, they show the full list.
-pub record Demand3 {C S : Type 0} (Kept Consistent Read Walks Lists : List (C × S) → Type 0) (e : C × S) : Type 0 where
-  pub kept : (r : List (C × S)) → Kept r → Kept (r ++ (e ∷ []))
-  pub read : (r : List (C × S)) → Kept r → Consistent (r ++ (e ∷ [])) → Read (r ++ (e ∷ []))
-  pub lists : (r : List (C × S)) → Kept r → Walks (r ++ (e ∷ [])) → Lists (r ++ (e ∷ []))
+-- is consistent, all its calls are answered as by the reader; if it is first and then next until there is no item, they show the full list.
+pub record Demand3 {Item F G N Lists : Type 0} (R : Rules Item F G N Lists) (e : Call F G N × Seen Lists) : Type 0 where
+  pub kept : (r : Run R) → Kept R r → Kept R (r ++ (e ∷ []))
+  pub read : (r : Run R) → Kept R r → ConsistentRun R (r ++ (e ∷ [])) → AsRead R (r ++ (e ∷ []))
+  pub lists : (r : Run R) → Kept R r → CompleteRun R (r ++ (e ∷ [])) → ShowsFullList R (r ++ (e ∷ []))
 
 -- ---- networks, by the bytes of their balances and arcs
 module _ (bs xs : List ℕ) where
-  abbrev pub Demand3Network : NetCall × Seen Lent → Type 0
-  Demand3Network e = Demand3 (KeptNetwork bs xs) (ConsistentNetwork bs xs) (ReadNetwork bs xs off) (WalksNetwork bs xs) (ListsNetwork bs xs) e
-
   -- `first`, with or without prices. Demand 2: a least-cost flow before which none comes, or there is no flow.
   pub record FirstFlowDemands (l : Lent) (s : Seen Lent) : Type 0 where
-    pub demand1 : Demand1 NoLine (number bs xs (first l)) l s
-    pub demand2 : number bs xs (first l) ≡ 0 → Finds bs xs l s ⊎ FindsNone bs xs l s
-    pub demand3 : Demand3Network (first l, s)
+    pub demand1 : Demand1 NoLine (networkQuestion bs xs (first l)) l s
+    pub demand2 : networkQuestion bs xs (first l) ≡ 0 → FindsFlow bs xs l s ⊎ FindsNoFlow bs xs l s
+    pub demand3 : Demand3 (networkRules bs xs) (first l, s)
 
   pub record NextFlowDemands (g fs : List ℕ) (s : Seen Lent) : Type 0 where
-    pub demand1 : Demand1 NoLine (number bs xs (next g fs)) (lends fs none) s
-    pub demand3 : Demand3Network (next g fs, s)
+    pub demand1 : Demand1 NoLine (networkQuestion bs xs (next g fs)) (lends fs none) s
+    pub demand3 : Demand3 (networkRules bs xs) (next g fs, s)
 
-  -- Counts are exact up to the cap, and those of handing out lines until the list ends or one beyond the cap is met.
+  -- Counts are exact up to the cap, and those of handing out items until the list ends or one beyond the cap is met.
   pub record CountFlowsDemands (cap : ℕ) (r : Reply) : Type 0 where
-    pub demand1 : Demand1 {Lists = Unit {0}} NoLine (refusal bs xs) tt (sees r tt)
-    pub exact : refusal bs xs ≡ 0 → r ≡ countReply (counted cap (length (fullList (net bs xs))))
-    pub handed-out : refusal bs xs ≡ 0 → r ≡ countReply (count same-list encodeWords (fullList (net bs xs)) cap)
+    pub demand1 : Demand1 {Lists = Unit {0}} NoLine (networkRefusal bs xs) tt (sees r tt)
+    pub exact : networkRefusal bs xs ≡ 0 → r ≡ countReply (counted cap (length (fullList (net bs xs))))
+    pub handed-out : networkRefusal bs xs ≡ 0 → r ≡ countReply (count (networkRules bs xs) cap)
 
   -- A run of three calls, or of one that writes no flow, is answered as by the reader, if g is not on the full list.
-  pub record WalkFlowsDemands (g : List ℕ) (r : List (NetCall × Seen Lent)) : Type 0 where
-    pub read : Strange same-list encodeWords (fullList (net bs xs)) (refuses bs xs) g → ReadNetwork bs xs off r
+  pub record RunFlowsDemands (g : List ℕ) (r : Run (networkRules bs xs)) : Type 0 where
+    pub read : Strange (networkRules bs xs) g → AsRead (networkRules bs xs) r
 
 -- ---- books, by their bytes
 module _ (s : List ℕ) where
-  abbrev pub Demand3Book : BookCall × Seen (List ℕ) → Type 0
-  Demand3Book e = Demand3 (KeptBook s) (ConsistentBook s) (ReadBook s off) (WalksBook s) (ListsBook s) e
-
   pub record FirstWayDemands (l : List ℕ) (t : Seen (List ℕ)) : Type 0 where
-    pub demand1 : Demand1 (Told s) (bookNumber s (first l)) l t
-    pub demand2 : bookNumber s (first l) ≡ 0 → FindsWay s l t ⊎ FindsNoWay s l t
-    pub demand3 : Demand3Book (first l, t)
+    pub demand1 : Demand1 (Told s) (bookQuestion s (first l)) l t
+    pub demand2 : bookQuestion s (first l) ≡ 0 → FindsWay s l t ⊎ FindsNoWay s l t
+    pub demand3 : Demand3 (bookRules s) (first l, t)
 
   pub record NextWayDemands (g l : List ℕ) (t : Seen (List ℕ)) : Type 0 where
-    pub demand1 : Demand1 (Told s) (bookNumber s (next g l)) l t
-    pub demand3 : Demand3Book (next g l, t)
+    pub demand1 : Demand1 (Told s) (bookQuestion s (next g l)) l t
+    pub demand3 : Demand3 (bookRules s) (next g l, t)
 
   pub record CountWaysDemands (cap : ℕ) (r : Reply) : Type 0 where
     pub demand1 : Demand1 {Lists = Unit {0}} (Told s) (bookRefusal s) tt (sees r tt)
     pub exact : bookRefusal s ≡ 0 → r ≡ countReply (counted cap (length (ways s)))
-    pub handed-out : bookRefusal s ≡ 0 → r ≡ countReply (count same-list encodeWords (ways s) cap)
+    pub handed-out : bookRefusal s ≡ 0 → r ≡ countReply (count (bookRules s) cap)
 
   -- The same run of a book: the whole list lent to the first call, of E numbers, is given to the second.
-  pub record WalkWaysDemands (l g : List ℕ) (r : List (BookCall × Seen (List ℕ))) : Type 0 where
-    pub read : length l ≡ 4 * size s → Strange same-list encodeWords (ways s) (bookRefuses s) g → ReadBook s off r
+  pub record RunWaysDemands (l g : List ℕ) (r : Run (bookRules s)) : Type 0 where
+    pub read : length l ≡ 4 * entryCount s → Strange (bookRules s) g → AsRead (bookRules s) r
 
-  -- Demand 3: "ways and flows match line by line". The network of the book is an accepted one, and its full list has the flow of each way on the
-  -- way's line, at the way's cost, and no other line.
-  pub record MatchedLines : Type 0 where
+  -- Demand 3: "ways and flows match line by line". The network of the book is an accepted one, and its full list has the flow of each way in the
+  -- way's place, at the way's cost, and nothing more.
+  pub record MatchedItems : Type 0 where
     pub book : Book
     pub holds : parse s ≡ some book
     pub accepted : AcceptedNet (bookNet book)
-    pub lines : (k : ℕ) → getElem? (fullList (bookNet book)) k ≡ mapOption (flowOf book) (getElem? (ways s) k)
-    pub costs : (k : ℕ) (w : List ℕ) → getElem? (ways s) k ≡ some w → costOf (bookNet book) (flowOf book w) ≡ wayCost s w
+    pub items : (k : ℕ) → getElem? (fullList (bookNet book)) k ≡ mapOption (flowOf book) (getElem? (ways s) k)
+    pub costs : (k : ℕ) (w : List ℕ) → getElem? (ways s) k ≡ some w → costOf (bookNet book) (flowOf book w) ≡ wayCostIn s w
 
   -- The listing: "none" exactly without a way, and otherwise the text of the full list of ways, where the lent list has room for it.
-  pub record ListingDemands (l : List ℕ) (r : Reply) (l′ : List ℕ) : Type 0 where
+  pub record ListWaysDemands (l : List ℕ) (r : Reply) (l′ : List ℕ) : Type 0 where
     pub demand1 : Demand1 (Told s) (bookRefusal s) l (sees r l′)
     pub none-exactly : bookRefusal s ≡ 0 → (r .code ≡ 100) ↔ (ways s ≡ [])
     pub listed : r .code ≡ 0 → (r .value ≡ pos (length (listing s))) × (l′ ≡ fit (listing s) l)
-    pub text-is : bookRefusal s ≡ 0 → listing s ≡ listWays (costIn (parse s)) (ways s)
+    pub text-is : bookRefusal s ≡ 0 → listing s ≡ listWays (wayCostOrZero (parse s)) (ways s)
 
   -- The name of entry j, by two calls, p the part and n the number. "The name of an entry is given back as the part of the book that holds it. A refused
   -- name call gives the empty part, which no name is; a second call on the same book and entry gives the number of the refusal, or 0."
-  pub record NameDemands (j : ℕ) (p : Span) (n : ℕ) : Type 0 where
+  pub record NameOfDemands (j : ℕ) (p : Span) (n : ℕ) : Type 0 where
     pub number-told : n ≡ nameRefusal s j
     pub refused : ¬ (n ≡ 0) → p ≡ record { start = 0; length = 0 }
-    pub named : n ≡ 0 → (part s p ≡ getD (entriesOf (parse s)) (j - 1) nobody .name) × (0 < length (part s p)) × (p .start ≡ placeOf s j)
+    pub named : n ≡ 0 → (spanned s p ≡ getD (entriesOf (parse s)) (j - 1) nobody .name) × (0 < length (spanned s p)) × (p .start ≡ nameStart s j)
     pub within : p .start + p .length ≤ length s
 
 -- the calls that were made: all three, or, where the first one's number is not 0, only that

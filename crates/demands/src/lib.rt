@@ -2,15 +2,18 @@
 ghost use mathlib.Core.Option.{none, some};
 ghost use Prim.Native.Nat.{_*_, _/_};
 ghost use lib.ListN.{length, take};
-ghost use Rattle.laws.specs.Run.{first, next};
-ghost use Rattle.calls.specs.Replies.{sees};
-ghost use Rattle.network_calls.specs.NetworkCalls.{lends};
-ghost use Rattle.demands.specs.Demands.{FirstFlowDemands, NextFlowDemands, CountFlowsDemands, WalkFlowsDemands, FirstWayDemands, NextWayDemands, CountWaysDemands, ListingDemands, NameDemands, WalkWaysDemands, madeOf};
+ghost use Rattle.laws.specs.Rules.{first, next};
+ghost use Rattle.call_reply.specs.Replies.{sees};
+ghost use Rattle.call_network.specs.NetworkCalls.{lends};
+ghost use Rattle.demands.specs.Demands.{FirstFlowDemands, NextFlowDemands, CountFlowsDemands, RunFlowsDemands};
+ghost use Rattle.demands.specs.Demands.{FirstWayDemands, NextWayDemands, CountWaysDemands, RunWaysDemands};
+ghost use Rattle.demands.specs.Demands.{ListWaysDemands, NameOfDemands, madeOf};
 use book_names::Span;
-use calls::Reply;
+use call_reply::Reply;
 
 pub fn first_flow(balances: &[u8], arcs: &[u8], flows: &mut [u8]) -> Reply
-    ensures { λ r. ⌜ FirstFlowDemands (now (balances .entry)) (now (arcs .entry)) (lends (now (flows .entry)) none) (sees r (lends (now (flows .exit)) none)) ⌝ }
+    ensures { λ r. ⌜ FirstFlowDemands (now (balances .entry)) (now (arcs .entry)) (lends (now (flows .entry)) none)
+        (sees r (lends (now (flows .exit)) none)) ⌝ }
 {
     desk::desk_network_first(balances, arcs, flows)
 }
@@ -23,7 +26,8 @@ pub fn first_priced_flow(balances: &[u8], arcs: &[u8], flows: &mut [u8], prices:
 }
 
 pub fn next_flow(balances: &[u8], arcs: &[u8], given: &[u8], flows: &mut [u8]) -> Reply
-    ensures { λ r. ⌜ NextFlowDemands (now (balances .entry)) (now (arcs .entry)) (now (given .entry)) (now (flows .entry)) (sees r (lends (now (flows .exit)) none)) ⌝ }
+    ensures { λ r. ⌜ NextFlowDemands (now (balances .entry)) (now (arcs .entry)) (now (given .entry)) (now (flows .entry))
+        (sees r (lends (now (flows .exit)) none)) ⌝ }
 {
     desk::desk_network_next(balances, arcs, given, flows)
 }
@@ -53,7 +57,7 @@ pub fn count_ways(book: &[u8], cap: u16) -> Reply
 }
 
 pub fn list_ways(book: &[u8], text: &mut [u8]) -> Reply
-    ensures { λ r. ⌜ ListingDemands (now (book .entry)) (now (text .entry)) r (now (text .exit)) ⌝ }
+    ensures { λ r. ⌜ ListWaysDemands (now (book .entry)) (now (text .entry)) r (now (text .exit)) ⌝ }
 {
     desk::desk_listing(book, text)
 }
@@ -65,7 +69,7 @@ pub struct Named {
 }
 
 pub fn name_of(book: &[u8], entry: u32) -> Named
-    ensures { λ r. ⌜ NameDemands (now (book .entry)) entry (r .part) (r .number) ⌝ }
+    ensures { λ r. ⌜ NameOfDemands (now (book .entry)) entry (r .part) (r .number) ⌝ }
 {
     let part = desk::desk_name(book, entry);
     let number = desk::desk_name_refusal(book, entry);
@@ -75,15 +79,15 @@ pub fn name_of(book: &[u8], entry: u32) -> Named
     }
 }
 
-// The replies of the calls of a walk; where the first one writes no line, it is the only call, and its reply stands three times.
-pub struct Walked {
+// The replies of the calls of a run; where the first one writes nothing, it is the only call, and its reply stands three times.
+pub struct RunReplies {
     pub one: Reply,
     pub two: Reply,
     pub three: Reply,
 }
 
 // First with prices; then next, given a copy of the flow as it was written; then next with a list of the caller's.
-pub fn walk_flows(
+pub fn run_flows(
     balances: &[u8],
     arcs: &[u8],
     flows: &mut [u8],
@@ -91,8 +95,8 @@ pub fn walk_flows(
     after: &mut [u8],
     strange: &[u8],
     last: &mut [u8],
-) -> Walked
-    ensures { λ r. ⌜ WalkFlowsDemands (now (balances .entry)) (now (arcs .entry)) (now (strange .entry)) (madeOf (r .one .code)
+) -> RunReplies
+    ensures { λ r. ⌜ RunFlowsDemands (now (balances .entry)) (now (arcs .entry)) (now (strange .entry)) (madeOf (r .one .code)
         (first (lends (now (flows .entry)) (some (now (prices .entry)))), sees (r .one) (lends (now (flows .exit)) (some (now (prices .exit)))))
         (next (take (length (now (arcs .entry)) / 20 * 4) (now (flows .exit))) (now (after .entry)), sees (r .two) (lends (now (after .exit)) none))
         (next (now (strange .entry)) (now (last .entry)), sees (r .three) (lends (now (last .exit)) none))) ⌝ }
@@ -100,7 +104,7 @@ pub fn walk_flows(
     let one = desk::desk_network_first_priced(balances, arcs, flows, prices);
     let code = one.code;
     if code != 0 {
-        return Walked {
+        return RunReplies {
             one: one,
             two: one,
             three: one,
@@ -109,7 +113,7 @@ pub fn walk_flows(
     let n = arcs.len() / 20 * 4;
     let two = desk::desk_network_next(balances, arcs, &flows[..n], after);
     let three = desk::desk_network_next(balances, arcs, strange, last);
-    Walked {
+    RunReplies {
         one: one,
         two: two,
         three: three,
@@ -117,14 +121,14 @@ pub fn walk_flows(
 }
 
 // First; then next, given the list that it wrote to; then next with a list of the caller's.
-pub fn walk_ways(
+pub fn run_ways(
     book: &[u8],
     way: &mut [u8],
     after: &mut [u8],
     strange: &[u8],
     last: &mut [u8],
-) -> Walked
-    ensures { λ r. ⌜ WalkWaysDemands (now (book .entry)) (now (way .entry)) (now (strange .entry)) (madeOf (r .one .code)
+) -> RunReplies
+    ensures { λ r. ⌜ RunWaysDemands (now (book .entry)) (now (way .entry)) (now (strange .entry)) (madeOf (r .one .code)
         (first (now (way .entry)), sees (r .one) (now (way .exit)))
         (next (now (way .exit)) (now (after .entry)), sees (r .two) (now (after .exit)))
         (next (now (strange .entry)) (now (last .entry)), sees (r .three) (now (last .exit)))) ⌝ }
@@ -132,7 +136,7 @@ pub fn walk_ways(
     let one = desk::desk_first(book, way);
     let code = one.code;
     if code != 0 {
-        return Walked {
+        return RunReplies {
             one: one,
             two: one,
             three: one,
@@ -140,7 +144,7 @@ pub fn walk_ways(
     }
     let two = desk::desk_next(book, way, after);
     let three = desk::desk_next(book, strange, last);
-    Walked {
+    RunReplies {
         one: one,
         two: two,
         three: three,

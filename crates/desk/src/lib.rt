@@ -1,16 +1,16 @@
 // What C calls. Each entry hands the call on, and ensures what the function that takes it ensures.
-ghost use Rattle.network_calls.specs.NetworkEntries.{NetworkFirst, NetworkFirstPriced, NetworkNext, NetworkCount};
-ghost use Rattle.book_calls.specs.BookEntries.{BookFirst, BookNext, BookCount};
+ghost use Rattle.call_network.specs.NetworkEntries.{NetworkFirst, NetworkFirstPriced, NetworkNext, NetworkCount};
+ghost use Rattle.call_book.specs.BookEntries.{BookFirst, BookNext, BookCount};
 ghost use Rattle.book_names.specs.BookNames.{BookName, BookNameRefusal};
-ghost use Rattle.book_listing.specs.Listing.{BookListing};
+ghost use Rattle.call_listing.specs.Listing.{BookListing};
 use book_names::Span;
-use calls::Reply;
+use call_reply::Reply;
 
 #[no_mangle]
 pub extern "C" fn desk_network_first(balances: &[u8], arcs: &[u8], flows: &mut [u8]) -> Reply
     ensures { λ r. ⌜ NetworkFirst (now (balances .entry)) (now (arcs .entry)) (now (flows .entry)) r (now (flows .exit)) ⌝ }
 {
-    network_calls::first(balances, arcs, flows)
+    call_network::first(balances, arcs, flows)
 }
 
 #[no_mangle]
@@ -20,9 +20,10 @@ pub extern "C" fn desk_network_first_priced(
     flows: &mut [u8],
     prices: &mut [u8],
 ) -> Reply
-    ensures { λ r. ⌜ NetworkFirstPriced (now (balances .entry)) (now (arcs .entry)) (now (flows .entry)) (now (prices .entry)) r (now (flows .exit)) (now (prices .exit)) ⌝ }
+    ensures { λ r. ⌜ NetworkFirstPriced (now (balances .entry)) (now (arcs .entry)) (now (flows .entry)) (now (prices .entry)) r
+        (now (flows .exit)) (now (prices .exit)) ⌝ }
 {
-    network_calls::first_priced(balances, arcs, flows, prices)
+    call_network::first_priced(balances, arcs, flows, prices)
 }
 
 #[no_mangle]
@@ -34,42 +35,42 @@ pub extern "C" fn desk_network_next(
 ) -> Reply
     ensures { λ r. ⌜ NetworkNext (now (balances .entry)) (now (arcs .entry)) (now (given .entry)) (now (flows .entry)) r (now (flows .exit)) ⌝ }
 {
-    network_calls::next(balances, arcs, given, flows)
+    call_network::next(balances, arcs, given, flows)
 }
 
 #[no_mangle]
 pub extern "C" fn desk_network_count(balances: &[u8], arcs: &[u8], cap: u16) -> Reply
     ensures { λ r. ⌜ NetworkCount (now (balances .entry)) (now (arcs .entry)) cap r ⌝ }
 {
-    network_calls::count(balances, arcs, cap)
+    call_network::count(balances, arcs, cap)
 }
 
 #[no_mangle]
 pub extern "C" fn desk_first(book: &[u8], way: &mut [u8]) -> Reply
     ensures { λ r. ⌜ BookFirst (now (book .entry)) (now (way .entry)) r (now (way .exit)) ⌝ }
 {
-    book_calls::first(book, way)
+    call_book::first(book, way)
 }
 
 #[no_mangle]
 pub extern "C" fn desk_next(book: &[u8], given: &[u8], way: &mut [u8]) -> Reply
     ensures { λ r. ⌜ BookNext (now (book .entry)) (now (given .entry)) (now (way .entry)) r (now (way .exit)) ⌝ }
 {
-    book_calls::next(book, given, way)
+    call_book::next(book, given, way)
 }
 
 #[no_mangle]
 pub extern "C" fn desk_count(book: &[u8], cap: u16) -> Reply
     ensures { λ r. ⌜ BookCount (now (book .entry)) cap r ⌝ }
 {
-    book_calls::count(book, cap)
+    call_book::count(book, cap)
 }
 
 #[no_mangle]
 pub extern "C" fn desk_listing(book: &[u8], text: &mut [u8]) -> Reply
     ensures { λ r. ⌜ BookListing (now (book .entry)) (now (text .entry)) r (now (text .exit)) ⌝ }
 {
-    book_listing::list(book, text)
+    call_listing::list(book, text)
 }
 
 #[no_mangle]

@@ -9,12 +9,11 @@ use lib.Seq.{getD-set-same, getD-set-other}
 use lib.IntN.{ℤ, pos, negℤ, _+ℤ_, _-ℤ_}
 use mir.Syntax.{w64}
 use mir.Val.{SFits}
-use Rattle.laws.specs.Divergence.{at, at-same, at-other, div}
+use Rattle.laws.specs.Divergence.{at, at-same, at-other, at-neg, div}
 use Rattle.laws.specs.Linear.{lin, given, given4}
 use Rattle.laws.specs.Range.{Bounded, bounded-add, bounded-neg, bounded-zero, bounded-more, bounded-fits}
 use Rattle.laws.specs.Sum.{sum}
-use Rattle.network.specs.Network.{on}
-use Rattle.certificates.specs.Push.{at-neg}
+use Rattle.net_model.specs.Network.{Net, nodes, arcs, tail, head, balance, on}
 use Rattle.flow_test.specs.Excess.{SmallNumbers, Excesses}
 
 at-bounded : (u v B : ℕ) (x : ℤ) → Bounded B x → Bounded B (at u v x)
@@ -38,71 +37,71 @@ set-at l i v y h = go (ℕ-discrete i v)
     go (no q) = getD-set-other l i v (getD l i (pos 0) +ℤ y) (pos 0) (λ p. q (sym p)) ∙ none (getD l v (pos 0)) (at i v y) (at-other q y)
 
 -- ---- the excess of each node, after a arcs
-module _ (b : List ℤ) (t h f : List ℕ) where
+module _ (N : Net) (f : List ℕ) where
   pub record ExcessTurn (a : ℕ) (l : List ℤ) : Type 0 where
-    pub len : length l ≡ length b
-    pub is : (v : ℕ) → v < length b → getD l v (pos 0) ≡ getD b v (pos 0) -ℤ div a (λ i. getD t i 0) (λ i. getD h i 0) (on f) v
+    pub len : length l ≡ nodes N
+    pub is : (v : ℕ) → v < nodes N → getD l v (pos 0) ≡ balance N v -ℤ div a (tail N) (head N) (on f) v
     pub small : (v : ℕ) → Bounded (1000000000 + a * 2000000) (getD l v (pos 0))
 
-  pub turn-start : SmallNumbers b t h f → ExcessTurn 0 b
-  turn-start s = record { len = refl; is = λ v k. none (getD b v (pos 0)); small = λ v. bounded-more (omega arith) (s .balance-small v) }
+  pub turn-start : SmallNumbers N f → ExcessTurn 0 (N .balances)
+  turn-start s = record { len = refl; is = λ v k. none (balance N v); small = λ v. bounded-more (omega arith) (s .balances .balance-small v) }
     where
       none : (x : ℤ) → x ≡ x -ℤ (pos 0 -ℤ pos 0)
       none x = simp lin (omega arith)
 
-  module _ (s : SmallNumbers b t h f) (a : ℕ) (k : a < length t) (l : List ℤ) (T : ExcessTurn a l) where
+  module _ (s : SmallNumbers N f) (a : ℕ) (k : a < arcs N) (l : List ℤ) (T : ExcessTurn a l) where
     abbrev first : List ℤ
-    first = set l (getD t a 0) (getD l (getD t a 0) (pos 0) +ℤ negℤ (on f a))
+    first = set l (tail N a) (getD l (tail N a) (pos 0) +ℤ negℤ (on f a))
 
     abbrev second : List ℤ
-    second = set first (getD h a 0) (getD first (getD h a 0) (pos 0) +ℤ on f a)
+    second = set first (head N a) (getD first (head N a) (pos 0) +ℤ on f a)
 
-    t-in : getD t a 0 < length l
-    t-in = omega (arith, T .len, s .tail-in a k)
+    t-in : tail N a < length l
+    t-in = omega (arith, T .len, s .balances .tail-node a k)
 
-    h-in : getD h a 0 < length first
-    h-in = omega (arith, length-set l (getD t a 0) (getD l (getD t a 0) (pos 0) +ℤ negℤ (on f a)), T .len, s .head-in a k)
+    h-in : head N a < length first
+    h-in = omega (arith, length-set l (tail N a) (getD l (tail N a) (pos 0) +ℤ negℤ (on f a)), T .len, s .balances .head-node a k)
 
     x-small : Bounded 1000000 (on f a)
     x-small = record { up = s .flow-small a k; down = omega arith }
 
     first-small : (v : ℕ) → Bounded (1000000000 + a * 2000000 + 1000000) (getD first v (pos 0))
-    first-small v = rw (set-at l (getD t a 0) v (negℤ (on f a)) t-in) (bounded-add (T .small v) (at-bounded (getD t a 0) v 1000000 (negℤ (on f a)) (bounded-neg x-small)))
+    first-small v = rw (set-at l (tail N a) v (negℤ (on f a)) t-in) (bounded-add (T .small v) (at-bounded (tail N a) v 1000000 (negℤ (on f a)) (bounded-neg x-small)))
 
-    fits-first : (getD t a 0 < length l) × SFits w64 (getD l (getD t a 0) (pos 0) +ℤ negℤ (on f a))
-    fits-first = (t-in, bounded-fits w64 (1000000000 + a * 2000000 + 1000000) (getD l (getD t a 0) (pos 0) +ℤ negℤ (on f a)) (bounded-add (T .small (getD t a 0)) (bounded-neg x-small)) (omega (arith, s .few)))
+    fits-first : (tail N a < length l) × SFits w64 (getD l (tail N a) (pos 0) +ℤ negℤ (on f a))
+    fits-first = (t-in, bounded-fits w64 (1000000000 + a * 2000000 + 1000000) (getD l (tail N a) (pos 0) +ℤ negℤ (on f a)) (bounded-add (T .small (tail N a)) (bounded-neg x-small)) (omega (arith, s .ends .few)))
 
-    fits-second : (getD h a 0 < length first) × SFits w64 (getD first (getD h a 0) (pos 0) +ℤ on f a)
-    fits-second = (h-in, bounded-fits w64 (1000000000 + a * 2000000 + 1000000 + 1000000) (getD first (getD h a 0) (pos 0) +ℤ on f a) (bounded-add (first-small (getD h a 0)) x-small) (omega (arith, s .few)))
+    fits-second : (head N a < length first) × SFits w64 (getD first (head N a) (pos 0) +ℤ on f a)
+    fits-second = (h-in, bounded-fits w64 (1000000000 + a * 2000000 + 1000000 + 1000000) (getD first (head N a) (pos 0) +ℤ on f a) (bounded-add (first-small (head N a)) x-small) (omega (arith, s .ends .few)))
 
     pub turn-step : ExcessTurn (suc a) second
     turn-step = record {
-      len = length-set first (getD h a 0) (getD first (getD h a 0) (pos 0) +ℤ on f a) ∙ length-set l (getD t a 0) (getD l (getD t a 0) (pos 0) +ℤ negℤ (on f a)) ∙ T .len;
-      is = λ v i. chain (getD second v (pos 0)) (getD first v (pos 0)) (getD l v (pos 0)) (getD b v (pos 0)) (sum a (λ i. at (getD t i 0) v (on f i))) (sum a (λ i. at (getD h i 0) v (on f i))) (at (getD t a 0) v (on f a)) (at (getD h a 0) v (on f a)) (at (getD t a 0) v (negℤ (on f a)))
-          (set-at first (getD h a 0) v (on f a) h-in) (set-at l (getD t a 0) v (negℤ (on f a)) t-in) (at-neg (getD t a 0) v (on f a)) (T .is v i);
-      small = λ v. rw (set-at first (getD h a 0) v (on f a) h-in) (bounded-more (omega arith) (bounded-add (first-small v) (at-bounded (getD h a 0) v 1000000 (on f a) x-small)));
+      len = length-set first (head N a) (getD first (head N a) (pos 0) +ℤ on f a) ∙ length-set l (tail N a) (getD l (tail N a) (pos 0) +ℤ negℤ (on f a)) ∙ T .len;
+      is = λ v i. chain (getD second v (pos 0)) (getD first v (pos 0)) (getD l v (pos 0)) (balance N v) (sum a (λ i. at (tail N i) v (on f i))) (sum a (λ i. at (head N i) v (on f i))) (at (tail N a) v (on f a)) (at (head N a) v (on f a)) (at (tail N a) v (negℤ (on f a)))
+          (set-at first (head N a) v (on f a) h-in) (set-at l (tail N a) v (negℤ (on f a)) t-in) (at-neg (tail N a) v (on f a)) (T .is v i);
+      small = λ v. rw (set-at first (head N a) v (on f a) h-in) (bounded-more (omega arith) (bounded-add (first-small v) (at-bounded (head N a) v 1000000 (on f a) x-small)));
     }
       where
         chain : (z y x b p q u w n : ℤ) → z ≡ y +ℤ w → y ≡ x +ℤ n → n ≡ negℤ u → x ≡ b -ℤ (p -ℤ q) → z ≡ b -ℤ ((p +ℤ u) -ℤ (q +ℤ w))
         chain z y x b p q u w n c d e g = given4 c d e g (simp lin (omega arith))
 
-  pub turn-done : SmallNumbers b t h f → (a : ℕ) (l : List ℤ) → a ≡ length t → ExcessTurn a l → Excesses b t h f l
+  pub turn-done : SmallNumbers N f → (a : ℕ) (l : List ℤ) → a ≡ arcs N → ExcessTurn a l → Excesses N f l
   turn-done s a l e T = record {
     len = T .len;
-    is = λ v i. T .is v i ∙ ap (λ m. getD b v (pos 0) -ℤ div m (λ i. getD t i 0) (λ i. getD h i 0) (on f) v) e;
-    small = λ v. bounded-more (omega (arith, s .few)) (T .small v);
+    is = λ v i. T .is v i ∙ ap (λ m. balance N v -ℤ div m (tail N) (head N) (on f) v) e;
+    small = λ v. bounded-more (omega (arith, s .ends .few)) (T .small v);
   }
 
-module _ (b : List ℤ) (t h f : List ℕ) (s : SmallNumbers b t h f) (a : ℕ) (k : a < length t) (l : List ℤ) (T : ExcessTurn b t h f a l) (x : ℤ) (x-is : x ≡ negℤ (on f a)) where
-  pub asks-first : (getD t a 0 < length l) × SFits w64 (getD l (getD t a 0) (pos 0) +ℤ x)
-  asks-first = rw x-is (fits-first b t h f s a k l T)
+module _ (N : Net) (f : List ℕ) (s : SmallNumbers N f) (a : ℕ) (k : a < arcs N) (l : List ℤ) (T : ExcessTurn N f a l) (x : ℤ) (x-is : x ≡ negℤ (on f a)) where
+  pub asks-first : (tail N a < length l) × SFits w64 (getD l (tail N a) (pos 0) +ℤ x)
+  asks-first = rw x-is (fits-first N f s a k l T)
 
-  module _ (l1 : List ℤ) (e1 : l1 ≡ set l (getD t a 0) (getD l (getD t a 0) (pos 0) +ℤ x)) (y : ℤ) (y-is : y ≡ on f a) where
-    e1′ : l1 ≡ set l (getD t a 0) (getD l (getD t a 0) (pos 0) +ℤ negℤ (on f a))
-    e1′ = e1 ∙ ap (λ z. set l (getD t a 0) (getD l (getD t a 0) (pos 0) +ℤ z)) x-is
+  module _ (l1 : List ℤ) (e1 : l1 ≡ set l (tail N a) (getD l (tail N a) (pos 0) +ℤ x)) (y : ℤ) (y-is : y ≡ on f a) where
+    e1′ : l1 ≡ set l (tail N a) (getD l (tail N a) (pos 0) +ℤ negℤ (on f a))
+    e1′ = e1 ∙ ap (λ z. set l (tail N a) (getD l (tail N a) (pos 0) +ℤ z)) x-is
 
-    pub asks-second : (getD h a 0 < length l1) × SFits w64 (getD l1 (getD h a 0) (pos 0) +ℤ y)
-    asks-second = rw (y-is, e1′) (fits-second b t h f s a k l T)
+    pub asks-second : (head N a < length l1) × SFits w64 (getD l1 (head N a) (pos 0) +ℤ y)
+    asks-second = rw (y-is, e1′) (fits-second N f s a k l T)
 
-    pub both-done : (l2 : List ℤ) → l2 ≡ set l1 (getD h a 0) (getD l1 (getD h a 0) (pos 0) +ℤ y) → ExcessTurn b t h f (suc a) l2
-    both-done l2 e2 = rw (e2, y-is, e1′) (turn-step b t h f s a k l T)
+    pub both-done : (l2 : List ℤ) → l2 ≡ set l1 (head N a) (getD l1 (head N a) (pos 0) +ℤ y) → ExcessTurn N f (suc a) l2
+    both-done l2 e2 = rw (e2, y-is, e1′) (turn-step N f s a k l T)

@@ -1,3 +1,4 @@
 pub mod Widths
 mod Excess
-mod IsFlow
+pub mod IsFlow
+pub mod Accepted

@@ -1,31 +1,34 @@
 -- The test whether a list is a flow: what it asks, and what it answers.
 use mathlib.Core.Path.{_≡_}
-use mathlib.Core.List.{List}
+use mathlib.Core.List.{List, []}
 use mathlib.Core.Bool.{Bool, true, false}
 use Prim.Native.Nat.{ℕ, _≤_, _<_}
 use lib.ListN.{length, getD}
-use lib.IntN.{ℤ, pos}
-use Rattle.laws.specs.Range.{Bounded}
-use Rattle.network.specs.Network.{IsFlow}
-use Rattle.certificates.specs.Graph.{graph, netWith}
-use Rattle.certificates.specs.Ready.{SmallBounds}
+use Rattle.net_model.specs.Network.{Net, nodes, arcs, low, up, netOut, balance}
+use Rattle.net_theory.specs.Graph.{netWith}
+use Rattle.net_theory.specs.Limits.{SmallEnds, SmallBounds, SmallBalances}
 
-pub record Given (b : List ℤ) (t h l u : List ℕ) (f : List ℕ) : Type 0 where
-  pub small : SmallBounds (graph t h l u)
-  pub heads-len : length h ≡ length t
-  pub flow-len : length f ≡ length t
-  pub ordered : (a : ℕ) → a < length t → getD l a 0 ≤ getD u a 0
-  pub nodes : length b ≤ 64
-  pub tail-in : (a : ℕ) → a < length t → getD t a 0 < length b
-  pub head-in : (a : ℕ) → a < length t → getD h a 0 < length b
-  pub balance-small : (v : ℕ) → Bounded 1000000000 (getD b v (pos 0))
+-- N without its costs, which have no part in the test
+abbrev pub uncosted : Net → Net
+uncosted N = netWith (N .balances) (N .tails) (N .heads) (N .lows) (N .ups) []
+
+-- one number for each arc of a network whose numbers are small, and no lower bound above the upper one
+pub record Testable (N : Net) (f : List ℕ) : Type 0 where
+  pub ends : SmallEnds N
+  pub bounds : SmallBounds N
+  pub balances : SmallBalances N
+  pub ordered : (a : ℕ) → a < arcs N → low N a ≤ up N a
+  pub flow-len : length f ≡ arcs N
 
 -- the answer to whether P
 abbrev pub Decides : Type 0 → Bool → Type 0
 Decides P true = P
 Decides P false = ¬ P
 
--- whatever the costs: f is a flow, or it is none
-pub record IsFlowTest (b : List ℤ) (t h l u : List ℕ) (f : List ℕ) (r : Bool) : Type 0 where
-  pub yes : r ≡ true → (c : List ℤ) → length c ≡ length t → IsFlow (netWith b t h l u c) f
-  pub no : r ≡ false → (c : List ℤ) → length c ≡ length t → ¬ IsFlow (netWith b t h l u c) f
+-- each number is within its bounds
+abbrev pub WithinBounds : List ℕ → List ℕ → List ℕ → Type 0
+WithinBounds l u f = (a : ℕ) → a < length f → (getD l a 0 ≤ getD f a 0) × (getD f a 0 ≤ getD u a 0)
+
+-- the flow out less the flow in is the balance at every node
+abbrev pub IsBalanced : Net → List ℕ → Type 0
+IsBalanced N f = (v : ℕ) → v < nodes N → netOut N f v ≡ balance N v

@@ -1,15 +1,15 @@
 // The excess of each node, and the test whether a list is a flow.
 ghost use mathlib.Core.Path.{_≡_};
-ghost use Prim.Native.Nat.{ℕ, _≤_, _<_};
+ghost use mathlib.Core.List.{[]};
+ghost use Prim.Native.Nat.{ℕ, _<_};
 ghost use lib.ListN.{length, getD, set};
 ghost use lib.IntN.{pos, negℤ, _+ℤ_};
 ghost use mir.Syntax.{w64};
 ghost use mir.Val.{SFits};
-ghost use Rattle.network.specs.Network.{netOut, balance};
-ghost use Rattle.certificates.specs.Push.{InBounds};
-ghost use Rattle.certificates.specs.Graph.{graph};
-ghost use Rattle.flow_test.specs.Excess.{supplies, SmallNumbers, Excesses};
-ghost use Rattle.flow_test.specs.FlowTest.{Given, Decides, IsFlowTest};
+ghost use Rattle.net_model.specs.Network.{nodes, IsFlow};
+ghost use Rattle.net_theory.specs.Graph.{netWith};
+ghost use Rattle.flow_test.specs.Excess.{SmallNumbers, Excesses};
+ghost use Rattle.flow_test.specs.FlowTest.{Testable, Decides, WithinBounds, IsBalanced};
 
 // A number of units, as a signed number.
 fn signed(x: u32) -> i64
@@ -41,7 +41,7 @@ fn copy_balances(balances: &[i32], excess: &mut [i64])
 {
     let mut i = 0;
     while i < balances.len() {
-        let x = bytes32::to_i64(balances[i]);
+        let x = bytes_read::to_i64(balances[i]);
         excess[i] = x;
         i += 1;
     }
@@ -49,8 +49,11 @@ fn copy_balances(balances: &[i32], excess: &mut [i64])
 
 // The excess of each node: its balance, less what the flow sends out of it beyond what comes in.
 pub fn excess_of(tails: &[u8], heads: &[u8], balances: &[i32], flow: &[u32], excess: &mut [i64])
-    requires { ⌜ SmallNumbers (now balances) (now tails) (now heads) (now flow) × (length (now excess) ≡ length (now balances)) ⌝ }
-    ensures { λ _. ⌜ Excesses (now (balances .entry)) (now (tails .entry)) (now (heads .entry)) (now (flow .entry)) (now (excess .exit)) ⌝ }
+    requires { let N = netWith (now balances) (now tails) (now heads) [] [] [] in
+        ⌜ SmallNumbers N (now flow) × (length (now excess) ≡ nodes N) ⌝ }
+    ensures { λ _.
+        let N = netWith (now (balances .entry)) (now (tails .entry)) (now (heads .entry)) [] [] [] in
+        ⌜ Excesses N (now (flow .entry)) (now (excess .exit)) ⌝ }
 {
     copy_balances(balances, excess);
     let mut a = 0;
@@ -67,7 +70,7 @@ pub fn excess_of(tails: &[u8], heads: &[u8], balances: &[i32], flow: &[u32], exc
 // Whether each number is within the bounds of its arc.
 fn within_bounds(lows: &[u32], ups: &[u32], flow: &[u32]) -> bool
     requires { ⌜ (length (now lows) ≡ length (now flow)) × (length (now ups) ≡ length (now flow)) ⌝ }
-    ensures { λ r. ⌜ Decides (InBounds (graph (now (flow .entry)) (now (flow .entry)) (now (lows .entry)) (now (ups .entry))) (now (flow .entry))) r ⌝ }
+    ensures { λ r. ⌜ Decides (WithinBounds (now (lows .entry)) (now (ups .entry)) (now (flow .entry))) r ⌝ }
 {
     let mut a = 0;
     while a < flow.len() {
@@ -100,8 +103,11 @@ fn all_zero(excess: &[i64]) -> bool
 
 // Whether the flow out less the flow in is the balance at every node.
 fn is_balanced(tails: &[u8], heads: &[u8], balances: &[i32], flow: &[u32]) -> bool
-    requires { ⌜ SmallNumbers (now balances) (now tails) (now heads) (now flow) × (length (now balances) ≤ 64) ⌝ }
-    ensures { λ r. ⌜ Decides ((v : ℕ) → v < length (now (balances .entry)) → netOut (supplies (now (balances .entry)) (now (tails .entry)) (now (heads .entry))) (now (flow .entry)) v ≡ balance (supplies (now (balances .entry)) (now (tails .entry)) (now (heads .entry))) v) r ⌝ }
+    requires { let N = netWith (now balances) (now tails) (now heads) [] [] [] in
+        ⌜ SmallNumbers N (now flow) ⌝ }
+    ensures { λ r.
+        let N = netWith (now (balances .entry)) (now (tails .entry)) (now (heads .entry)) [] [] [] in
+        ⌜ Decides (IsBalanced N (now (flow .entry))) r ⌝ }
 {
     let mut excess = [0i64; 64];
     let n = balances.len();
@@ -118,8 +124,11 @@ pub fn is_flow(
     balances: &[i32],
     flow: &[u32],
 ) -> bool
-    requires { ⌜ Given (now balances) (now tails) (now heads) (now lows) (now ups) (now flow) ⌝ }
-    ensures { λ r. ⌜ IsFlowTest (now (balances .entry)) (now (tails .entry)) (now (heads .entry)) (now (lows .entry)) (now (ups .entry)) (now (flow .entry)) r ⌝ }
+    requires { let N = netWith (now balances) (now tails) (now heads) (now lows) (now ups) [] in
+        ⌜ Testable N (now flow) ⌝ }
+    ensures { λ r.
+        let N = netWith (now (balances .entry)) (now (tails .entry)) (now (heads .entry)) (now (lows .entry)) (now (ups .entry)) [] in
+        ⌜ Decides (IsFlow N (now (flow .entry))) r ⌝ }
 {
     if !within_bounds(lows, ups, flow) {
         return false;

@@ -1,11 +1,11 @@
 -- The member that follows the first one that looks like g: `copy a` is how a member looks.
 use mathlib.Core.Path.{_≡_, refl, sym, ap, _∙_}
 use mathlib.Core.Logic.{inl, inr, _↔_}
-use mathlib.Core.List.{List, [], _∷_}
+use mathlib.Core.List.{List, [], _∷_, _++_, append-assoc}
 use mathlib.Core.Option.{Option, none, some}
 use Prim.Native.Nat.{ℕ, zero, suc}
 use native.Mathlib.Omega.{arith}
-use lib.ListN.{getElem?}
+use lib.ListN.{length, getElem?}
 use Rattle.laws.specs.Members.{_∈_, first?, first-at, none-some}
 
 abbrev pub afterIf : {A P : Type 0} → Dec P → List A → Option A → Option A
@@ -42,6 +42,23 @@ module _ {A G : Type 0} (d : Discrete G) (copy : A → G) where
   after-at (b ∷ l) apart i a g h q =
       at-step b l g (d (copy b) g) i a (λ e. sym (apart 0 i b a refl h (e ∙ sym q))) h q
       (λ j k. after-at l (λ i j v u p q e. (let z : suc i ≡ suc j = apart (suc i) (suc j) v u p q e in omega arith)) j a g k q)
+
+-- the member between pre and rest, and the one after it
+at-seam : {A : Type 0} (pre : List A) (v : A) (rest : List A) → getElem? (pre ++ (v ∷ rest)) (length pre) ≡ some v
+at-seam [] v rest = refl
+at-seam (a ∷ pre) v rest = at-seam pre v rest
+
+past-seam : {A : Type 0} (pre : List A) (v : A) (rest : List A) → getElem? (pre ++ (v ∷ rest)) (suc (length pre)) ≡ first? rest
+past-seam [] v rest = rw (first-at rest)
+past-seam (a ∷ pre) v rest = past-seam pre v rest
+
+pub after-in : {A G : Type 0} (d : Discrete G) (copy : A → G) (l : List A) → Apart copy l → (pre rest : List A) (v : A) → pre ++ (v ∷ rest) ≡ l
+    → after d copy (copy v) l ≡ first? rest
+after-in d copy l apart pre rest v e =
+    after-at d copy l apart (length pre) v (copy v) (rw (← e) (at-seam pre v rest)) refl ∙ rw (← e) (past-seam pre v rest)
+
+pub one-on : {A : Type 0} (l pre rest : List A) (v : A) → pre ++ (v ∷ rest) ≡ l → (pre ++ (v ∷ [])) ++ rest ≡ l
+one-on l pre rest v e = rw append-assoc e
 
 -- two looks that single out the same members
 after-if-same : {A P Q : Type 0} (t : Dec P) (s : Dec Q) (l : List A) (x y : Option A) → P ↔ Q → x ≡ y → afterIf t l x ≡ afterIf s l y

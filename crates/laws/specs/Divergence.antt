@@ -5,7 +5,7 @@ use Prim.Native.Nat.{ℕ, _<_}
 use native.Mathlib.Omega.{arith}
 use native.Mathlib.Decide.{ℕ-discrete}
 use lib.Signed.{_≤ℤ_}
-use lib.IntN.{ℤ, pos, _-ℤ_, _*ℤ_}
+use lib.IntN.{ℤ, pos, negℤ, _-ℤ_, _*ℤ_}
 use Rattle.laws.specs.Linear.{lin, ring, given, given2}
 use Rattle.laws.specs.Sum.{sum, sum-cong, sum-scale, sum-swap, sum-only, sum-sub, sum-mono}
 
@@ -33,6 +33,20 @@ at-other {u} {v} e x = go (ℕ-discrete u v)
     go (yes q) = absurd (e q)
     go (no n) = refl
 
+pub at-sub : (u v : ℕ) (x y : ℤ) → at u v (x -ℤ y) ≡ at u v x -ℤ at u v y
+at-sub u v x y = go (ℕ-discrete u v)
+  where
+    go : Dec (u ≡ v) → at u v (x -ℤ y) ≡ at u v x -ℤ at u v y
+    go (yes q) = rw (at-same q (x -ℤ y), at-same q x, at-same q y)
+    go (no q) = rw (at-other q (x -ℤ y), at-other q x, at-other q y)
+
+pub at-neg : (u v : ℕ) (x : ℤ) → at u v (negℤ x) ≡ negℤ (at u v x)
+at-neg u v x = go (ℕ-discrete u v)
+  where
+    go : Dec (u ≡ v) → at u v (negℤ x) ≡ negℤ (at u v x)
+    go (yes q) = rw (at-same q (negℤ x), at-same q x)
+    go (no q) = rw (at-other q (negℤ x), at-other q x)
+
 -- what the arcs whose end e is v carry
 abbrev pub ends : ℕ → (ℕ → ℕ) → (ℕ → ℤ) → ℕ → ℤ
 ends m e h v = sum m (λ a. at (e a) v (h a))
@@ -59,11 +73,8 @@ telescope n m tl hd h π bt bh =
 
 -- the divergence of a difference
 pub ends-sub : (m : ℕ) (e : ℕ → ℕ) (f g : ℕ → ℤ) (v : ℕ) → ends m e (λ a. f a -ℤ g a) v ≡ ends m e f v -ℤ ends m e g v
-ends-sub m e f g v = sum-cong m _ (λ a. at (e a) v (f a) -ℤ at (e a) v (g a)) (λ a _. go a (ℕ-discrete (e a) v)) ∙ sum-sub m (λ a. at (e a) v (f a)) (λ a. at (e a) v (g a))
-  where
-    go : (a : ℕ) → Dec (e a ≡ v) → at (e a) v (f a -ℤ g a) ≡ at (e a) v (f a) -ℤ at (e a) v (g a)
-    go a (yes q) = rw (at-same q (f a -ℤ g a), at-same q (f a), at-same q (g a))
-    go a (no q) = rw (at-other q (f a -ℤ g a), at-other q (f a), at-other q (g a))
+ends-sub m e f g v =
+    sum-cong m _ (λ a. at (e a) v (f a) -ℤ at (e a) v (g a)) (λ a _. at-sub (e a) v (f a) (g a)) ∙ sum-sub m (λ a. at (e a) v (f a)) (λ a. at (e a) v (g a))
 
 pub div-sub : (m : ℕ) (tl hd : ℕ → ℕ) (f g : ℕ → ℤ) (v : ℕ) → div m tl hd (λ a. f a -ℤ g a) v ≡ div m tl hd f v -ℤ div m tl hd g v
 div-sub m tl hd f g v = given (ends-sub m tl f g v) (given (ends-sub m hd f g v) (simp lin (omega arith)))

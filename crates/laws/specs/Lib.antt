@@ -21,7 +21,8 @@ pub mod Snoc
 pub mod Tabulate
 pub mod Store
 pub mod Padded
-pub mod Run
+pub mod Rules
 pub mod Seen
+pub mod Run
 pub mod Count
 pub mod Listing

@@ -1,85 +1,97 @@
--- `first`, then `next` of each line as it was seen, until a call shows none: the list, once, in order, and then the word.
+-- `first`, then `next` of each item as it was seen, until a call shows none: the full list, once, in order, and then the word.
 use mathlib.Core.Path.{_≡_, refl, sym, ap, subst, _∙_}
 use mathlib.Core.Logic.{inl}
 use mathlib.Core.List.{List, [], _∷_, _++_, map}
-use mathlib.Core.Option.{Option, none}
-use Prim.Native.Nat.{ℕ}
+use native.Mathlib.Omega.{arith}
 use Rattle.laws.specs.Members.{_∈_, Every, first?, append-right}
-use Rattle.laws.specs.After.{after, Apart}
-use Rattle.laws.specs.Run.{Call, first, next, Answer, nothing, end, line, shown, respond, Kept}
-use Rattle.laws.specs.Count.{after-in, one-on}
+use Rattle.laws.specs.After.{after, after-in, one-on}
+use Rattle.laws.specs.Rules.{Call, first, next, Rules}
+use Rattle.laws.specs.Seen.{Reading, nothing, end, item, Seen, Shows}
+use Rattle.laws.specs.Run.{shown, Answers, Run, Kept, Readable}
 
--- the word after the last line
-abbrev pub lastWord : {Line : Type 0} → List Line → Answer Line
+-- the word after the last item
+abbrev pub lastWord : {Item : Type 0} → List Item → Reading Item
 lastWord [] = nothing
 lastWord (v ∷ l) = end
 
--- number: what is seen of the answer's number, 0 with a line. copied: the line as a caller copies it from what he sees.
-module _ {F G N Seen : Type 0} (number : Seen → ℕ) (copied : Seen → G) where
-  -- what follows a call after which s is seen: with a line, `next` of its copy, and so on; with none, no further call
-  abbrev pub Follows : Seen → List (Call F G N × Seen) → Type 0
-  Follows s [] = ¬ (number s ≡ 0)
+module _ {Item F G N Lent : Type 0} (R : Rules Item F G N Lent) where
+  -- what follows a call after which s is seen: with an item, `next` of its copy, and so on; with none, no further call
+  abbrev pub Follows : Seen Lent → Run R → Type 0
+  Follows s [] = ¬ (s .number ≡ 0)
   Follows s ((first a, t) ∷ r) = ⊥
-  Follows s ((next g b, t) ∷ r) = (number s ≡ 0) × (g ≡ copied s) × Follows t r
+  Follows s ((next g b, t) ∷ r) = (s .number ≡ 0) × (g ≡ R .taken (s .lists)) × Follows t r
 
-  -- "first", then "next" until there is no line
-  abbrev pub FirstThenNext : List (Call F G N × Seen) → Type 0
+  abbrev pub FirstThenNext : Run R → Type 0
   FirstThenNext [] = ⊥
   FirstThenNext ((first a, s) ∷ r) = Follows s r
   FirstThenNext ((next g b, s) ∷ r) = ⊥
 
--- each call of a run shows its answer, and there are as many of both
-abbrev pub Shows : {C S A : Type 0} → (C → A → S → Type 0) → List (C × S) → List A → Type 0
-Shows Right [] [] = Unit {0}
-Shows Right [] (a ∷ answers) = ⊥
-Shows Right (e ∷ r) [] = ⊥
-Shows Right (e ∷ r) (a ∷ answers) = Right (e .0) a (e .1) × Shows Right r answers
+  -- first, then next until there is no item, of an accepted book or network, each call with room for what it writes
+  pub record CompleteRun (r : Run R) : Type 0 where
+    pub asks : FirstThenNext r
+    pub admitted : Every (λ e. R .Admits (e .0)) r
 
-module _ {Line F G N Seen : Type 0} (same : Discrete G) (copy : Line → G) (L : List Line) (refuses : Call F G N → Option ℕ)
-    (Right : Call F G N → Answer Line → Seen → Type 0) (number : Seen → ℕ) (copied : Seen → G) (Fits : Call F G N → Type 0)
-    (apart : Apart copy L)
-    (no-word : (c : Call F G N) (s : Seen) → number s ≡ 0 → ¬ Right c nothing s)
-    (no-end : (c : Call F G N) (s : Seen) → number s ≡ 0 → ¬ Right c end s)
-    (wrote : (c : Call F G N) (s : Seen) (v : Line) → v ∈ L → Right c (line v) s → (number s ≡ 0) × (copied s ≡ copy v))
-    (starts : (a : F) → Fits (first a) → refuses (first a) ≡ none)
-    (goes : (v : Line) (b : N) → v ∈ L → Fits (next (copy v) b) → refuses (next (copy v) b) ≡ none) where
+  -- each call of a run shows its reading, and there are as many of both
+  abbrev pub ShowsEach : Run R → List (Reading Item) → Type 0
+  ShowsEach [] [] = Unit {0}
+  ShowsEach [] (a ∷ readings) = ⊥
+  ShowsEach (e ∷ r) [] = ⊥
+  ShowsEach (e ∷ r) (a ∷ readings) = Shows R (e .0) a (e .1) × ShowsEach r readings
+
+  -- the full list, once, in order, and then "end" ("none" without an item)
+  abbrev pub ShowsFullList : Run R → Type 0
+  ShowsFullList r = ShowsEach r (map item (R .full-list) ++ (lastWord (R .full-list) ∷ []))
+
+module _ {Item F G N Lent : Type 0} (R : Rules Item F G N Lent) (readable : Readable R) where
   -- after the last word there is no call
-  stops : (c : Call F G N) (s : Seen) (r : List (Call F G N × Seen)) (a : Answer Line) → Right c a s → (number s ≡ 0 → ⊥) → Follows number copied s r
-      → Shows Right ((c, s) ∷ r) (a ∷ [])
+  stops : (c : Call F G N) (s : Seen Lent) (r : Run R) (a : Reading Item) → Shows R c a s → ¬ (s .number ≡ 0) → Follows R s r
+      → ShowsEach R ((c, s) ∷ r) (a ∷ [])
   stops c s [] a h n f = (h, tt)
   stops c s ((first b, t) ∷ r) a h n f = absurd f
   stops c s ((next g b, t) ∷ r) a h n f = absurd (n (f .0))
 
-  -- the call after one that shows a line
-  after-line : (pre rest : List Line) (v : Line) → pre ++ (v ∷ rest) ≡ L → (c : Call F G N) (s : Seen) → Right c (line v) s → (g : G) (b : N) (t : Seen)
-      → Right (next g b) (respond same copy L refuses (next g b)) t → Fits (next g b) → g ≡ copied s → Right (next g b) (shown (first? rest) end) t
-  after-line pre rest v e c s h g b t k fit f =
-      let m : v ∈ L = rw (← e) (append-right pre (v ∷ rest) v (inl refl)) in
-      let q : g ≡ copy v = f ∙ wrote c s v m h .1 in
-      let free : refuses (next g b) ≡ none = subst (λ x. refuses (next x b) ≡ none) (sym q) (goes v b m (subst (λ x. Fits (next x b)) q fit)) in
-      let o : after same copy g L ≡ first? rest = ap (λ x. after same copy x L) q ∙ after-in same copy L apart pre rest v e in
-      subst (λ o. Right (next g b) (shown o end) t) o (rw free at k)
+  -- after a call that shows the item v, which stands between pre and rest
+  module _ (pre rest : List Item) (v : Item) (e : pre ++ (v ∷ rest) ≡ R .full-list) (c : Call F G N) (s : Seen Lent) (fair : R .question c ≡ 0)
+      (h : Shows R c (item v) s) (g : G) (b : N) (asks : g ≡ R .taken (s .lists)) where
+    member : v ∈ R .full-list
+    member = rw (← e) (append-right pre (v ∷ rest) v (inl refl))
 
-  -- the calls after one that shows a line
-  from : (pre rest : List Line) (v : Line) → pre ++ (v ∷ rest) ≡ L → (c : Call F G N) (s : Seen) → Right c (line v) s → (r : List (Call F G N × Seen))
-      → Kept same copy L refuses Right r → Every (λ e. Fits (e .0)) r → Follows number copied s r → Shows Right r (map line rest ++ (end ∷ []))
-  from pre rest v e c s h [] k fit f = absurd (f (wrote c s v (rw (← e) (append-right pre (v ∷ rest) v (inl refl))) h .0))
-  from pre rest v e c s h ((first b, t) ∷ r) k fit f = absurd f
-  from pre [] v e c s h ((next g b, t) ∷ r) k fit f =
-      let w = after-line pre [] v e c s h g b t (k .0) (fit .0) (f .1) in
-      stops (next g b) t r end w (λ z. no-end (next g b) t z w) (f .2)
-  from pre (u ∷ rest) v e c s h ((next g b, t) ∷ r) k fit f =
-      let w = after-line pre (u ∷ rest) v e c s h g b t (k .0) (fit .0) (f .1) in
-      (w, from (pre ++ (v ∷ [])) rest u (one-on same copy L apart pre (u ∷ rest) v e) (next g b) t w r (k .1) (fit .1) (f .2))
+    copied : g ≡ R .copy v
+    copied = asks ∙ readable .takes c v (s .lists) fair member (h .lists-are)
 
-  begun : (l : List Line) → l ≡ L → (a : F) (s : Seen) → Right (first a) (shown (first? l) nothing) s → (r : List (Call F G N × Seen))
-      → Kept same copy L refuses Right r → Every (λ e. Fits (e .0)) r → Follows number copied s r → Shows Right ((first a, s) ∷ r) (map line l ++ (lastWord l ∷ []))
-  begun [] e a s h r k fit f = stops (first a) s r nothing h (λ z. no-word (first a) s z h) f
-  begun (v ∷ l) e a s h r k fit f = (h, from [] l v e (first a) s h r k fit f)
+    next-fair : R .Admits (next g b) → R .question (next g b) ≡ 0
+    next-fair k = subst (λ x. R .question (next x b) ≡ 0) (sym copied) (readable .goes-on v b member (subst (λ x. R .Admits (next x b)) copied k))
 
-  -- every such run, each call with its contract kept and room for what it writes
-  pub lists-all : (r : List (Call F G N × Seen)) → FirstThenNext number copied r → Every (λ e. Fits (e .0)) r → Kept same copy L refuses Right r
-      → Shows Right r (map line L ++ (lastWord L ∷ []))
-  lists-all [] f fit k = absurd f
-  lists-all ((next g b, s) ∷ r) f fit k = absurd f
-  lists-all ((first a, s) ∷ r) f fit k = begun L refl a s (rw (starts a (fit .0)) at (k .0)) r (k .1) (fit .1) f
+    next-shows : (t : Seen Lent) → R .Admits (next g b) → Answers R (next g b) t → Shows R (next g b) (shown (first? rest) end) t
+    next-shows t k a =
+        let apart = readable .apart c fair in
+        let o : after (R .same) (R .copy) g (R .full-list) ≡ first? rest =
+        ap (λ x. after (R .same) (R .copy) x (R .full-list)) copied ∙ after-in (R .same) (R .copy) (R .full-list) apart pre rest v e in
+        subst (λ o. Shows R (next g b) (shown o end) t) o (rw (next-fair k) at a)
+
+  -- the calls after it
+  from : (pre rest : List Item) (v : Item) → pre ++ (v ∷ rest) ≡ R .full-list → (c : Call F G N) (s : Seen Lent) → R .question c ≡ 0 → Shows R c (item v) s
+      → (r : Run R) → Kept R r → Every (λ e. R .Admits (e .0)) r → Follows R s r → ShowsEach R r (map item rest ++ (end ∷ []))
+  from pre rest v e c s fair h [] k fit f = absurd (f (h .number-is))
+  from pre rest v e c s fair h ((first b, t) ∷ r) k fit f = absurd f
+  from pre [] v e c s fair h ((next g b, t) ∷ r) k fit f =
+      let w = next-shows pre [] v e c s fair h g b (f .1) t (fit .0) (k .0) in
+      stops (next g b) t r end w (λ z. omega (arith, z, w .number-is)) (f .2)
+  from pre (u ∷ rest) v e c s fair h ((next g b, t) ∷ r) k fit f =
+      let w = next-shows pre (u ∷ rest) v e c s fair h g b (f .1) t (fit .0) (k .0) in
+      let on = one-on (R .full-list) pre (u ∷ rest) v e in
+      (w, from (pre ++ (v ∷ [])) rest u on (next g b) t (next-fair pre (u ∷ rest) v e c s fair h g b (f .1) (fit .0)) w r (k .1) (fit .1) (f .2))
+
+  begun : (l : List Item) → l ≡ R .full-list → (a : F) (s : Seen Lent) → R .question (first a) ≡ 0 → Shows R (first a) (shown (first? l) nothing) s
+      → (r : Run R) → Kept R r → Every (λ e. R .Admits (e .0)) r → Follows R s r → ShowsEach R ((first a, s) ∷ r) (map item l ++ (lastWord l ∷ []))
+  begun [] e a s fair h r k fit f = stops (first a) s r nothing h (λ z. omega (arith, z, h .number-is)) f
+  begun (v ∷ l) e a s fair h r k fit f = (h, from [] l v e (first a) s fair h r k fit f)
+
+  -- every such run, each call with its contract kept
+  lists : (r : Run R) → FirstThenNext R r → Every (λ e. R .Admits (e .0)) r → Kept R r → ShowsFullList R r
+  lists [] f fit k = absurd f
+  lists ((next g b, s) ∷ r) f fit k = absurd f
+  lists ((first a, s) ∷ r) f fit k = let fair = readable .starts a (fit .0) in begun (R .full-list) refl a s fair (rw fair at (k .0)) r (k .1) (fit .1) f
+
+  pub complete-shows-all : (r : Run R) → CompleteRun R r → Kept R r → ShowsFullList R r
+  complete-shows-all r c k = lists r (c .asks) (c .admitted) k

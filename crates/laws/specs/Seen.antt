@@ -1,8 +1,15 @@
--- What a caller sees of a call of a run: everything that document 01 has the reader answer.
+-- What the reader says of a call, and all that a caller sees of it.
 use mathlib.Core.Path.{_≡_}
 use Prim.Native.Nat.{ℕ}
 use lib.IntN.{ℤ, pos}
-use Rattle.laws.specs.Run.{Call, Answer, refused, nothing, end, line}
+use Rattle.laws.specs.Rules.{Call, Rules}
+
+-- `nothing` is the word "none"
+pub data Reading (Item : Type 0) : Type 0 where
+  refused : ℕ → Reading Item
+  nothing : Reading Item
+  end : Reading Item
+  item : Item → Reading Item
 
 -- the number of the answer, the line told with a refusal, the cost, and every lent list as the call leaves it
 pub record Seen (Lent : Type 0) : Type 0 where
@@ -11,34 +18,38 @@ pub record Seen (Lent : Type 0) : Type 0 where
   pub cost : ℤ
   pub lists : Lent
 
--- number: of each answer. Told n l: with the refusal n the line l may be told. cost: of a line.
--- lent: the lent lists of a call as they came. Wrote c v l: the lists l are those of the call c once the line v is written (with its prices, where
--- a list is lent for them).
-module _ {Line F G N Lent : Type 0} (number : Answer Line → ℕ) (Told : ℕ → ℕ → Type 0) (cost : Line → ℤ)
-    (lent : Call F G N → Lent) (Wrote : Call F G N → Line → Lent → Type 0) where
-  -- a line is told with a refusal alone
-  abbrev pub ToldWith : Answer Line → ℕ → Type 0
-  ToldWith (refused n) l = Told n l
+-- "A 'no' gives its number"; 100 is "none", 101 "end", 0 comes with an item
+abbrev pub codeOf : {Item : Type 0} → Reading Item → ℕ
+codeOf (refused n) = n
+codeOf nothing = 100
+codeOf end = 101
+codeOf (item v) = 0
+
+module _ {Item F G N Lent : Type 0} (R : Rules Item F G N Lent) where
+  -- a line of the text is told with a refusal alone
+  abbrev pub ToldWith : Reading Item → ℕ → Type 0
+  ToldWith (refused n) l = R .TellsLine n l
   ToldWith nothing l = l ≡ 0
   ToldWith end l = l ≡ 0
-  ToldWith (line v) l = l ≡ 0
+  ToldWith (item v) l = l ≡ 0
 
   -- "cost 0" with a refusal, "none" and "end"
-  abbrev pub costOf : Answer Line → ℤ
-  costOf (refused n) = pos 0
-  costOf nothing = pos 0
-  costOf end = pos 0
-  costOf (line v) = cost v
+  abbrev pub costSeen : Reading Item → ℤ
+  costSeen (refused n) = pos 0
+  costSeen nothing = pos 0
+  costSeen end = pos 0
+  costSeen (item v) = R .cost v
 
-  -- only a line is written
-  abbrev pub ListsAfter : Call F G N → Answer Line → Lent → Type 0
-  ListsAfter c (refused n) l = l ≡ lent c
-  ListsAfter c nothing l = l ≡ lent c
-  ListsAfter c end l = l ≡ lent c
-  ListsAfter c (line v) l = Wrote c v l
+  -- only an item is written
+  abbrev pub ListsAfter : Reading Item → Lent → Lent → Type 0
+  ListsAfter (refused n) l l′ = l′ ≡ l
+  ListsAfter nothing l l′ = l′ ≡ l
+  ListsAfter end l l′ = l′ ≡ l
+  ListsAfter (item v) l l′ = R .Wrote v l l′
 
-  pub record Right (c : Call F G N) (a : Answer Line) (s : Seen Lent) : Type 0 where
-    pub number-is : s .number ≡ number a
+  -- what is seen of the call c, s, is the reading a
+  pub record Shows (c : Call F G N) (a : Reading Item) (s : Seen Lent) : Type 0 where
+    pub number-is : s .number ≡ codeOf a
     pub told-is : ToldWith a (s .told)
-    pub cost-is : s .cost ≡ costOf a
-    pub lists-are : ListsAfter c a (s .lists)
+    pub cost-is : s .cost ≡ costSeen a
+    pub lists-are : ListsAfter a (R .lent c) (s .lists)

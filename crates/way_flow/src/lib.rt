@@ -4,9 +4,9 @@ ghost use mathlib.Core.Bool.{cond};
 ghost use Prim.Native.Nat.{_-_, _/_, _≤_, _<_};
 ghost use lib.Dec.{eqb};
 ghost use lib.ListN.{length, set};
-ghost use Rattle.allocation.specs.Ways.{times};
-ghost use Rattle.allocation.specs.WayFlow.{hit};
-ghost use Rattle.way_flow.specs.Arcs.{HasEnds, HasFlow, ReadsWay, FlowAt, LaysFlow};
+ghost use Rattle.way_theory.specs.Ways.{times};
+ghost use Rattle.way_theory.specs.WayFlow.{oneIfSame};
+ghost use Rattle.way_flow.specs.Arcs.{HasEnds, HasFlow, IsWayOf, FlowAt, IsFlowOf};
 
 // An arc that carries 1 from node t to node h, noted in the way: entry (h + 1) / 2 has predecessor t / 2.
 fn note(way: &mut [u32], t: u8, h: u8, x: u32)
@@ -21,7 +21,7 @@ fn note(way: &mut [u32], t: u8, h: u8, x: u32)
 // The way of which `flow` is the flow, of a book of e entries: in each entry's block of arcs, the predecessor whose arc carries 1.
 pub fn way_of(e: usize, tails: &[u8], heads: &[u8], flow: &[u32]) -> [u32; 28]
     requires { ⌜ HasFlow e (now tails) (now heads) (now flow) ⌝ }
-    ensures { λ r. ⌜ ReadsWay e (now (tails .entry)) (now (heads .entry)) (now (flow .entry)) r ⌝ }
+    ensures { λ r. ⌜ IsWayOf e (now (tails .entry)) (now (heads .entry)) (now (flow .entry)) r ⌝ }
 {
     let mut way = [0u32; 28];
     let joins = tails.len() - (2 * e + 1);
@@ -32,8 +32,8 @@ pub fn way_of(e: usize, tails: &[u8], heads: &[u8], flow: &[u32]) -> [u32; 28]
 }
 
 // 1 where the two numbers are one.
-fn hit(a: u32, b: u32) -> u32
-    ensures { λ r. ⌜ r ≡ hit a b ⌝ }
+fn one_if_same(a: u32, b: u32) -> u32
+    ensures { λ r. ⌜ r ≡ oneIfSame a b ⌝ }
 {
     if a == b { 1 } else { 0 }
 }
@@ -45,7 +45,7 @@ fn times(way: &[u32], i: u32) -> u32
 {
     let mut n = 0u32;
     for k in 0..way.len() {
-        n += hit(way[k], i);
+        n += one_if_same(way[k], i);
     }
     n
 }
@@ -72,7 +72,7 @@ fn flow_at<'a>(
     let joins = tails.len() - (2 * e + 1);
     if k < joins {
         let j = ((heads[k] - 1) / 2) as usize;
-        return hit((tails[k] / 2) as u32, way[j]);
+        return one_if_same((tails[k] / 2) as u32, way[j]);
     }
     let row = k - joins;
     if row < e {
@@ -93,7 +93,7 @@ pub fn flow_of<'a>(
     way: &'a [u32],
 ) -> [u32; 512]
     requires { ⌜ HasEnds e players (now tails) (now heads) × (length (now way) ≡ e) ⌝ }
-    ensures { λ r. ⌜ LaysFlow e players (now (tails .entry)) (now (heads .entry)) (now (way .entry)) r ⌝ }
+    ensures { λ r. ⌜ IsFlowOf e players (now (tails .entry)) (now (heads .entry)) (now (way .entry)) r ⌝ }
 {
     let mut flow = [0u32; 512];
     for k in 0..tails.len() {

@@ -12,7 +12,7 @@ fn text_buffer() -> [u8; 98304] {
 
 // The text of the book, written to standard output.
 fn print(book: &[u8], text: &mut [u8]) {
-    let n = book_listing::printed(book, text);
+    let n = call_listing::printed(book, text);
     if n <= text.len() {
         io::write_all(1, &text[..n]);
     }

@@ -3,13 +3,26 @@ use Prim.Native.Nat.{_+_}
 use native.Mathlib.Omega.{arith}
 use borrow.Author.Needs.{needs}
 use lib.ListN.{drop, getD}
-use Rattle.text.specs.Reader.{_>>=_, _>>_, give, bytes, row}
-use Rattle.book.specs.Book.{opening}
-use Rattle.text.proofs.Runs.{absent}
-use Rattle.text.proofs.Sequence.{From, begin, first, first-stops, next-right, stops}
+use Rattle.text_read.specs.Reader.{_>>=_, _>>_, give, bytes, row}
+use Rattle.book_form.specs.Book.{opening}
+use Rattle.text_read.proofs.Runs.{absent}
+use Rattle.text_read.proofs.Sequence.{From, begin, first, first-stops, next-right, stops}
 use Rattle.book_check.proofs.Form.{opening-present}
 use Rattle.book_check.proofs.read_opening.Statement.{statement}
 use Rattle.book_check.proofs.read_opening.Tie as tie
+
+-- places, seen from later ones
+abbrev start-before-else2 : tie.Else2 → tie.Start
+start-before-else2 c = c .before .before .before .before .before .before .before .before
+
+abbrev start-before-cs : tie.After-cs → tie.Start
+start-before-cs c = start-before-else2 (c .before .before .before .before .before .before)
+
+abbrev read-text-before-cs : tie.After-cs → tie.After-read-text
+read-text-before-cs c = c .before .before .before .before .before .before .before .before .before .before .before
+
+abbrev read-row-before-cs : tie.After-cs → tie.After-read-row
+read-row-before-cs c = c .before .before .before .before .before .before .before
 
 -- What is to be read after the first line, after the players, and after the fee.
 headed : (c : tie.Else1)
@@ -19,7 +32,7 @@ unfolding opening bytes _>>_
 headed c = first _ _ (begin opening _) (c .before .read-text .ensures) (c .if1 .left)
 
 played : (c : tie.Else2)
-    → let s = c .before .before .before .before .before .before .before .before .args .book .now in
+    → let s = start-before-else2 c .args .book .now in
     let n = c .before .before .before .before .before .read-text .result in
     let p = c .before .read-row .result in
     From (opening s) (row (bytes "(fee ") 1 >>= (λ cs. give (getD (drop 3 (p .numbers)) 0 0, getD cs 0 0))) s (n + p .used)
@@ -27,13 +40,15 @@ unfolding bytes
 played c = next-right _ _ (headed (c .before .before .before .before)) (c .before .read-row .ensures .right) (c .if2 .left)
 
 ended : (c : tie.After-cs)
-    → let s = c .before .before .before .before .before .before .before .before .before .before .before .before .before .before .args .book .now in
-    let n = c .before .before .before .before .before .before .before .before .before .before .before .read-text .result in
-    let p = c .before .before .before .before .before .before .before .read-row .result in
+    → let s = start-before-cs c .args .book .now in
+    let n = read-text-before-cs c .read-text .result in
+    let p = read-row-before-cs c .read-row .result in
     let f = c .before .before .before .read-row2 .result in
     From (opening s) (give (getD (drop 3 (p .numbers)) 0 0, getD (drop 3 (f .numbers)) 0 0)) s (n + p .used + f .used)
 unfolding bytes
-ended c = next-right _ _ (played (c .before .before .before .before .before .before)) (c .before .before .before .read-row2 .ensures .right) (c .before .before .if3 .left)
+ended c =
+    let else2 : tie.Else2 = search in
+    next-right _ _ (played else2) (c .before .before .before .read-row2 .ensures .right) (c .before .before .if3 .left)
 
 returns : tie.Need-returns
 unfolding opening bytes _>>_
@@ -49,7 +64,8 @@ returns-3 c = absent (stops _ _ (played (c .before .before .before .before)) (c 
 
 returns-4 : tie.Need-returns-4
 returns-4 c =
-    let p = c .before .before .before .before .before .before .before .read-row .result in
+    let after-read-row : tie.After-read-row = search in
+    let p = after-read-row .read-row .result in
     let f = c .before .before .before .read-row2 .result in
     opening-present _ (p .numbers) (f .numbers) _ (ended c) (omega (arith, c .before .before .if3 .left))
 

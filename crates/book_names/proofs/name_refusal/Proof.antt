@@ -1,13 +1,13 @@
 -- `name_refusal` meets its contract.
 use mathlib.Core.Path.{_≡_, sym, _∙_}
 use borrow.Author.Needs.{needs}
-use Rattle.book.specs.Questions.{refusal}
+use Rattle.book_form.specs.Questions.{bookRefusal}
 use Rattle.book_names.proofs.Naming.{refused-first, refused-outside, not-refused}
 use Rattle.book_names.proofs.name_refusal.Statement.{statement}
 use Rattle.book_names.proofs.name_refusal.Tie as tie
 
 -- the refusal of the book
-number : (c : tie.After-question) → c .question .result ≡ refusal (c .before .before .before .args .book .now)
+number : (c : tie.After-question) → c .question .result ≡ bookRefusal (c .before .before .before .args .book .now)
 number c = c .question .ensures ∙ c .before .check .ensures .question
 
 returns : tie.Need-returns

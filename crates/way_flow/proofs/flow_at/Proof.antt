@@ -20,20 +20,27 @@ sub-j c = let s = c .before .before .before .before .before in let x = s .args i
 cast-j : tie.Need-cast-j
 cast-j c = let s = c .before .before .before .before .before in let x = s .args in omega (arith, head-at (x .e) (x .tails .now) (x .heads .now) (s .pre .0 .book) (s .pre .0 .ends) (x .k) (c .before .if1 .taken), s .pre .0 .ends .limits .few, s .pre .0 .ends .entries-are)
 
-cast-hit : tie.Need-cast-hit
-cast-hit c = let s = c .before .before .before .before .before .before in let x = s .args in omega (arith, tail-at (x .e) (x .tails .now) (x .heads .now) (s .pre .0 .book) (s .pre .0 .ends) (x .k) (s .pre .2))
+cast-one-if-same : tie.Need-cast-one-if-same
+cast-one-if-same c =
+    let s : tie.Start = search in
+    let x = s .args in omega (arith, tail-at (x .e) (x .tails .now) (x .heads .now) (s .pre .0 .book) (s .pre .0 .ends) (x .k) (s .pre .2))
 
-mul-hit : tie.Need-mul-hit
-mul-hit c = let s = c .before .before .before .before .before .before in let x = s .args in omega (arith, head-at (x .e) (x .tails .now) (x .heads .now) (s .pre .0 .book) (s .pre .0 .ends) (x .k) (c .before .before .if1 .taken), s .pre .0 .ends .limits .few, s .pre .0 .ends .entries-are)
+mul-one-if-same : tie.Need-mul-one-if-same
+mul-one-if-same c =
+    let s : tie.Start = search in
+    let x = s .args in omega (arith, head-at (x .e) (x .tails .now) (x .heads .now) (s .pre .0 .book) (s .pre .0 .ends) (x .k) (c .before .before .if1 .taken), s .pre .0 .ends .limits .few, s .pre .0 .ends .entries-are)
 
-shared-slice-read-hit-2 : tie.Need-shared-slice-read-hit-2
-shared-slice-read-hit-2 c = let s = c .before .before .before .before .before .before .before in let x = s .args in omega (arith, head-at (x .e) (x .tails .now) (x .heads .now) (s .pre .0 .book) (s .pre .0 .ends) (x .k) (c .before .before .before .if1 .taken), s .pre .1)
+shared-slice-read-one-if-same-2 : tie.Need-shared-slice-read-one-if-same-2
+shared-slice-read-one-if-same-2 c =
+    let s : tie.Start = search in
+    let x = s .args in omega (arith, head-at (x .e) (x .tails .now) (x .heads .now) (s .pre .0 .book) (s .pre .0 .ends) (x .k) (c .before .before .before .if1 .taken), s .pre .1)
 
 returns : tie.Need-returns
 returns c =
-    let s = c .before .before .before .before .before .before .before .before in
+    let then1 : tie.Then1 = search in
+    let s : tie.Start = search in
     let x = s .args in
-    record { each = λ b h p. c .hit .ensures ∙ sym (on-join (x .e) (x .tails .now) (x .heads .now) b h (x .way .now) (s .pre .1) (x .k) (c .before .before .before .before .if1 .taken)) }
+    record { each = λ b h p. c .one-if-same .ensures ∙ sym (on-join (x .e) (x .tails .now) (x .heads .now) b h (x .way .now) (s .pre .1) (x .k) (then1 .if1 .taken)) }
 
 returns-2 : tie.Need-returns-2
 returns-2 c =
@@ -43,22 +50,24 @@ returns-2 c =
 
 returns-3 : tie.Need-returns-3
 returns-3 c =
-    let s = c .before .before .before .before .before .before .before .before in
+    let else1 : tie.Else1 = search in
+    let s : tie.Start = search in
     let x = s .args in
     record {
       each = λ b h p.
           c .less .ensures ∙ ap (λ n. 1 - n) (c .before .times .ensures)
-          ∙ sym (on-end (x .e) (x .tails .now) (x .heads .now) b h (x .way .now) (s .pre .1) (x .k) _ (omega (arith, c .before .before .before .before .if1 .left)) (omega (arith, c .before .before .before .if2 .left)) (c .before .before .if3 .taken));
+          ∙ sym (on-end (x .e) (x .tails .now) (x .heads .now) b h (x .way .now) (s .pre .1) (x .k) _ (omega (arith, else1 .if1 .left)) (omega (arith, c .before .before .before .if2 .left)) (c .before .before .if3 .taken));
     }
 
 returns-4 : tie.Need-returns-4
 returns-4 c =
-    let s = c .before .before .before .before .before .before .before .before in
+    let else1 : tie.Else1 = search in
+    let s : tie.Start = search in
     let x = s .args in
     record {
       each = λ b h p.
           c .less2 .ensures ∙ ap₂ (λ m n. m - n) p (c .before .times2 .ensures)
-          ∙ sym (on-last (x .e) (x .tails .now) (x .heads .now) b h (x .way .now) (s .pre .1) (x .k) (x .k - (length (x .tails .now) - (2 * x .e + 1))) (omega (arith, c .before .before .before .before .if1 .left))
+          ∙ sym (on-last (x .e) (x .tails .now) (x .heads .now) b h (x .way .now) (s .pre .1) (x .k) (x .k - (length (x .tails .now) - (2 * x .e + 1))) (omega (arith, else1 .if1 .left))
           (omega (arith, c .before .before .if3 .left, s .pre .2, joins-count (x .e) (x .tails .now) (x .heads .now) b h)));
     }
 
@@ -70,9 +79,9 @@ flow-at-spec =
     shared-slice-read-j
     sub-j
     cast-j
-    (λ c. search needs) cast-hit
-    mul-hit
-    shared-slice-read-hit-2
+    (λ c. search needs) cast-one-if-same
+    mul-one-if-same
+    shared-slice-read-one-if-same-2
     (λ c κs. search needs) returns
     returns-2
     (λ c. search needs) (λ c. search needs) (λ c. search needs) (λ c κs. search needs) (λ c κs. search needs) returns-3

@@ -17,20 +17,26 @@ flow-at-requires : tie.Need-flow-at-requires Inv-loop μ-loop
 flow-at-requires c κs = let s = c .before .before .before .before .before in (s .pre .0, s .pre .1, omega arith)
 
 mul-flow : tie.Need-mul-flow Inv-loop μ-loop
-mul-flow c = let s = c .before .before .before .before .before .before in let x = s .args in omega (arith, laying-room (x .e) (x .players) (x .tails .now) (x .heads .now) (x .way .now) (s .pre .0))
+mul-flow c =
+    let s : tie.Start Inv-loop μ-loop = search in
+    let x = s .args in omega (arith, laying-room (x .e) (x .players) (x .tails .now) (x .heads .now) (x .way .now) (s .pre .0))
 
 array-write-flow : tie.Need-array-write-flow Inv-loop μ-loop
-array-write-flow c = let s = c .before .before .before .before .before .before in let x = s .args in omega (arith, laying-room (x .e) (x .players) (x .tails .now) (x .heads .now) (x .way .now) (s .pre .0))
+array-write-flow c =
+    let s : tie.Start Inv-loop μ-loop = search in
+    let x = s .args in omega (arith, laying-room (x .e) (x .players) (x .tails .now) (x .heads .now) (x .way .now) (s .pre .0))
 
 add-k : tie.Need-add-k Inv-loop μ-loop
-add-k c = let s = c .before .before .before .before .before .before in let x = s .args in omega (arith, laying-room (x .e) (x .players) (x .tails .now) (x .heads .now) (x .way .now) (s .pre .0))
+add-k c =
+    let s : tie.Start Inv-loop μ-loop = search in
+    let x = s .args in omega (arith, laying-room (x .e) (x .players) (x .tails .now) (x .heads .now) (x .way .now) (s .pre .0))
 
 loop-less : tie.Need-loop-less Inv-loop μ-loop
 loop-less c = omega arith
 
 loop-again : tie.Need-loop-again Inv-loop μ-loop
 loop-again c =
-    let s = c .before .before .before .before .before .before in
+    let s : tie.Start Inv-loop μ-loop = search in
     let x = s .args in
     let l = c .before .before .loop in
     laying-on (x .e) (x .players) (x .tails .now) (x .heads .now) (x .way .now) (l .flow) (l .k) _ (s .pre .1) (l .inv) (omega arith) (c .flow-at .ensures)

@@ -4,7 +4,7 @@ use Prim.Native.Nat.{_-_}
 use native.Mathlib.Omega.{arith}
 use lib.ListN.{getD}
 use borrow.Author.Needs.{needs}
-use Rattle.allocation.proofs.Hits.{hit-small}
+use Rattle.way_theory.proofs.OneIfSame.{same-small}
 use Rattle.way_flow.proofs.Laying.{Counting, counting-start, counting-on, counting-done}
 
 abbrev Inv-loop : tie.InvT-loop
@@ -16,14 +16,14 @@ abbrev μ-loop : tie.MeasureT-loop
 loop-holds : tie.Need-loop-holds Inv-loop μ-loop
 loop-holds c = counting-start _ _
 
-mul-hit : tie.Need-mul-hit Inv-loop μ-loop
-mul-hit c = omega (arith, c .before .before .before .pre)
+mul-one-if-same : tie.Need-mul-one-if-same Inv-loop μ-loop
+mul-one-if-same c = omega (arith, c .before .before .before .pre)
 
-shared-slice-read-hit : tie.Need-shared-slice-read-hit Inv-loop μ-loop
-shared-slice-read-hit c = omega arith
+shared-slice-read-one-if-same : tie.Need-shared-slice-read-one-if-same Inv-loop μ-loop
+shared-slice-read-one-if-same c = omega arith
 
 add-n : tie.Need-add-n Inv-loop μ-loop
-add-n c = omega (arith, c .before .before .before .loop .inv .few, c .hit .ensures, hit-small (getD (c .before .before .before .before .before .args .way .now) (c .before .before .before .loop .k) 0) (c .before .before .before .before .before .args .i), c .before .before .before .before .before .pre)
+add-n c = omega (arith, c .before .before .before .loop .inv .few, c .one-if-same .ensures, same-small (getD (c .before .before .before .before .before .args .way .now) (c .before .before .before .loop .k) 0) (c .before .before .before .before .before .args .i), c .before .before .before .before .before .pre)
 
 add-k : tie.Need-add-k Inv-loop μ-loop
 add-k c = omega (arith, c .before .before .before .before .before .pre)
@@ -32,7 +32,7 @@ loop-less : tie.Need-loop-less Inv-loop μ-loop
 loop-less c = omega arith
 
 loop-again : tie.Need-loop-again Inv-loop μ-loop
-loop-again c = counting-on _ _ _ (c .before .before .before .loop .k) _ (c .before .before .before .loop .inv) (omega arith) (c .hit .ensures)
+loop-again c = counting-on _ _ _ (c .before .before .before .loop .k) _ (c .before .before .before .loop .inv) (omega arith) (c .one-if-same .ensures)
 
 returns : tie.Need-returns Inv-loop μ-loop
 returns c = counting-done _ _ _ (c .before .loop .k) (c .before .loop .inv) (omega arith)
@@ -44,8 +44,8 @@ times-spec =
     Inv-loop
     μ-loop
     loop-holds
-    mul-hit
-    shared-slice-read-hit
+    mul-one-if-same
+    shared-slice-read-one-if-same
     (λ c κs. search needs) add-n
     add-k
     loop-less

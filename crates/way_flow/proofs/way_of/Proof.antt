@@ -36,33 +36,45 @@ loop-holds : tie.Need-loop-holds Inv-loop μ-loop
 loop-holds c = noting-start _ _ _ _
 
 shared-slice-read-note : tie.Need-shared-slice-read-note Inv-loop μ-loop
-shared-slice-read-note c = omega (arith, long (c .before .before .before .before .before .before .before))
+shared-slice-read-note c =
+    let start : tie.Start Inv-loop μ-loop = search in
+    omega (arith, long start)
 
 shared-slice-read-note-2 : tie.Need-shared-slice-read-note-2 Inv-loop μ-loop
-shared-slice-read-note-2 c = omega (arith, long (c .before .before .before .before .before .before .before .before))
+shared-slice-read-note-2 c =
+    let start : tie.Start Inv-loop μ-loop = search in
+    omega (arith, long start)
 
 mul-note : tie.Need-mul-note Inv-loop μ-loop
-mul-note c = omega (arith, long (c .before .before .before .before .before .before .before .before))
+mul-note c =
+    let start : tie.Start Inv-loop μ-loop = search in
+    omega (arith, long start)
 
 shared-slice-read-note-3 : tie.Need-shared-slice-read-note-3 Inv-loop μ-loop
-shared-slice-read-note-3 c = omega (arith, long (c .before .before .before .before .before .before .before .before .before))
+shared-slice-read-note-3 c =
+    let start : tie.Start Inv-loop μ-loop = search in
+    omega (arith, long start)
 
 note-requires : tie.Need-note-requires Inv-loop μ-loop
 note-requires c κs =
-    let s = c .before .before .before .before .before .before .before .before .before in
-    let h = head-at (s .args .e) (s .args .tails .now) (s .args .heads .now) (s .pre .book) (s .pre .ends) (c .before .before .before .before .before .loop .k) (omega arith) in
-    (h .0, omega (arith, few s, c .before .before .before .before .before .loop .inv .long))
+    let at-loop : tie.At-loop Inv-loop μ-loop = search in
+    let s : tie.Start Inv-loop μ-loop = search in
+    let h = head-at (s .args .e) (s .args .tails .now) (s .args .heads .now) (s .pre .book) (s .pre .ends) (at-loop .loop .k) (omega arith) in
+    (h .0, omega (arith, few s, at-loop .loop .inv .long))
 
 add-k : tie.Need-add-k Inv-loop μ-loop
-add-k c = omega (arith, long (c .before .before .before .before .before .before .before .before .before .before .before))
+add-k c =
+    let start : tie.Start Inv-loop μ-loop = search in
+    omega (arith, long start)
 
 loop-less : tie.Need-loop-less Inv-loop μ-loop
 loop-less c = omega arith
 
 loop-again : tie.Need-loop-again Inv-loop μ-loop
 loop-again c =
-    let s = c .before .before .before .before .before .before .before .before .before .before .before in
-    let l = c .before .before .before .before .before .before .before .loop in
+    let at-loop : tie.At-loop Inv-loop μ-loop = search in
+    let s : tie.Start Inv-loop μ-loop = search in
+    let l = at-loop .loop in
     noting-on (s .args .tails .now) (s .args .heads .now) (s .args .flow .now) _ (l .way) _ (l .k) (l .inv) (omega arith) (omega (arith, long s)) (omega (arith, long s)) (omega (arith, long s)) (c .before .note .kept .0) (c .before .note .ensures)
 
 returns : tie.Need-returns Inv-loop μ-loop

@@ -1,3 +1,0 @@
-pub mod Tight
-pub mod Detours
-pub mod Changes

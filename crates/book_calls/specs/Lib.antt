@@ -1,4 +1,0 @@
-pub mod BookCalls
-pub mod BookRun
-pub mod BookEntries
-pub mod FirstWay

@@ -1,0 +1,111 @@
+-- What the functions over lines promise: one line, and the passes over the moves and over the entries.
+use Prim.Native.Nat.{ℕ, _+_, _*_, _-_, _≤_, _<_}
+use mathlib.Core.Path.{_≡_}
+use mathlib.Core.Bool.{Bool, true, cond, _&&_}
+use mathlib.Core.List.{List, [], _∷_, _++_}
+use lib.ListN.{length, take, drop, getD, set}
+use lib.Dec.{eqb, leb, ltb}
+use Rattle.text_read.specs.Reader.{reads, many, ReadsFront}
+use Rattle.book_lines.specs.declared.moves.Move.{Move}
+use Rattle.book_lines.specs.declared.moves.Moves.{Moves}
+use Rattle.book_lines.specs.declared.entries.EntryLine.{EntryLine}
+use Rattle.book_lines.specs.declared.entries.Columns.{Columns}
+use Rattle.book_lines.specs.declared.entries.Entries.{Entries}
+use Rattle.book_lines.specs.Lines.{move, Entry, entry}
+use Rattle.book_lines.specs.Questions.{fairMove, stands, moves, entries, allPass, FailsAt}
+use Rattle.book_lines.specs.Columns.{table, column, nobody}
+
+-- the first line that failed, or 0
+abbrev pub firstBad : ℕ → Bool → ℕ → ℕ
+firstBad bad passes line = cond (eqb bad 0) (cond passes 0 line) bad
+
+-- every line passes, or `bad` is one that fails
+pub record LinesVerdict (first : ℕ) (answers : List Bool) (bad : ℕ) : Type 0 where
+  pub passed : bad ≡ 0 → allPass answers ≡ true
+  pub failed : (bad ≡ 0 → ⊥) → FailsAt first answers bad
+
+-- the place of the pair A, B in a table
+abbrev pub place : Move → ℕ
+place m = (m .source - 1) * 16 + (m .target - 1)
+
+-- m may stand, by the table of the lines before it
+abbrev pub mayStand : List ℕ → Move → Bool
+mayStand ticks m = fairMove m && eqb (getD ticks (place m) 0) 0
+
+-- m is put into the tables if it may stand
+pub record Put (m : Move) (ticks costs ticks′ costs′ : List ℕ) (r : Bool) : Type 0 where
+  pub is : r ≡ mayStand ticks m
+  pub ticks-are : ticks′ ≡ cond (mayStand ticks m) (set ticks (place m) (m .ticks + 1)) ticks
+  pub costs-are : costs′ ≡ cond (mayStand ticks m) (set costs (place m) (m .cost)) costs
+
+-- the moves that the tables take, after `taken`: each that may stand by those taken before it. Where every line passes 14, that is all.
+unfoldable pub kept : List Move → List Move → List Move
+kept taken [] = taken
+kept taken (m ∷ later) = kept (cond (stands taken m) (taken ++ (m ∷ [])) taken) later
+
+-- the moves at the front of s
+pub record MovesRead (s : List ℕ) (r : Moves) : Type 0 where
+  pub list : List Move
+  pub is : many move s ≡ reads list (drop (r .used) s)
+  pub within : r .used ≤ length s
+  pub few : length list ≤ r .used
+  pub line : r .line ≡ 4 + length list
+  pub verdict : LinesVerdict 4 (moves [] list) (r .bad)
+  pub ticks : r .ticks ≡ table (λ m. m .ticks + 1) (kept [] list)
+  pub costs : r .costs ≡ table (λ m. m .cost) (kept [] list)
+
+-- the entry that a line of s tells of
+abbrev pub entryOf : List ℕ → EntryLine → Entry
+entryOf s r = record { name = take (r .length) (drop (length s - r .left) s); left = r .left; instrument = r .instrument; start = r .start; finish = r .finish }
+
+-- where no entry stands
+abbrev pub noEntry : EntryLine
+noEntry = record { left = 0; length = 0; instrument = 0; start = 0; finish = 0; used = 0 }
+
+pub record EntryRead (s : List ℕ) (r : EntryLine) : Type 0 where
+  pub right : ReadsFront s (entry s) (r .used) (entryOf s r)
+  pub none : r .used ≡ 0 → r ≡ noEntry
+  pub begins : r .left ≤ length s
+  pub ends : r .length ≤ r .left
+  pub some : (r .used ≡ 0 → ⊥) → 0 < r .length
+
+abbrev pub fairLine : EntryLine → Bool
+fairLine e = leb 1 (e .instrument) && leb (e .instrument) 16 && ltb (e .start) (e .finish) && leb (e .finish) 1000000
+
+-- entry n put into the columns
+abbrev pub putIn : Columns → ℕ → ℕ → EntryLine → Columns
+putIn c n total e =
+    record {
+      instruments = set (c .instruments) n (e .instrument);
+      starts = set (c .starts) n (e .start);
+      finishes = set (c .finishes) n (e .finish);
+      names = set (c .names) n (total - e .left);
+      lengths = set (c .lengths) n (e .length);
+    }
+
+abbrev pub columnsOf : ℕ → List Entry → Columns
+columnsOf total es =
+    record {
+      instruments = column (λ e. e .instrument) es;
+      starts = column (λ e. e .start) es;
+      finishes = column (λ e. e .finish) es;
+      names = column (λ e. total - e .left) es;
+      lengths = column (λ e. length (e .name)) es;
+    }
+
+-- the name of e is the part of s that begins where `left` bytes are left
+pub record Placed (s : List ℕ) (e : Entry) : Type 0 where
+  pub begins : e .left ≤ length s
+  pub ends : length (e .name) ≤ e .left
+  pub some : 0 < length (e .name)
+  pub is : take (length (e .name)) (drop (length s - e .left) s) ≡ e .name
+
+-- the entries at the front of s, whose first line is `first`; the columns are those of the first 28
+pub record EntriesRead (s : List ℕ) (first total : ℕ) (r : Entries) : Type 0 where
+  pub list : List Entry
+  pub is : many entry s ≡ reads list (drop (r .used) s)
+  pub within : r .used ≤ length s
+  pub count : r .count ≡ length list
+  pub verdict : LinesVerdict first (entries list) (r .bad)
+  pub columns : r .columns ≡ columnsOf total (take 28 list)
+  pub placed : (n : ℕ) → n < length list → Placed s (getD list n nobody)

@@ -1,0 +1,96 @@
+// The lines of moves: question 14, and the tables that they make.
+use crate::verdict::first_bad;
+use text_read::read_row;
+ghost use mathlib.Core.Path.{_≡_};
+ghost use mathlib.Core.Bool.{true};
+ghost use Prim.Native.Nat.{_≤_, _<_};
+ghost use lib.ListN.{length};
+ghost use Rattle.book_lines.specs.Questions.{fairMove};
+ghost use Rattle.book_lines.specs.Passes.{place, Put, MovesRead};
+
+pub struct Move {
+    pub source: u32,
+    pub target: u32,
+    pub ticks: u32,
+    pub cost: u32,
+}
+
+// The tables of the moves that may stand, and a line that fails, or 0; `line` is the line after the moves.
+pub struct Moves {
+    pub ticks: [u32; 256],
+    pub costs: [u32; 256],
+    pub line: u32,
+    pub bad: u32,
+    pub used: usize,
+}
+
+fn is_fair(m: Move) -> bool
+    ensures { λ r. ⌜ r ≡ fairMove m ⌝ }
+{
+    (1 <= m.source)
+        & (m.source <= 16)
+        & (1 <= m.target)
+        & (m.target <= 16)
+        & (m.source != m.target)
+        & (m.ticks <= 1_000_000)
+        & (m.cost <= 1_000_000)
+}
+
+fn place_of(m: Move) -> usize
+    requires { ⌜ fairMove m ≡ true ⌝ }
+    ensures { λ r. ⌜ (r ≡ place m) × (r < 256) ⌝ }
+{
+    ((m.source - 1) * 16 + (m.target - 1)) as usize
+}
+
+// Puts a move into the tables, and answers whether its line passes.
+fn put_move(ticks: &mut [u32; 256], costs: &mut [u32; 256], m: Move) -> bool
+    ensures { λ r. ⌜ Put m (now (ticks .entry)) (now (costs .entry)) (now (ticks .exit)) (now (costs .exit)) r ⌝ }
+{
+    if !is_fair(m) {
+        return false;
+    }
+    let k = place_of(m);
+    if ticks[k] != 0 {
+        return false;
+    }
+    ticks[k] = m.ticks + 1;
+    costs[k] = m.cost;
+    true
+}
+
+// The moves at the front of `book`, whose first line is line 4.
+pub fn read_moves(book: &[u8]) -> Moves
+    requires { ⌜ length (now book) ≤ 16384 ⌝ }
+    ensures { λ r. ⌜ MovesRead (now (book .entry)) r ⌝ }
+{
+    let mut ticks = [0u32; 256];
+    let mut costs = [0u32; 256];
+    let mut line: u32 = 4;
+    let mut bad: u32 = 0;
+    let mut rest = book;
+    loop {
+        let r = read_row(rest, b"(move ", 4);
+        let used = r.used;
+        if used == 0 {
+            return Moves {
+                ticks,
+                costs,
+                line,
+                bad,
+                used: book.len() - rest.len(),
+            };
+        }
+        let n = r.numbers;
+        let m = Move {
+            source: n[0],
+            target: n[1],
+            ticks: n[2],
+            cost: n[3],
+        };
+        let passes = put_move(&mut ticks, &mut costs, m);
+        bad = first_bad(bad, passes, line);
+        line += 1;
+        rest = &rest[used..];
+    }
+}

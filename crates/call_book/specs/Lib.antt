@@ -1,0 +1,4 @@
+pub mod BookCalls
+pub mod BookRules
+pub mod BookEntries
+pub mod FirstWay

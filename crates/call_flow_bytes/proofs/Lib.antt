@@ -1,0 +1,3 @@
+pub mod FlowItems
+pub mod Admitting
+mod Prices

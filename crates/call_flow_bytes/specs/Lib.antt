@@ -1,0 +1,3 @@
+pub mod NetworkBytes
+pub mod Prices
+pub mod FlowSteps

@@ -1,0 +1,103 @@
+-- From the text that is written to what the functions ensure.
+use mathlib.Core.Path.{_≡_, refl, sym, ap, subst, _∙_}
+use mathlib.Core.List.{List, [], _∷_}
+use mathlib.Core.Option.{none, some}
+use Prim.Native.Nat.{ℕ, zero, suc, _≤_, _<_}
+use native.Mathlib.Omega.{arith}
+use lib.IntN.{pos}
+use lib.ListN.{length, take, drop}
+use lib.Seq.{take-at}
+use Rattle.laws.specs.Members.{first?, none-some}
+use Rattle.text_write.specs.Appended.{Appended}
+use Rattle.text_write.specs.Fit.{fit}
+use Rattle.text_write.specs.Lines.{noneLine, refusedLine}
+use Rattle.text_write.proofs.Pieces.{appended-long}
+use Rattle.book_form.specs.Book.{Book, parse}
+use Rattle.book_form.specs.Questions.{bookRefusal, questionOf, lineTold}
+use Rattle.book_form.specs.declared.Answer.{Answer}
+use Rattle.book_form.specs.declared.Answer.the-variants.{Accepted, TooLong, Malformed, BadHeader, BadMove, BadEntry, TooMany}
+use Rattle.book_form.specs.declared.Checked.{Checked}
+use Rattle.book_check.specs.BookCheck.{ChecksBook}
+use Rattle.way_theory.specs.Ways.{wayCost}
+use Rattle.way_theory.specs.FullWays.{fullWays, firstWay}
+use Rattle.way_list.specs.WayListing.{listWays, waysText}
+use Rattle.call_reply.specs.declared.Reply.{Reply}
+use Rattle.call_reply.specs.Replies.{refusedAt}
+use Rattle.call_reply.proofs.Turns.{first-passed}
+use Rattle.book_form.specs.Told.{Told}
+use Rattle.book_form.proofs.Told.{untold}
+use Rattle.call_listing.specs.declared.Written.{Written}
+use Rattle.call_listing.specs.Listing.{listing, noneCode, listingCode, Printed, BookListing, WritesListing}
+
+pub question-few : (a : Answer) → questionOf a < 100
+question-few Accepted = omega arith
+question-few TooLong = omega arith
+question-few Malformed = omega arith
+question-few TooMany = omega arith
+question-few (BadHeader k) = omega arith
+question-few (BadMove k) = omega arith
+question-few (BadEntry k) = omega arith
+
+no-text : (cost : List ℕ → ℕ) (l : List (List ℕ)) → first? l ≡ none → (noneCode l ≡ 100) × (listWays cost l ≡ noneLine)
+no-text cost [] e = (refl, refl)
+no-text cost (v ∷ l) e = absurd (none-some v (sym e))
+
+some-code : (l : List (List ℕ)) (w : List ℕ) → first? l ≡ some w → noneCode l ≡ 0
+some-code [] w e = absurd (none-some w e)
+some-code (v ∷ l) w e = refl
+
+-- an accepted book tells no line
+accepted-untold : (s : List ℕ) → bookRefusal s ≡ 0 → Told s (bookRefusal s) 0
+accepted-untold s ok = rw ok (untold 0 (λ e. omega arith) (λ e. omega arith) (λ e. omega arith) s)
+
+-- what is written
+module _ (s before after : List ℕ) (n : ℕ) where
+  pub writes-refused : (v : Checked) → ChecksBook s v → (k t : ℕ) → k ≡ questionOf (v .answer) → t ≡ lineTold (v .answer) → ¬ (k ≡ 0) → Appended before 0 (refusedLine k) after n
+      → WritesListing s before (record { len = n; code = k; line = t }) after
+  writes-refused v h zero t e l f a = absurd (f refl)
+  writes-refused v h (suc k) t e l f a =
+      let q : bookRefusal s ≡ suc k = sym (h .question) ∙ sym e in
+      record { text = rw q a; code-is = rw q; told = subst (λ i. Told s i t) (h .question) (subst (λ i. Told s (questionOf (v .answer)) i) (sym l) (h .line)) }
+
+  module _ (ok : bookRefusal s ≡ 0) (b : Book) (is : parse s ≡ some b) where
+    pub writes-none : firstWay b ≡ none → Appended before 0 noneLine after n → WritesListing s before (record { len = n; code = 100; line = 0 }) after
+    writes-none e a = let (k, t) = no-text (wayCost b) (fullWays b) e in record { text = rw (ok, is, t) a; code-is = rw (ok, is, k); told = accepted-untold s ok }
+
+    pub writes-ways : (w : List ℕ) → firstWay b ≡ some w → Appended before 0 (waysText b) after n → WritesListing s before (record { len = n; code = 0; line = 0 }) after
+    writes-ways w e a = record { text = rw (ok, is) a; code-is = rw (ok, is, some-code (fullWays b) w e); told = accepted-untold s ok }
+
+-- what is handed over of it
+module _ (s room room′ : List ℕ) (large : 98304 ≡ length room) (w : Written) (h : WritesListing s room w room′) where
+  pub in-room : w .len ≤ length room′
+  in-room = omega (arith, appended-long (h .text), h .text .within)
+
+  long : w .len ≡ length (listing s)
+  long = h .text .end ∙ omega arith
+
+  pub few : w .len ≤ 98304
+  few = omega (arith, h .text .within)
+
+  taken : take (w .len) room′ ≡ listing s
+  taken = ap (take (w .len)) (h .text .is) ∙ take-at (listing s) (drop (w .len) room) (w .len) (sym long)
+
+  module _ (before : List ℕ) where
+    pub prints : (after : List ℕ) → after ≡ fit (take (w .len) room′) before → Printed s before after (w .len)
+    prints after e = record { long = long; few = few; text = e ∙ ap (λ v. fit v before) taken }
+
+    pub lists-nothing : (r : Reply) → ¬ (w .code ≡ 0) → r ≡ refusedAt (w .code) (w .line) → BookListing s before r before
+    lists-nothing r f q = go (listingCode s) refl
+      where
+        go : (k : ℕ) → listingCode s ≡ k → BookListing s before r before
+        go zero e = absurd (f (h .code-is ∙ e))
+        go (suc k) e = record { code-is = ap (λ (x : Reply). x .code) q ∙ h .code-is; value-is = rw (q, e); told = rw q (h .told); text-is = rw e; few = omega (arith, few, long) }
+
+    pub lists : (after : List ℕ) → w .code ≡ 0 → after ≡ fit (take (w .len) room′) before → BookListing s before (record { code = 0; line = 0; value = pos (w .len) }) after
+    lists after z e =
+        let o : listingCode s ≡ 0 = sym (h .code-is) ∙ z in
+        record {
+          code-is = sym o;
+          value-is = rw o (ap pos long);
+          told = accepted-untold s (first-passed (bookRefusal s) _ o);
+          text-is = rw o (e ∙ ap (λ v. fit v before) taken);
+          few = omega (arith, few, long);
+        }

@@ -1,0 +1,83 @@
+// The listing of a book.
+use call_reply::Reply;
+ghost use mathlib.Core.Path.{_≡_};
+ghost use Prim.Native.Nat.{_≤_};
+ghost use lib.ListN.{length};
+ghost use Rattle.call_listing.specs.Listing.{Printed, BookListing, WritesListing};
+
+// A text that is written, so many bytes, and the code and the line of the reply.
+struct Written {
+    len: usize,
+    code: u32,
+    line: u32,
+}
+
+// Room for every text: the line of the cost has at most 19 bytes, each of 1,000 ways 90 and the last line 12, 90,031 in all.
+fn blank() -> [u8; 98304]
+    ensures { λ r. ⌜ 98304 ≡ length r ⌝ }
+{
+    [0; 98304]
+}
+
+// The text that `ways` prints, at the front of a list that has room for the longest.
+fn write_listing(book: &[u8], out: &mut [u8]) -> Written
+    requires { ⌜ 98304 ≤ length (now out) ⌝ }
+    ensures { λ r. ⌜ WritesListing (now (book .entry)) (now (out .entry)) r (now (out .exit)) ⌝ }
+{
+    let checked = book_check::check(book);
+    let answer = checked.answer;
+    let number = book_form::question(answer);
+    if number != 0 {
+        return Written {
+            len: text_write::put_refused(out, 0, number as u64),
+            code: number,
+            line: book_form::line(answer),
+        };
+    }
+    let b = checked.book;
+    let ways = way_enumerate::start(b).first();
+    let flows = ways.flows;
+    let place = flows.place;
+    if !call_reply::on_item(place) {
+        return Written {
+            len: text_write::put_none(out, 0),
+            code: 100,
+            line: 0,
+        };
+    }
+    Written {
+        len: way_list::list(ways, out),
+        code: 0,
+        line: 0,
+    }
+}
+
+// The text that `ways` prints, where there is room for it; how long it is.
+pub fn printed(book: &[u8], text: &mut [u8]) -> usize
+    ensures { λ r. ⌜ Printed (now (book .entry)) (now (text .entry)) (now (text .exit)) r ⌝ }
+{
+    let mut room = blank();
+    let written = write_listing(book, &mut room);
+    let n = written.len;
+    text_write::copy_if_room(&room[..n], text);
+    n
+}
+
+// The listing of the ways of a book, where there is room for it, and how long it is; or "none". Questions 11 to 16.
+pub fn list(book: &[u8], text: &mut [u8]) -> Reply
+    ensures { λ r. ⌜ BookListing (now (book .entry)) (now (text .entry)) r (now (text .exit)) ⌝ }
+{
+    let mut room = blank();
+    let written = write_listing(book, &mut room);
+    let code = written.code;
+    if code != 0 {
+        return call_reply::refused_at(code, written.line);
+    }
+    let n = written.len;
+    text_write::copy_if_room(&room[..n], text);
+    Reply {
+        code: 0,
+        line: 0,
+        value: n as i64,
+    }
+}

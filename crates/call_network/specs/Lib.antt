@@ -1,0 +1,4 @@
+pub mod NetworkCalls
+pub mod NetworkRules
+pub mod NetworkEntries
+pub mod FirstFlow

@@ -1,0 +1,5 @@
+pub mod Items
+pub mod Turns
+pub mod Places
+pub mod Room
+pub mod Given

@@ -1,0 +1,3 @@
+pub mod WayItems
+pub mod Admitting
+mod HandingWays

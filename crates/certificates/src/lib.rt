@@ -1,2 +1,0 @@
-// What shows that a flow is least-cost, that there is none, and that an arc can carry no more or no less;
-// paths over free arcs, pushing along them, and what both ask of the lists that they read: see specs/.

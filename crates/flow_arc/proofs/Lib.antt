@@ -1,0 +1,6 @@
+mod Lists
+mod WalksAbove
+pub mod Certified
+pub mod Candidates
+pub mod Lowering
+mod Raising

@@ -1,0 +1,3 @@
+pub mod FreeMarks
+pub mod WalksAbove
+pub mod Changes

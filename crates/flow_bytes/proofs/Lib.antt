@@ -1,3 +1,0 @@
-pub mod NetworkLines
-pub mod NetworkBytes
-mod Prices

@@ -1,2 +1,0 @@
-pub mod NetworkBytes
-pub mod Prices

@@ -1,0 +1,6 @@
+mod Relaxing
+mod Cycles
+mod StepsBack
+mod OtherLists
+mod Searching
+pub mod Ending

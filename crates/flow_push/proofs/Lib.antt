@@ -1,0 +1,5 @@
+mod Codes
+mod Prefix
+pub mod LeastCapacity
+pub mod Pushing
+pub mod Lists

@@ -1,0 +1,6 @@
+pub mod FullList
+pub mod Walks
+pub mod Rises
+pub mod Prices
+pub mod Loops
+pub mod Struct

@@ -1,0 +1,14 @@
+pub mod Graph
+pub mod ResidualCapacity
+pub mod Bounds
+pub mod Limits
+pub mod Ready
+pub mod ReducedCost
+pub mod Push
+pub mod FreeArcs
+pub mod Reach
+pub mod Trace
+pub mod Order
+pub mod Cuts
+pub mod ArcChange
+pub mod Excess

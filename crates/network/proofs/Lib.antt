@@ -1,4 +1,0 @@
-pub mod FullList
-pub mod Prices
-pub mod Loops
-pub mod Struct

@@ -1,4 +1,0 @@
-pub mod NetworkCalls
-pub mod NetworkRun
-pub mod NetworkEntries
-pub mod FirstFlow

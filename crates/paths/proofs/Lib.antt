@@ -1,3 +1,0 @@
-mod Codes
-mod Reaching
-mod Tracing

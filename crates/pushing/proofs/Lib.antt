@@ -1,5 +1,0 @@
-mod Codes
-mod Prefix
-pub mod LeastRoom
-pub mod Pushing
-pub mod Lists

@@ -1,5 +1,0 @@
-mod Relaxing
-mod Cycles
-mod Ways
-mod Searching
-pub mod Ending

@@ -1,0 +1,131 @@
+// Readers of text. Each reads what stands at the front of `rest`, and answers how many bytes it takes: 0 if it is not there.
+ghost use Prim.Native.Nat.{_<_, _≤_};
+ghost use mathlib.Core.Path.{_≡_};
+ghost use lib.ListN.{length, take};
+ghost use Rattle.text_read.specs.Reader.{digit, wordByte, text, number, word, ReadsFront, RowRead};
+
+pub struct Number {
+    pub value: u32,
+    pub used: usize,
+}
+
+// The last n places of `numbers` hold the n numbers of a row; the others are 0.
+pub struct Row {
+    pub numbers: [u32; 4],
+    pub used: usize,
+}
+
+// The bytes of `head`.
+pub fn read_text(rest: &[u8], head: &[u8]) -> usize
+    requires { ⌜ 0 < length (now head) ⌝ }
+    ensures { λ r. ⌜ ReadsFront (now (rest .entry)) (text (now (head .entry)) (now (rest .entry))) r tt ⌝ }
+{
+    let mut i = 0;
+    while i < head.len() {
+        if rest.len() <= i {
+            return 0;
+        }
+        if rest[i] != head[i] {
+            return 0;
+        }
+        i += 1;
+    }
+    i
+}
+
+fn is_digit(b: u8) -> bool
+    ensures { λ r. ⌜ r ≡ digit b ⌝ }
+{
+    (b'0' <= b) & (b <= b'9')
+}
+
+fn is_word_byte(b: u8) -> bool
+    ensures { λ r. ⌜ r ≡ wordByte b ⌝ }
+{
+    ((b'0' <= b) & (b <= b'9')) | ((b'a' <= b) & (b <= b'z'))
+}
+
+// A number of 1 to 7 digits without a needless leading 0.
+fn read_number(rest: &[u8]) -> Number
+    ensures { λ r. ⌜ ReadsFront (now (rest .entry)) (number (now (rest .entry))) (r .used) (r .value) ⌝ }
+{
+    let mut value: u32 = 0;
+    let mut i: usize = 0;
+    while i < rest.len() {
+        let b = rest[i];
+        if !is_digit(b) {
+            break;
+        }
+        if i == 7 {
+            return Number { value: 0, used: 0 };
+        }
+        value = value * 10 + ((b - b'0') as u32);
+        i += 1;
+    }
+    if 1 < i {
+        if rest[0] == b'0' {
+            return Number { value: 0, used: 0 };
+        }
+    }
+    Number { value, used: i }
+}
+
+// A word of 1 to 16 letters and digits.
+pub fn read_word(rest: &[u8]) -> usize
+    ensures { λ r. ⌜ ReadsFront (now (rest .entry)) (word (now (rest .entry))) r (take r (now (rest .entry))) ⌝ }
+{
+    let mut i: usize = 0;
+    while i < rest.len() {
+        if !is_word_byte(rest[i]) {
+            break;
+        }
+        if i == 16 {
+            return 0;
+        }
+        i += 1;
+    }
+    i
+}
+
+// The rest of a line from `head` on, with n numbers.
+pub fn read_row(rest: &[u8], head: &[u8], n: usize) -> Row
+    requires { ⌜ (n ≤ 4) × (0 < length (now head)) ⌝ }
+    ensures { λ r. ⌜ RowRead (now (rest .entry)) (now (head .entry)) n (r .used) (r .numbers) ⌝ }
+{
+    if n == 0 {
+        return Row {
+            numbers: [0u32; 4],
+            used: read_text(rest, b")\n"),
+        };
+    }
+    let n1 = read_text(rest, head);
+    if n1 == 0 {
+        return Row {
+            numbers: [0u32; 4],
+            used: 0,
+        };
+    }
+    let v = read_number(&rest[n1..]);
+    let n2 = v.used;
+    if n2 == 0 {
+        return Row {
+            numbers: [0u32; 4],
+            used: 0,
+        };
+    }
+    let at = n1 + n2;
+    let r = read_row(&rest[at..], b" ", n - 1);
+    let n3 = r.used;
+    if n3 == 0 {
+        return Row {
+            numbers: [0u32; 4],
+            used: 0,
+        };
+    }
+    let mut numbers = r.numbers;
+    numbers[4 - n] = v.value;
+    Row {
+        numbers,
+        used: at + n3,
+    }
+}

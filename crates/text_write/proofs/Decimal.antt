@@ -1,0 +1,32 @@
+-- The digits of a number: those of its tenth part, then the last one.
+use mathlib.Core.Path.{_≡_, refl, ap, _∙_}
+use mathlib.Core.Bool.{Bool, true, false}
+use mathlib.Core.List.{List, [], _∷_, _++_}
+use Prim.Native.Nat.{ℕ, zero, suc, _+_, _/_, _%_, _≤_, _<_}
+use native.Mathlib.Omega.{arith}
+use lib.ListN.{length, length-append}
+use lib.Dec.{ltb}
+use borrow.Author.Tests.{lt-ltb, le-ltb, ltb-false}
+use Rattle.text_write.specs.Lines.{digits, decimal}
+
+pub decimal-one : (n : ℕ) → n < 10 → decimal n ≡ (48 + n) ∷ []
+unfolding decimal digits
+decimal-one n h = rw (digits, lt-ltb n 10 h)
+
+-- more places than a number has digits make no difference
+digits-enough : (k j n : ℕ) → n < k → n < j → digits k n ≡ digits j n
+unfolding digits
+digits-enough zero j n h g = absurd (omega arith)
+digits-enough (suc k) zero n h g = absurd (omega arith)
+digits-enough (suc k) (suc j) n h g = go (ltb n 10) refl (λ e. digits-enough k j (n / 10) (omega (arith, ltb-false n 10 e)) (omega (arith, ltb-false n 10 e)))
+  where
+    go : (x : Bool) → ltb n 10 ≡ x → (ltb n 10 ≡ false → digits k (n / 10) ≡ digits j (n / 10)) → digits (suc k) n ≡ digits (suc j) n
+    go true e f = rw (digits, e)
+    go false e f = rw (digits, e) (ap (λ (l : List ℕ). l ++ ((48 + n % 10) ∷ [])) (f e))
+
+pub decimal-more : (n : ℕ) → 10 ≤ n → decimal n ≡ decimal (n / 10) ++ ((48 + n % 10) ∷ [])
+unfolding decimal digits
+decimal-more n h = rw (digits, le-ltb n 10 h) (ap (λ (l : List ℕ). l ++ ((48 + n % 10) ∷ [])) (digits-enough n (suc (n / 10)) (n / 10) (omega arith) (omega arith)))
+
+pub decimal-longer : (n : ℕ) → 10 ≤ n → length (decimal n) ≡ length (decimal (n / 10)) + 1
+decimal-longer n h = ap length (decimal-more n h) ∙ length-append (decimal (n / 10)) _

@@ -1,3 +1,0 @@
-pub mod BookLines
-pub mod BookBytes
-mod HandingWays

@@ -1,2 +1,0 @@
-mod Reading
-pub mod Walking

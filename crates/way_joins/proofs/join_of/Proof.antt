@@ -1,0 +1,95 @@
+use mathlib.Core.Path.{refl, _∙_}
+use native.Mathlib.Omega.{arith}
+use borrow.Author.Needs.{needs}
+use Rattle.way_joins.proofs.Lookup.{CanRead, can-read, join-opening, join-self, join-told}
+use Rattle.way_joins.proofs.join_of.Statement.{statement}
+use Rattle.way_joins.proofs.join_of.Tie as tie
+
+-- from a place behind the tests to the start
+abbrev start : tie.Else2 → tie.Start
+start c = c .before .before .before .before .before .before .before
+
+room : (c : tie.Else2) → CanRead (start c .args .ticks .now) (start c .args .costs .now) (start c .args .instruments .now) (start c .args .starts .now) (start c .args .finishes .now) (start c .args .i) (start c .args .j)
+room c = let s = start c in can-read (s .args .i) (s .args .j) (s .pre .0) (omega (arith, c .before .if1 .left)) (s .pre .1) (s .pre .2) (s .pre .3)
+
+returns : tie.Need-returns
+returns c = record { each = λ b T. join-opening b _ _ _ _ _ _ _ T _ _ (c .if1 .taken) }
+
+returns-2 : tie.Need-returns-2
+returns-2 c =
+    let s : tie.Start = search in
+    record { each = λ b T. join-self b _ _ _ _ _ _ _ T _ _ (omega (arith, c .before .if1 .left)) (omega (arith, s .pre .1, T .entries-are)) (s .pre .2) (omega (arith, s .pre .3, T .entries-are)) (c .if2 .taken) }
+
+shared-slice-read-a : tie.Need-shared-slice-read-a
+shared-slice-read-a c = omega (arith, room (c .before))
+
+shared-slice-read-b : tie.Need-shared-slice-read-b
+shared-slice-read-b c = omega (arith, room (c .before .before))
+
+sub-place : tie.Need-sub-place
+sub-place c = omega (arith, room (c .before .before))
+
+mul-place : tie.Need-mul-place
+mul-place c = omega (arith, room (c .before .before))
+
+sub-place-2 : tie.Need-sub-place-2
+sub-place-2 c = omega (arith, room (c .before .before))
+
+add-place : tie.Need-add-place
+add-place c = omega (arith, room (c .before .before))
+
+cast-place : tie.Need-cast-place
+cast-place c = omega (arith, room (c .before .before))
+
+mul-join-by : tie.Need-mul-join-by
+mul-join-by c = omega (arith, room (c .before .before))
+
+shared-slice-read-join-by : tie.Need-shared-slice-read-join-by
+shared-slice-read-join-by c = omega (arith, room (c .before .before .before))
+
+mul-join-by-2 : tie.Need-mul-join-by-2
+mul-join-by-2 c = omega (arith, room (c .before .before .before))
+
+shared-slice-read-join-by-2 : tie.Need-shared-slice-read-join-by-2
+shared-slice-read-join-by-2 c = omega (arith, room (c .before .before .before .before))
+
+shared-slice-read-join-by-3 : tie.Need-shared-slice-read-join-by-3
+shared-slice-read-join-by-3 c = omega (arith, room (c .before .before .before .before .before))
+
+shared-slice-read-join-by-4 : tie.Need-shared-slice-read-join-by-4
+shared-slice-read-join-by-4 c =
+    let else2 : tie.Else2 = search in
+    omega (arith, room else2)
+
+join-by-requires : tie.Need-join-by-requires
+join-by-requires c κs =
+    let else2 : tie.Else2 = search in
+    let r = room else2 in (r .ticks-in, r .finish-in)
+
+returns-3 : tie.Need-returns-3
+returns-3 c =
+    let t : tie.Else2 = search in
+    let s = start t in
+    record { each = λ b T. c .join-by .ensures ∙ join-told b _ _ _ _ _ _ _ T _ _ (omega (arith, t .before .if1 .left)) (omega (arith, s .pre .1, T .entries-are)) (s .pre .2) (omega (arith, s .pre .3, T .entries-are)) (t .if2 .left) _ _ refl refl }
+
+pub join-of-spec : {M : Type 1} → statement M
+join-of-spec =
+    tie.close
+    (tie.spec
+    returns
+    returns-2
+    (λ c. search needs) (λ c. search needs) shared-slice-read-a
+    (λ c. search needs) (λ c. search needs) shared-slice-read-b
+    sub-place
+    mul-place
+    sub-place-2
+    add-place
+    cast-place
+    mul-join-by
+    shared-slice-read-join-by
+    mul-join-by-2
+    shared-slice-read-join-by-2
+    (λ c. search needs) (λ c. search needs) shared-slice-read-join-by-3
+    (λ c. search needs) (λ c. search needs) shared-slice-read-join-by-4
+    join-by-requires
+    returns-3)

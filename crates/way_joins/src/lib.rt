@@ -1,0 +1,66 @@
+// Whether an entry of a book may follow another, and what the join costs.
+ghost use mathlib.Core.Path.{_≡_};
+ghost use Prim.Native.Nat.{_≤_};
+ghost use Rattle.way_theory.specs.Follow.{inTime};
+ghost use Rattle.way_joins.specs.Tables.{HasTables};
+ghost use Rattle.way_joins.specs.Joins.{joinOf, linkBy, Joins};
+
+// The cost of a join, or that there is none.
+pub enum Join {
+    No,
+    At(u32),
+}
+
+// The join from instrument a to b: t is one more than the ticks of the move, 0 for no move, and c its cost.
+fn join_by(a: u32, b: u32, t: u32, c: u32, finish: u32, start: u32) -> Join
+    requires { ⌜ (t ≤ 1000001) × (finish ≤ 1000000) ⌝ }
+    ensures { λ r. ⌜ r ≡ joinOf (inTime (linkBy a b t c) finish start) ⌝ }
+{
+    if a == b {
+        if finish <= start {
+            return Join::At(0);
+        }
+        return Join::No;
+    }
+    if t == 0 {
+        return Join::No;
+    }
+    if finish + (t - 1) <= start {
+        return Join::At(c);
+    }
+    Join::No
+}
+
+// The join from entry i to entry j; from 0, the opening of j.
+pub fn join_of<'a>(
+    fee: u32,
+    e: usize,
+    ticks: &'a [u32],
+    costs: &'a [u32],
+    instruments: &'a [u32],
+    starts: &'a [u32],
+    finishes: &'a [u32],
+    i: usize,
+    j: usize,
+) -> Join
+    requires { ⌜ HasTables fee e (now ticks) (now costs) (now instruments) (now starts) (now finishes) × (i ≤ e) × (1 ≤ j) × (j ≤ e) ⌝ }
+    ensures { λ r. ⌜ Joins fee e (now (ticks .entry)) (now (costs .entry)) (now (instruments .entry)) (now (starts .entry)) (now (finishes .entry)) i j r ⌝ }
+{
+    if i == 0 {
+        return Join::At(fee);
+    }
+    if i == j {
+        return Join::No;
+    }
+    let a = instruments[i - 1];
+    let b = instruments[j - 1];
+    let place = ((a - 1) * 16 + (b - 1)) as usize;
+    join_by(
+        a,
+        b,
+        ticks[place],
+        costs[place],
+        finishes[i - 1],
+        starts[j - 1],
+    )
+}

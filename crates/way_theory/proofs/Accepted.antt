@@ -1,0 +1,82 @@
+-- The network of an accepted book is an accepted network.
+use mathlib.Core.Path.{_≡_, refl}
+use mathlib.Core.Bool.{Bool, true, false, cond}
+use mathlib.Core.Option.{Option, none, some}
+use Prim.Native.Nat.{ℕ, zero, suc, _≤_}
+use native.Mathlib.Omega.{arith}
+use lib.Dec.{eqb, leb}
+use lib.ListN.{List·getD-map}
+use lib.IntN.{pos, negℤ}
+use lib.Signed.{_≤ℤ_}
+use Rattle.laws.specs.Linear.{lin}
+use Rattle.net_model.specs.Network.{low, up, balance}
+use Rattle.net_model.specs.Accepted.{AcceptedNet}
+use Rattle.book_lines.specs.declared.moves.Move.{Move}
+use Rattle.book_lines.specs.Questions.{moveOf}
+use Rattle.book_form.specs.Book.{Book}
+use Rattle.book_form.specs.WithinLimits.{WithinLimits}
+use Rattle.way_theory.specs.Follow.{size, entryAt, stay, link, arrival, inTime}
+use Rattle.way_theory.specs.Ways.{orNone}
+use Rattle.way_theory.specs.BookNet.{arcCost, bookArcs, bookNet}
+use Rattle.way_theory.proofs.Nodes.{NodeKind, origin, odd, even, last, node-kind, noBookArc, nodes-count, balance-inner, balance-last}
+use Rattle.way_theory.proofs.Arcs.{arc-holds, part-holds, well-formed}
+use Rattle.way_theory.proofs.Fair.{cost-high}
+use Rattle.way_theory.proofs.Size.{arcs-few, nodes-few}
+
+module _ (book : Book) (ok : WithinLimits book) where
+  move-small : (a b finish start : ℕ) → orNone (inTime (moveOf (book .moves) a b) finish start) ≤ 1000000
+  move-small a b finish start = go (moveOf (book .moves) a b) refl
+    where
+      pick : (t : Bool) (m : Move) → m .cost ≤ 1000000 → orNone (cond t (some (m .cost)) none) ≤ 1000000
+      pick true m h = h
+      pick false m h = omega arith
+
+      go : (o : Option Move) → moveOf (book .moves) a b ≡ o → orNone (inTime o finish start) ≤ 1000000
+      go none e = omega arith
+      go (some m) e = pick (leb (arrival m finish) start) m (cost-high m (ok .fair-moves a b m e))
+
+  link-small : (a b finish start : ℕ) → orNone (inTime (link (book .moves) a b) finish start) ≤ 1000000
+  link-small a b finish start = go (eqb a b) (move-small a b finish start)
+    where
+      pick : (t : Bool) → orNone (cond t (some 0) none) ≤ 1000000
+      pick true = omega arith
+      pick false = omega arith
+
+      go : (t : Bool) → orNone (inTime (moveOf (book .moves) a b) finish start) ≤ 1000000 → orNone (inTime (cond t (some stay) (moveOf (book .moves) a b)) finish start) ≤ 1000000
+      go true k = pick (leb (arrival stay finish) start)
+      go false k = k
+
+  pub arc-cost-small : (i j : ℕ) → arcCost book i j ≤ 1000000
+  arc-cost-small zero j = ok .fee-high
+  arc-cost-small (suc i) j = go (eqb (suc i) j) (link-small (entryAt book (suc i) .instrument) (entryAt book j .instrument) (entryAt book (suc i) .finish) (entryAt book j .start))
+    where
+      road : Option ℕ
+      road = inTime (link (book .moves) (entryAt book (suc i) .instrument) (entryAt book j .instrument)) (entryAt book (suc i) .finish) (entryAt book j .start)
+
+      go : (t : Bool) → orNone road ≤ 1000000 → orNone (cond t none road) ≤ 1000000
+      go true k = omega arith
+      go false k = k
+
+  fair-cost : (c : ℕ) → c ≤ 1000000 → (negℤ (pos 1000000) ≤ℤ pos c) × (pos c ≤ℤ pos 1000000)
+  fair-cost c h = (simp lin (omega arith), simp lin (omega arith))
+
+  fair-balance : (v : ℕ) → NodeKind (size book) v → (negℤ (pos 1000000000) ≤ℤ balance (bookNet book) v) × (balance (bookNet book) v ≤ℤ pos 1000000000)
+  fair-balance v (origin e) = let p = ok .players-high in rw e (simp lin (omega arith), simp lin (omega arith))
+  fair-balance v (odd i h k e) = rw (balance-inner book v (omega arith) (omega arith)) (simp lin (omega arith), simp lin (omega arith))
+  fair-balance v (even i h k e) = rw (balance-inner book v (omega arith) (omega arith)) (simp lin (omega arith), simp lin (omega arith))
+  fair-balance v (last e) = let p = ok .players-high in rw (balance-last book v e) (simp lin (omega arith), simp lin (omega arith))
+
+  pub accepted-net : AcceptedNet (bookNet book)
+  accepted-net =
+      record {
+        well-formed = well-formed book;
+        some-node = omega (arith, nodes-count book);
+        few-nodes = omega (arith, nodes-few book ok);
+        few-arcs = omega (arith, arcs-few book ok);
+        low-up = λ a h. (let l = List·getD-map (λ a. a .low) (bookArcs book) a noBookArc in let u = List·getD-map (λ a. a .up) (bookArcs book) a noBookArc in
+            let k = arc-holds book (λ a. a .low ≤ a .up) (record { joins = λ i j h k l. omega arith; entries = λ j h k. omega arith; ends = λ j h k. omega arith; last = omega arith }) a h in omega arith);
+        up-small = part-holds book (λ a. a .up) (λ u. u ≤ 1000000) (record { joins = λ i j h k l. omega arith; entries = λ j h k. omega arith; ends = λ j h k. omega arith; last = omega (arith, ok .players-high) }) 0 refl;
+        cost-small = part-holds book (λ a. pos (a .cost)) (λ c. (negℤ (pos 1000000) ≤ℤ c) × (c ≤ℤ pos 1000000))
+            (record { joins = λ i j h k l. fair-cost (arcCost book i j) (arc-cost-small i j); entries = λ j h k. fair-cost 0 (omega arith); ends = λ j h k. fair-cost 0 (omega arith); last = fair-cost 0 (omega arith) }) (pos 0) refl;
+        balance-small = λ v h. fair-balance v (node-kind (size book) v (omega (arith, nodes-count book)));
+      }

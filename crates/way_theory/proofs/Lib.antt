@@ -1,0 +1,17 @@
+pub mod OneIfSame
+pub mod Blocks
+pub mod Rows
+pub mod Nodes
+pub mod FullWays
+pub mod Arcs
+pub mod Counting
+pub mod Bounds
+pub mod Laid
+pub mod WayBack
+pub mod Matched
+pub mod LineByLine
+pub mod Given
+pub mod Examples
+pub mod Fair
+pub mod Size
+pub mod Accepted
