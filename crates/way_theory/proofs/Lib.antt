@@ -15,3 +15,4 @@ pub mod Examples
 pub mod Fair
 pub mod Size
 pub mod Accepted
+pub mod OldRule
