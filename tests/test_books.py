@@ -215,10 +215,10 @@ class Books(unittest.TestCase):
         self.compare(sizes, 1350, [0, 11, 12, 14, 16])
 
     def test_orders(self):
-        self.compare(orders, 1482, [0, 11, 12, 13, 14, 15, 16])
+        self.compare(orders, 1636, [0, 11, 12, 13, 14, 15, 16])
 
     def test_damaged(self):
-        self.compare(damaged, 182366, [0, 12, 13, 14, 15, 16])
+        self.compare(damaged, 215090, [0, 12, 13, 14, 15, 16])
 
 
 if __name__ == "__main__":

@@ -67,6 +67,21 @@ class WayTrial(unittest.TestCase):
         self.assertEqual((touching, joined(book)), ([(1, 2), (5, 6)], set()))
         self.assertTrue(joined(hasty))
 
+    def test_staying(self):
+        """A line for staying on an instrument bears on joins on that instrument alone: it takes some away and makes others dearer, and never lets one in."""
+        rng, lost, dearer = random.Random(3), 0, 0
+        for _ in range(600):
+            text = small(rng, 5)
+            book, without = book_reader.read(text), book_reader.read(re.sub(rb"\(move (\d+) \1 \d+ \d+\)\n", b"", text))
+            for i, j in itertools.permutations(range(1, len(book.entries) + 1), 2):
+                now, before = way_trial.join(book, i, j), way_trial.join(without, i, j)
+                if now == before: continue
+                instrument = book.entries[i - 1][0]
+                self.assertEqual((instrument, before), (book.entries[j - 1][0], 0))
+                self.assertIn((instrument, instrument), [m[:2] for m in book.moves])
+                lost, dearer = lost + (now is None), dearer + (now is not None)
+        self.assertTrue(lost > 100 and dearer > 100, (lost, dearer))
+
     def test_ballet(self):
         """Fourteen entries, three players and five cheapest ways, all of them listed."""
         book = book_reader.read((EXAMPLES / "ballet.book").read_bytes())

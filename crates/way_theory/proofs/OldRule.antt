@@ -1,7 +1,7 @@
 -- The rule as it stood before request 1 of 02: question 14, and who may follow whom. A book without a move from an instrument to itself is
 -- judged as it was, and lists what it listed, at the cost that it had.
 use mathlib.Core.Path.{_≡_, refl, sym, ap, ap₂, _∙_, fun-ext}
-use mathlib.Core.Bool.{Bool, true, false, not, cond, _&&_, false≢true}
+use mathlib.Core.Bool.{Bool, true, false, not, cond, _&&_}
 use mathlib.Core.Option.{Option, none, some}
 use mathlib.Core.List.{List, [], _∷_, _++_}
 use Prim.Native.Nat.{ℕ, zero, suc, _+_, _*_}
@@ -14,9 +14,9 @@ use Rattle.laws.specs.Within.{within}
 use Rattle.book_lines.specs.declared.moves.Move.{Move}
 use Rattle.book_lines.specs.Questions.{moveOf, stands, moves, allPass}
 use Rattle.book_form.specs.Book.{Book}
-use Rattle.way_theory.specs.Follow.{entryAt, stay, withoutLine, orElse, link, inTime, mayFollow}
+use Rattle.way_theory.specs.Follow.{entryAt, stay, orElse, link, inTime, mayFollow}
 use Rattle.way_theory.specs.Ways.{given?, orNone, times, joinsCost, wayCost}
-use Rattle.way_theory.specs.FullWays.{numbers, isJoined, isWay, noDearerWay, wayBounds, wayList, fullWays}
+use Rattle.way_theory.specs.FullWays.{numbers, isJoined, isWay, wayBounds, wayList, fullWays}
 
 -- 14: "In each move, are A and B 1 to 16 and different, T and C at most 1,000,000, and the pair A, B on no earlier line?"
 abbrev pub oldStands : List Move → Move → Bool
