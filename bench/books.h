@@ -64,13 +64,15 @@ inline std::string text_of(const Book &b) {
     return text + ")\n";
 }
 
-// The book that lists most: every entry may follow every earlier one at one cost.
-inline Book level_book(int entries, int players) {
+// The book that lists most: every entry may follow every earlier one, at one cost; on one instrument at none, or where `staying` at the same,
+// and then all ways cost the same.
+inline Book level_book(int entries, int players, bool staying = false) {
     Book b;
     b.players = players;
     b.fee = 1;
     for (auto &row : b.ticks) std::fill(std::begin(row), std::end(row), 0);
     for (auto &row : b.costs) std::fill(std::begin(row), std::end(row), 1);
+    for (int i = 1; i <= 16 && !staying; i++) b.ticks[i][i] = -1;
     for (int k = 0; k < entries; k++) b.entries.push_back({k % 16 + 1, 10 * k, 10 * k + 10});
     return b;
 }

@@ -59,5 +59,5 @@ inline std::vector<Named> movements(size_t most) {
 // Movements of 28 entries with more than 65,535 ways.
 inline std::vector<Named> long_movements() {
     return {{"28-entry books", long_books(42, 3, {51, 80, 342})}, {"the same, entries that overlap", long_books(14, 3, {3, 4, 17})}, {"the same, moves that tie", long_books(28, 1, {18, 40, 51})},
-        {"a book whose joins all tie", {level_book(28, 8)}}};
+        {"a book whose moves all tie", {level_book(28, 8)}}, {"a book whose ways all tie", {level_book(28, 8, true)}}};
 }
