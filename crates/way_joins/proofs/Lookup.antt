@@ -16,20 +16,20 @@ use Rattle.book_lines.specs.Columns.{place, valueOf, column}
 use Rattle.book_lines.proofs.Table.{Instruments, fair-parts, table-at}
 use Rattle.book_form.specs.Book.{Book}
 use Rattle.book_form.proofs.Judging.{column-at}
-use Rattle.way_theory.specs.Follow.{size, entryAt, withoutLine, orElse, link, inTime}
+use Rattle.way_theory.specs.Follow.{size, entryAt, withoutLine, lineOr, link, inTime}
 use Rattle.way_theory.specs.Ways.{predecessorCost}
 use Rattle.way_theory.proofs.Fair.{FairEntry, fair-entry}
 use Rattle.way_joins.specs.declared.Join.the-variants.{No, At}
 use Rattle.way_joins.specs.Tables.{Tables, HasTables}
-use Rattle.way_joins.specs.Joins.{joinOf, takes, moveBy, linkBy}
+use Rattle.way_joins.specs.Joins.{joinOf, moveWith, moveBy, linkBy}
 
 -- the move of a line
-pub line-told : (t c : ℕ) → ¬ (t ≡ 0) → moveBy t c ≡ some (takes (t - 1) c)
+pub line-told : (t c : ℕ) → ¬ (t ≡ 0) → moveBy t c ≡ some (moveWith (t - 1) c)
 line-told zero c n = absurd (n refl)
-line-told (suc t) c n = ap (λ k. some (takes k c)) (omega arith)
+line-told (suc t) c n = ap (λ k. some (moveWith k c)) (omega arith)
 
 -- the move that the two numbers of a pair tell
-link-told : (a b finish start : ℕ) (o : Option Move) → inTime (linkBy a b (valueOf (λ m. m .ticks + 1) o) (valueOf (λ m. m .cost) o)) finish start ≡ inTime (orElse o (withoutLine a b)) finish start
+link-told : (a b finish start : ℕ) (o : Option Move) → inTime (linkBy a b (valueOf (λ m. m .ticks + 1) o) (valueOf (λ m. m .cost) o)) finish start ≡ inTime (lineOr o (withoutLine a b)) finish start
 link-told a b finish start none = refl
 link-told a b finish start (some m) = rw add-one
 

@@ -3,9 +3,9 @@ use book_lines::moves::place_of;
 ghost use mathlib.Core.Path.{_≡_};
 ghost use mathlib.Core.Option.{some};
 ghost use Prim.Native.Nat.{_≤_};
-ghost use Rattle.way_theory.specs.Follow.{stay, orElse, inTime};
+ghost use Rattle.way_theory.specs.Follow.{stay, lineOr, inTime};
 ghost use Rattle.way_joins.specs.Tables.{HasTables};
-ghost use Rattle.way_joins.specs.Joins.{joinOf, takes, moveBy, linkBy, Joins};
+ghost use Rattle.way_joins.specs.Joins.{joinOf, moveWith, moveBy, linkBy, Joins};
 
 // The cost of a join, or that there is none.
 pub enum Join {
@@ -16,7 +16,7 @@ pub enum Join {
 // A join that takes these ticks and costs this, if there is time.
 fn in_time(ticks: u32, cost: u32, finish: u32, start: u32) -> Join
     requires { ⌜ (ticks ≤ 1000000) × (finish ≤ 1000000) ⌝ }
-    ensures { λ r. ⌜ r ≡ joinOf (inTime (some (takes ticks cost)) finish start) ⌝ }
+    ensures { λ r. ⌜ r ≡ joinOf (inTime (some (moveWith ticks cost)) finish start) ⌝ }
 {
     if finish + ticks <= start {
         return Join::At(cost);
@@ -27,7 +27,7 @@ fn in_time(ticks: u32, cost: u32, finish: u32, start: u32) -> Join
 // The join on one instrument: t is one more than the ticks of its line, 0 for no line, and c its cost.
 fn stay_by(t: u32, c: u32, finish: u32, start: u32) -> Join
     requires { ⌜ (t ≤ 1000001) × (finish ≤ 1000000) ⌝ }
-    ensures { λ r. ⌜ r ≡ joinOf (inTime (orElse (moveBy t c) (some stay)) finish start) ⌝ }
+    ensures { λ r. ⌜ r ≡ joinOf (inTime (lineOr (moveBy t c) (some stay)) finish start) ⌝ }
 {
     if t == 0 {
         return in_time(0, 0, finish, start);

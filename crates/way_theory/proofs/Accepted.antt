@@ -16,7 +16,7 @@ use Rattle.book_lines.specs.Questions.{moveOf}
 use Rattle.book_lines.proofs.Table.{fair-parts}
 use Rattle.book_form.specs.Book.{Book}
 use Rattle.book_form.specs.WithinLimits.{WithinLimits}
-use Rattle.way_theory.specs.Follow.{size, entryAt, stay, withoutLine, orElse, link, road, arrival, inTime}
+use Rattle.way_theory.specs.Follow.{size, entryAt, stay, withoutLine, lineOr, link, road, arrival, inTime}
 use Rattle.way_theory.specs.Ways.{orNone}
 use Rattle.way_theory.specs.BookNet.{arcCost, bookArcs, bookNet}
 use Rattle.way_theory.proofs.Nodes.{NodeKind, origin, odd, even, last, node-kind, noBookArc, nodes-count, balance-inner, balance-last}
@@ -32,9 +32,9 @@ without-line-small : (t : Bool) → CostSmall (cond t (some stay) none)
 without-line-small true = omega arith
 without-line-small false = tt
 
-or-else-small : (o p : Option Move) → CostSmall o → CostSmall p → CostSmall (orElse o p)
-or-else-small none p h k = k
-or-else-small (some m) p h k = h
+line-or-small : (o p : Option Move) → CostSmall o → CostSmall p → CostSmall (lineOr o p)
+line-or-small none p h k = k
+line-or-small (some m) p h k = h
 
 apart-small : (t : Bool) (o : Option Move) → CostSmall o → CostSmall (cond t none o)
 apart-small true o h = tt
@@ -57,7 +57,7 @@ module _ (book : Book) (ok : WithinLimits book) where
       go (some m) e = fair-parts m (ok .fair-moves a b m e) .cost-high
 
   link-small : (a b : ℕ) → CostSmall (link (book .moves) a b)
-  link-small a b = or-else-small (moveOf (book .moves) a b) (withoutLine a b) (move-small a b) (without-line-small (eqb a b))
+  link-small a b = line-or-small (moveOf (book .moves) a b) (withoutLine a b) (move-small a b) (without-line-small (eqb a b))
 
   road-small : (i j : ℕ) → CostSmall (road book i j)
   road-small i j = apart-small (eqb i j) _ (link-small (entryAt book i .instrument) (entryAt book j .instrument))

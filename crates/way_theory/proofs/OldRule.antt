@@ -14,7 +14,7 @@ use Rattle.laws.specs.Within.{within}
 use Rattle.book_lines.specs.declared.moves.Move.{Move}
 use Rattle.book_lines.specs.Questions.{moveOf, stands, moves, allPass}
 use Rattle.book_form.specs.Book.{Book}
-use Rattle.way_theory.specs.Follow.{entryAt, stay, orElse, link, inTime, mayFollow}
+use Rattle.way_theory.specs.Follow.{entryAt, stay, lineOr, link, inTime, mayFollow}
 use Rattle.way_theory.specs.Ways.{given?, orNone, times, joinsCost, wayCost}
 use Rattle.way_theory.specs.FullWays.{numbers, isJoined, isWay, wayBounds, wayList, fullWays}
 
@@ -86,11 +86,11 @@ no-line (m ∷ ms) a b h e = go (eqb (m .source) a && eqb (m .target) b) refl (n
 same-link : (ms : List Move) (a b : ℕ) → NoneStays ms → link ms a b ≡ oldLink ms a b
 same-link ms a b h = go (eqb a b) refl
   where
-    alone : (o : Option Move) → orElse o none ≡ o
+    alone : (o : Option Move) → lineOr o none ≡ o
     alone none = refl
     alone (some m) = refl
 
-    go : (x : Bool) → eqb a b ≡ x → orElse (moveOf ms a b) (cond x (some stay) none) ≡ cond x (some stay) (moveOf ms a b)
+    go : (x : Bool) → eqb a b ≡ x → lineOr (moveOf ms a b) (cond x (some stay) none) ≡ cond x (some stay) (moveOf ms a b)
     go true q = rw (no-line ms a b h (eqb-true a b q))
     go false q = alone (moveOf ms a b)
 

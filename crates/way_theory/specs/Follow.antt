@@ -31,13 +31,13 @@ stay = record { source = 0; target = 0; ticks = 0; cost = 0 }
 abbrev pub withoutLine : ℕ → ℕ → Option Move
 withoutLine a b = cond (eqb a b) (some stay) none
 
-abbrev pub orElse : Option Move → Option Move → Option Move
-orElse none o = o
-orElse (some m) o = some m
+abbrev pub lineOr : Option Move → Option Move → Option Move
+lineOr none o = o
+lineOr (some m) o = some m
 
 -- how a player goes from instrument a to instrument b
 abbrev pub link : List Move → ℕ → ℕ → Option Move
-link moves a b = orElse (moveOf moves a b) (withoutLine a b)
+link moves a b = lineOr (moveOf moves a b) (withoutLine a b)
 
 -- how a player goes from entry i to entry j; no entry follows itself
 abbrev pub road : Book → ℕ → ℕ → Option Move
