@@ -58,6 +58,16 @@ class WayTrial(unittest.TestCase):
             names.append(name)
         self.assertGreater(len(names), 10)
 
+    def test_proved_examples(self):
+        """The books of the table that the checker computes are stored examples, and its ways and cost are those of their listings."""
+        table = (EXAMPLES.parent / "crates/way_theory/proofs/Examples.antt").read_text()
+        rows = re.findall(r'\n  input = book \(bytes "(.*)"\);\n  items = (.*);\n  answer = .*;\n  cost = pos (\d+);', table)
+        listings = {book: listing for _, book, listing in examples()}
+        for text, items, cost in rows:
+            ways = [[int(i) for i in re.findall(r"\d+", way)] for way in re.findall(r"\((.*?)\)", items)]
+            self.assertEqual(listings[text.replace("\\n", "\n").encode()], way_trial.shown(ways, int(cost)) if ways else b"(none)\n")
+        self.assertEqual(len(rows), 7)
+
     def test_opera(self):
         """Two entries that touch are never joined where the change of instrument wants ticks that are not there. If no change took ticks, some would be."""
         text = (EXAMPLES / "opera.book").read_bytes()
