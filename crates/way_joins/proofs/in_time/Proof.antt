@@ -1,3 +1,4 @@
+-- `way_joins::in_time` meets its contract.
 use borrow.Author.Needs.{needs}
 use borrow.Author.Tests.{le-leb, lt-leb}
 use Rattle.way_joins.proofs.in_time.Statement.{statement}

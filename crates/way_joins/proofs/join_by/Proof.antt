@@ -1,3 +1,4 @@
+-- `way_joins::join_by` meets its contract: on one instrument by `stay_by`, else by the line alone.
 use native.Mathlib.Omega.{arith}
 use borrow.Author.Needs.{needs}
 use borrow.Author.Tests.{eq-eqb, ne-eqb}

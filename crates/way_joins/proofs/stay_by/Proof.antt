@@ -1,3 +1,4 @@
+-- `way_joins::stay_by` meets its contract: without a line the join is that of `stay`.
 use native.Mathlib.Omega.{arith}
 use borrow.Author.Needs.{needs}
 use Rattle.way_joins.proofs.Lookup.{line-told}
