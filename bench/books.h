@@ -9,15 +9,15 @@ struct Entry { int instrument, start, finish; };
 
 struct Book {
     int players, fee;
-    int ticks[17][17], costs[17][17];    // ticks -1: no move
+    int ticks[17][17], costs[17][17];    // ticks -1: no line
     std::vector<Entry> entries;          // entry j is entries[j - 1]
 
     int join(int i, int j) const {       // the cost of j after i, or -1
         const Entry &a = entries[i - 1], &b = entries[j - 1];
         if (i == j) return -1;
-        if (a.instrument == b.instrument) return a.finish <= b.start ? 0 : -1;
-        int t = ticks[a.instrument][b.instrument];
-        return t >= 0 && a.finish + t <= b.start ? costs[a.instrument][b.instrument] : -1;
+        int t = ticks[a.instrument][b.instrument], c = costs[a.instrument][b.instrument];
+        if (t < 0 && a.instrument == b.instrument) t = c = 0;
+        return t >= 0 && a.finish + t <= b.start ? c : -1;
     }
 };
 
@@ -59,18 +59,20 @@ inline std::string text_of(const Book &b) {
     std::string text = "(book\n" + form("(players", {b.players}) + form("(fee", {b.fee});
     for (int i = 1; i <= 16; i++)
         for (int j = 1; j <= 16; j++)
-            if (b.ticks[i][j] >= 0 && i != j) text += form("(move", {i, j, b.ticks[i][j], b.costs[i][j]});
+            if (b.ticks[i][j] >= 0) text += form("(move", {i, j, b.ticks[i][j], b.costs[i][j]});
     for (size_t k = 0; k < b.entries.size(); k++) text += form("(entry (name e" + std::to_string(k + 1) + ")", {b.entries[k].instrument, b.entries[k].start, b.entries[k].finish});
     return text + ")\n";
 }
 
-// The book that lists most: every entry may follow every earlier one at one cost.
-inline Book level_book(int entries, int players) {
+// The book that lists most: every entry may follow every earlier one, at one cost; on one instrument at none, or where `staying` at the same,
+// and then all ways cost the same.
+inline Book level_book(int entries, int players, bool staying = false) {
     Book b;
     b.players = players;
     b.fee = 1;
     for (auto &row : b.ticks) std::fill(std::begin(row), std::end(row), 0);
     for (auto &row : b.costs) std::fill(std::begin(row), std::end(row), 1);
+    for (int i = 1; i <= 16 && !staying; i++) b.ticks[i][i] = -1;
     for (int k = 0; k < entries; k++) b.entries.push_back({k % 16 + 1, 10 * k, 10 * k + 10});
     return b;
 }

@@ -22,7 +22,7 @@ static void write_facts(const Book &b, const std::string &file) {
     fact("fee", {b.fee});
     for (int i = 1; i <= 16; i++)
         for (int j = 1; j <= 16; j++)
-            if (i != j && b.ticks[i][j] >= 0) fact("move", {i, j, b.ticks[i][j], b.costs[i][j]});
+            if (b.ticks[i][j] >= 0) fact("move", {i, j, b.ticks[i][j], b.costs[i][j]});
     for (size_t k = 0; k < b.entries.size(); k++) fact("entry", {int(k) + 1, b.entries[k].instrument, b.entries[k].start, b.entries[k].finish});
 }
 

@@ -26,6 +26,16 @@ inline std::vector<Book> without_fee(std::vector<Book> set) {
     return set;
 }
 
+// The same books where staying on an instrument takes 24 ticks and costs 1, for a change of sticks. Those that still have a way.
+inline std::vector<Book> with_sticks(std::vector<Book> set) {
+    std::vector<Book> all;
+    for (Book &b : set) {
+        for (int i = 1; i <= 16; i++) b.ticks[i][i] = 24, b.costs[i][i] = 1;
+        if (LentBook(b).first().code == DESK_OK) all.push_back(b);
+    }
+    return all;
+}
+
 inline std::vector<Network> networks(const std::vector<Book> &set) {
     std::vector<Network> all;
     for (const Book &b : set) all.push_back(network_of(b));
@@ -42,10 +52,12 @@ inline std::vector<Network> random_networks(int nodes, int arcs, int cost, size_
 struct Named { const char *what; std::vector<Book> books; };
 
 // Movements of 28 entries.
-inline std::vector<Named> movements(size_t most) { return {{"28-entry books", books(42, 3, most)}, {"the same, entries that overlap", books(14, 3, most)}}; }
+inline std::vector<Named> movements(size_t most) {
+    return {{"28-entry books", books(42, 3, most)}, {"the same, entries that overlap", books(14, 3, most)}, {"the first, with sticks to change", with_sticks(books(42, 3, most))}};
+}
 
 // Movements of 28 entries with more than 65,535 ways.
 inline std::vector<Named> long_movements() {
     return {{"28-entry books", long_books(42, 3, {51, 80, 342})}, {"the same, entries that overlap", long_books(14, 3, {3, 4, 17})}, {"the same, moves that tie", long_books(28, 1, {18, 40, 51})},
-        {"a book whose joins all tie", {level_book(28, 8)}}};
+        {"a book whose moves all tie", {level_book(28, 8)}}, {"a book whose ways all tie", {level_book(28, 8, true)}}};
 }

@@ -97,12 +97,12 @@ static void by_bytes() {
         const size_t room = size_t(kilobytes) * 1024;
         auto filled = [&](int moves) {
             std::string text = "(book\n(players 8)\n(fee 120)\n";
-            for (int k = 0; k < moves && text.size() + 32 < room; k++) text += "(move " + std::to_string(k / 15 + 1) + " " + std::to_string(k % 15 + 1 + (k % 15 >= k / 15)) + " 48 25)\n";
+            for (int k = 0; k < moves && text.size() + 32 < room; k++) text += "(move " + std::to_string(k / 16 + 1) + " " + std::to_string(k % 16 + 1) + " 48 25)\n";
             while (text.size() + entry.size() + 2 <= room) text += entry;
             return text + ")\n";
         };
         std::vector<std::string> cells = {whole(double(room))};
-        for (int moves : {0, 240}) {
+        for (int moves : {0, 256}) {
             LentBook book(filled(moves));
             double t = time_of([&] { book.questions(); });
             cells.push_back(shown(t));

@@ -83,9 +83,9 @@ static void questions() {
         for (int k = 0; text.size() + line(k).size() + end.size() <= 16384; k++) text += line(k);
         return text + end;
     };
-    auto pair = [&](int k, const std::string &rest) { return move(k / 15 % 16 + 1, k % 15 + 1 + (k % 15 >= k / 15 % 16), rest); };
+    auto pair = [&](int k, const std::string &rest) { return move(k / 16 % 16 + 1, k % 16 + 1, rest); };
     std::string accepted = head;
-    for (int k = 0; k < 240; k++) accepted += pair(k, "1000000 1000000");
+    for (int k = 0; k < 256; k++) accepted += pair(k, "1000000 1000000");
     for (int k = 0; k < 28; k++) accepted += entry(word, "16 999999 1000000");
     accepted += end;
     const struct { const char *what; std::string text; uint32_t number; } all[] = {

@@ -1,4 +1,4 @@
-"""A reader of books for the tests, written from 01's text alone and with Python's regular expressions: what each call has to answer."""
+"""A reader of books for the tests, written from the text of 01 and 02 alone and with Python's regular expressions: what each call has to answer."""
 import re
 
 NUMBER = rb"(?:0|[1-9][0-9]{0,6})"
@@ -38,7 +38,7 @@ def failing(book):
     if book.fee > MILLION: bad[13].append(3)
     seen = set()
     for k, (a, b, t, c) in enumerate(book.moves, 4):
-        if not (1 <= a <= 16 and 1 <= b <= 16 and a != b and t <= MILLION and c <= MILLION and (a, b) not in seen): bad[14].append(k)
+        if not (1 <= a <= 16 and 1 <= b <= 16 and t <= MILLION and c <= MILLION and (a, b) not in seen): bad[14].append(k)
         seen.add((a, b))
     for k, (i, s, f) in enumerate(book.entries, 4 + len(book.moves)):
         if not (1 <= i <= 16 and s < f <= MILLION): bad[15].append(k)

@@ -123,7 +123,7 @@ def orders(run):
         on = [q for k, q in enumerate(faults) if mask >> k & 1]
         for broken in (False, True):
             for long in (False, True):
-                moves = [(1, 2, 0, 0), (3, 3, 0, 0) if 14 in on else (2, 1, 0, 0)]
+                moves = [(3, 3, 0, 0), (3, 3, 0, 0) if 14 in on else (2, 1, 0, 0)]
                 entries = [(b"a", 1, 0, 1), (b"b", 1, 5, 5 if 15 in on else 6)] + [(b"c", 1, 0, 1)] * (27 if 16 in on else 0)
                 text = made(9 if 13 in on else 8, 6, moves, entries)
                 if broken: text = text[:-1]
@@ -136,7 +136,7 @@ def orders(run):
     # each part of a move and of an entry, at each of three lines
     fair = [(1, 2, 0, 0), (2, 1, 5, 5), (16, 15, 1000000, 1000000)]
     for k in range(3):
-        for bad in ((0, 2, 0, 0), (17, 2, 0, 0), (1, 0, 0, 0), (1, 17, 0, 0), (7, 7, 0, 0), (1, 3, 1000001, 0), (1, 3, 0, 1000001), (9999999, 1, 0, 0)):
+        for bad in ((0, 2, 0, 0), (17, 2, 0, 0), (1, 0, 0, 0), (1, 17, 0, 0), (0, 0, 0, 0), (17, 17, 0, 0), (1, 3, 1000001, 0), (1, 3, 0, 1000001), (7, 7, 1000001, 0), (7, 7, 0, 1000001), (9999999, 1, 0, 0)):
             moves = list(fair)
             moves[k] = bad
             run.check(made(moves=moves), 14, 4 + k)
@@ -144,9 +144,14 @@ def orders(run):
     run.check(made(moves=fair + [(2, 1, 9, 9)]), 14, 7)
     run.check(made(moves=[(1, 2, 0, 0), (2, 1, 0, 0), (1, 2, 0, 0)]), 14, 6)
     run.check(made(moves=[(1, 2, 9999999, 0), (1, 2, 0, 0)]), 14)
-    every = [(a, b, a, b) for a in range(1, 17) for b in range(1, 17) if a != b]
+    # a move from an instrument to itself, at each line; a second one of that instrument fails, also where the first takes and costs nothing
+    for k in range(4): run.check(made(moves=fair[:k] + [(7, 7, 1000000, 1000000)] + fair[k:]), 0)
+    for first in ((3, 3, 0, 0), (3, 3, 5, 5), (3, 3, 1000000, 1000000)):
+        run.check(made(moves=[(1, 1, 0, 0), first, (2, 2, 0, 0)]), 0)
+        run.check(made(moves=[(1, 1, 0, 0), first, (1, 3, 0, 0), (3, 3, 5, 5), (3, 1, 0, 0)]), 14, 7)
+    every = [(a, b, a, b) for a in range(1, 17) for b in range(1, 17)]
     run.check(made(moves=every), 0)
-    run.check(made(moves=every + [(3, 4, 0, 0)]), 14, 4 + 240)
+    for again in ((3, 4, 0, 0), (1, 1, 0, 0), (16, 16, 0, 0)): run.check(made(moves=every + [again]), 14, 4 + 256)
     for k in range(3):
         for bad in ((b"x", 0, 0, 1), (b"x", 17, 0, 1), (b"x", 1, 1, 1), (b"x", 1, 2, 1), (b"x", 1, 0, 1000001), (b"x", 1, 9999999, 9999999)):
             entries = [(b"a", 1, 0, 1), (b"a", 16, 999999, 1000000), (b"c", 2, 7, 8)]
@@ -161,7 +166,7 @@ def orders(run):
 def random_book(rng):
     number = lambda most: rng.choice([rng.randint(0, most), rng.randint(0, 20), most])
     word = lambda: bytes(rng.choice(b"abcdefghijklmnopqrstuvwxyz0123456789") for _ in range(rng.randint(1, 16)))
-    pairs = [(a, b) for a in range(1, 17) for b in range(1, 17) if a != b]
+    pairs = [(a, b) for a in range(1, 17) for b in range(1, 17)]
     moves = [(a, b, number(1000000), number(1000000)) for a, b in rng.sample(pairs, rng.randint(0, 6))]
     entries = []
     for _ in range(rng.choice([0, 1, 2, 3, 5, 28])):
@@ -210,10 +215,10 @@ class Books(unittest.TestCase):
         self.compare(sizes, 1350, [0, 11, 12, 14, 16])
 
     def test_orders(self):
-        self.compare(orders, 1482, [0, 11, 12, 13, 14, 15, 16])
+        self.compare(orders, 1636, [0, 11, 12, 13, 14, 15, 16])
 
     def test_damaged(self):
-        self.compare(damaged, 182366, [0, 12, 13, 14, 15, 16])
+        self.compare(damaged, 215090, [0, 12, 13, 14, 15, 16])
 
 
 if __name__ == "__main__":

@@ -24,6 +24,27 @@ DOCUMENT = [                           # name, book, cost, ways
     ("two players, snare to 97", EXAMPLE.replace(*LATE), 12, [(0, 0, 1)]),
     ("no entries", made(), 0, [()]),
 ]
+STAYING = [                            # request 1 of 02: name, book, cost, ways
+    (name, made(players, 20, [(1, 1, ticks, cost)], named([(1, 0, 96), (instrument, start, 240), (1, 288, 384)])), least, ways)
+    for name, players, ticks, cost, instrument, start, least, ways in (
+        ("a change of mallets, no time", 1, 48, 2, 1, 143, 0, []),
+        ("no time, a second player", 2, 48, 2, 1, 143, 42, [(0, 0, 1), (0, 0, 2)]),
+        ("to the tick", 1, 48, 2, 1, 144, 24, [(0, 1, 2)]),
+        ("to the tick, a second player", 2, 48, 2, 1, 144, 24, [(0, 1, 2)]),
+        ("as dear as a player", 2, 48, 20, 1, 144, 60, [(0, 0, 1), (0, 0, 2), (0, 1, 0), (0, 1, 2)]),
+        ("dearer than a player", 2, 48, 25, 1, 144, 65, [(0, 0, 1), (0, 0, 2), (0, 1, 0)]),
+        ("dearer, one player", 1, 48, 25, 1, 144, 70, [(0, 1, 2)]),
+        ("ticks without a cost", 1, 48, 0, 1, 144, 20, [(0, 1, 2)]),
+        ("a cost without ticks", 1, 0, 7, 1, 96, 34, [(0, 1, 2)]),
+        ("neither", 1, 0, 0, 1, 96, 20, [(0, 1, 2)]),
+        ("longer than the book", 2, 1000000, 0, 1, 144, 0, []),
+        ("another instrument in between", 2, 48, 2, 2, 143, 42, [(0, 0, 1)]),
+    )] + [
+    ("of instrument 1, played on 2", made(1, 20, [(1, 1, 48, 2)], named([(2, 0, 96), (2, 96, 240)])), 20, [(0, 1)]),
+    ("of instrument 2, played on 1", made(1, 20, [(2, 2, 48, 2)], named([(1, 0, 96), (1, 96, 240)])), 20, [(0, 1)]),
+    ("of 1 and of 16", made(2, 20, [(16, 16, 0, 3), (1, 1, 24, 2)], named([(1, 0, 96), (16, 0, 96), (16, 96, 192), (1, 120, 192)])), 45, [(0, 0, 2, 1)]),
+    ("one entry needs no move of its own", made(1, 20, [(1, 1, 1000000, 1000000)], named([(1, 0, 96)])), 20, [(0,)]),
+]
 REFUSED = list(refused())
 
 
@@ -91,8 +112,9 @@ class WayCalls(unittest.TestCase):
             self.assertEqual(self.desk.listing(book, text), (answer, [listing + text[len(listing):] if room >= size else text]))
             self.assertIn(self.desk.line, lines)
 
-    def test_document_01(self):
-        for name, book, cost, ways in DOCUMENT:
+    def test_documents(self):
+        """The books of 01, and staying on one instrument."""
+        for name, book, cost, ways in DOCUMENT + STAYING:
             with self.subTest(name):
                 e = book.count(b"(entry")
                 for more in (0, 4, 40):
@@ -222,7 +244,7 @@ class WayCalls(unittest.TestCase):
         """Each fault with each other: the lowest decides."""
         for mask in range(16):
             on = [q for k, q in enumerate((13, 14, 15, 16)) if mask >> k & 1]
-            moves = [(1, 2, 0, 0), (3, 3, 0, 0) if 14 in on else (2, 1, 0, 0)]
+            moves = [(3, 3, 0, 0), (3, 3, 0, 0) if 14 in on else (2, 1, 0, 0)]
             entries = [(b"a", 1, 0, 1)] * (27 if 16 in on else 1) + [(b"b", 1, 5, 5 if 15 in on else 6), (b"c", 1, 0, 1)]
             for broken in (False, True):
                 for long in (False, True):
@@ -298,14 +320,18 @@ class WayCalls(unittest.TestCase):
         # the dearest: 28 entries, 27 joins at 1,000,000 each
         dear = made(1, 1000000, [(1, 16, 0, 1000000), (16, 1, 0, 1000000)], [(b"d", 16 if j % 2 else 1, j, j + 1) for j in range(28)])
         self.assertEqual(self.walked(dear, 9), (END, 28000000, [tuple(range(28))]))
-        # ticks to the limit
-        for ticks, ways in ((999998, [(0, 1)]), (999999, [])):
-            self.assertEqual(self.walked(made(1, 0, [(1, 2, ticks, 0)], [(b"a", 1, 0, 1), (b"b", 2, 999999, 1000000)]), 9), (END if ways else NONE, 0, ways))
-        far = made(2, 1, [(1, 2, 1000000, 0)], [(b"a", 1, 0, 1000000), (b"b", 2, 999999, 1000000)])
-        self.assertEqual(self.walked(far, 9), (END, 2, [(0, 0)]))
-        # all 240 moves
-        every = [(a, b, 0, a) for a in range(1, 17) for b in range(1, 17) if a != b]
+        stays = made(1, 1000000, [(16, 16, 0, 1000000)], [(b"d", 16, j, j + 1) for j in range(28)])
+        self.assertEqual(self.walked(stays, 9), (END, 28000000, [tuple(range(28))]))
+        # ticks to the limit, to another instrument and on one
+        for b in (1, 2):
+            for ticks, ways in ((999998, [(0, 1)]), (999999, [])):
+                self.assertEqual(self.walked(made(1, 0, [(1, b, ticks, 0)], [(b"a", 1, 0, 1), (b"b", b, 999999, 1000000)]), 9), (END if ways else NONE, 0, ways))
+            far = made(2, 1, [(1, b, 1000000, 0)], [(b"a", 1, 0, 1000000), (b"b", b, 999999, 1000000)])
+            self.assertEqual(self.walked(far, 9), (END, 2, [(0, 0)]))
+        # all 256 moves
+        every = [(a, b, 0, a) for a in range(1, 17) for b in range(1, 17)]
         self.assertEqual(self.walked(made(1, 0, every, [(b"x", 16, 5, 6), (b"y", 3, 4, 5), (b"z", 9, 6, 7)]), 9), (END, 19, [(2, 0, 1)]))
+        self.assertEqual(self.walked(made(1, 0, every, [(b"x", 16, 5, 6), (b"y", 16, 4, 5), (b"z", 9, 6, 7)]), 9), (END, 32, [(2, 0, 1)]))
 
     def test_thousand(self):
         """999, 1,000 and 1,001 ways, and how the listing ends."""

@@ -58,6 +58,16 @@ class WayTrial(unittest.TestCase):
             names.append(name)
         self.assertGreater(len(names), 10)
 
+    def test_proved_examples(self):
+        """The books of the table that the checker computes are stored examples, and its ways and cost are those of their listings."""
+        table = (EXAMPLES.parent / "crates/way_theory/proofs/Examples.antt").read_text()
+        rows = re.findall(r'\n  input = book \(bytes "(.*)"\);\n  items = (.*);\n  answer = .*;\n  cost = pos (\d+);', table)
+        listings = {book: listing for _, book, listing in examples()}
+        for text, items, cost in rows:
+            ways = [[int(i) for i in re.findall(r"\d+", way)] for way in re.findall(r"\((.*?)\)", items)]
+            self.assertEqual(listings[text.replace("\\n", "\n").encode()], way_trial.shown(ways, int(cost)) if ways else b"(none)\n")
+        self.assertEqual(len(rows), 7)
+
     def test_opera(self):
         """Two entries that touch are never joined where the change of instrument wants ticks that are not there. If no change took ticks, some would be."""
         text = (EXAMPLES / "opera.book").read_bytes()
@@ -66,6 +76,21 @@ class WayTrial(unittest.TestCase):
         joined = lambda book: {(i, j) for way in way_trial.full_list(book)[0] for j, i in enumerate(way, 1)} & set(touching)
         self.assertEqual((touching, joined(book)), ([(1, 2), (5, 6)], set()))
         self.assertTrue(joined(hasty))
+
+    def test_staying(self):
+        """A line for staying on an instrument bears on joins on that instrument alone: it takes some away and makes others dearer, and never lets one in."""
+        rng, lost, dearer = random.Random(3), 0, 0
+        for _ in range(600):
+            text = small(rng, 5)
+            book, without = book_reader.read(text), book_reader.read(re.sub(rb"\(move (\d+) \1 \d+ \d+\)\n", b"", text))
+            for i, j in itertools.permutations(range(1, len(book.entries) + 1), 2):
+                now, before = way_trial.join(book, i, j), way_trial.join(without, i, j)
+                if now == before: continue
+                instrument = book.entries[i - 1][0]
+                self.assertEqual((instrument, before), (book.entries[j - 1][0], 0))
+                self.assertIn((instrument, instrument), [m[:2] for m in book.moves])
+                lost, dearer = lost + (now is None), dearer + (now is not None)
+        self.assertTrue(lost > 100 and dearer > 100, (lost, dearer))
 
     def test_ballet(self):
         """Fourteen entries, three players and five cheapest ways, all of them listed."""

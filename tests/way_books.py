@@ -9,15 +9,15 @@ def named(entries):
 
 
 def small(rng, most=7):
-    """Up to 7 entries: entries that touch with and without a move, few costs so that many ways tie, in the order of time and not."""
+    """Up to 7 entries: entries that touch with and without a move, on one instrument too, few costs so that many ways tie, in the order of time and not."""
     e = rng.choice([n for n in (0, 1, 2, 2, 3, 3, 4, 4, 4, 5, 5, 5, 6, 6, 7) if n <= most])
     instruments = rng.sample(range(1, 17), rng.choice((1, 1, 2, 2, 3, 4)))
     unit, span = rng.choice(((1, 4), (1, 8), (1, 14), (24, 10), (7, 30), (83333, 12)))
     fee = rng.choice((0, 0, 1, 1, 2, 6, 10**6))
     costs = rng.choice(([0], [0], [0, 1], [fee], [fee], [0, fee], [1, 2, 3], [10**6]))
     ticks = rng.choice(([0], [0], [0, unit], [unit], [1], [0, 1, unit, 2 * unit], [10**6, 0]))
-    share = rng.choice((0.0, 0.5, 0.9, 1.0))
-    moves = [(a, b, rng.choice(ticks), rng.choice(costs)) for a in instruments for b in instruments if a != b and rng.random() < share]
+    share, staying = rng.choice((0.0, 0.5, 0.9, 1.0)), rng.choice((0.0, 0.0, 0.5, 1.0))
+    moves = [(a, b, rng.choice(ticks), rng.choice(costs)) for a in instruments for b in instruments if rng.random() < (staying if a == b else share)]
     rng.shuffle(moves)
     entries = []
     for _ in range(e):
@@ -34,7 +34,7 @@ def small(rng, most=7):
 def large(rng, entries=28):
     """A movement of 28 entries on a few instruments, with most of the moves."""
     instruments = rng.randint(2, 16)
-    moves = [(a, b, 24 * rng.randint(0, 4), rng.randint(1, 3)) for a in range(1, instruments + 1) for b in range(1, instruments + 1) if a != b and rng.random() < 0.9]
+    moves = [(a, b, 24 * rng.randint(0, 4), rng.randint(1, 3)) for a in range(1, instruments + 1) for b in range(1, instruments + 1) if rng.random() < (0.3 if a == b else 0.9)]
     lines = []
     for k in range(entries):
         start = 96 * (k * rng.choice((1, 2, 4)) + rng.randint(0, 3))
@@ -47,7 +47,7 @@ def paired(rng):
     """8 to 28 entries in pairs that overlap, for two players: so few ways that all can be tried."""
     pairs, instruments = rng.choice((4, 5, 6, 7, 8, 9, 10, 14)), rng.randint(2, 5)
     ticks, costs = rng.choice(([0, 24], [24, 48], [48], [0, 96], [0] * 9 + [97])), rng.choice(([1], [1, 2], [0, 1, 2, 3]))
-    moves = [(a, b, rng.choice(ticks), rng.choice(costs)) for a in range(1, instruments + 1) for b in range(1, instruments + 1) if a != b and rng.random() < 0.97]
+    moves = [(a, b, rng.choice(ticks), rng.choice(costs)) for a in range(1, instruments + 1) for b in range(1, instruments + 1) if rng.random() < (0.2 if a == b else 0.97)]
     entries, ends = [], rng.choice(([384], [336, 384], [384, 408], [384, 456], [384] * 9 + [480]))
     for k in range(pairs):
         entries += [(rng.randint(1, instruments), 480 * k + rng.choice((0, 0, 24)), 480 * k + rng.choice(ends)) for _ in range(2)]
@@ -59,17 +59,18 @@ def refused():
     entry = (b"a", 1, 0, 1)
     yield 11, EXAMPLE + b" " * (16385 - len(EXAMPLE))
     yield 11, b"\xff" * 16385
-    yield 11, made(9, 6, [(1, 1, 0, 0)], [(b"a", 0, 1, 1)] * 800)
+    yield 11, made(9, 6, [(1, 17, 0, 0)], [(b"a", 0, 1, 1)] * 800)
     yield 12, b""
     yield 12, EXAMPLE[:-1]
     yield 12, EXAMPLE + b"\n"
     yield 12, EXAMPLE.replace(b"(fee 6)", b"(fee 06)")
-    yield 12, made(9, 6, [(1, 1, 0, 0)], [(b"A", 0, 1, 1)] * 29)
+    yield 12, made(9, 6, [(1, 17, 0, 0)], [(b"A", 0, 1, 1)] * 29)
     yield 12, b"\xff" * 16384
     yield 13, made(0)
-    yield 13, made(9, 1000001, [(1, 1, 0, 0)], [(b"a", 0, 1, 1)] * 29)
+    yield 13, made(9, 1000001, [(1, 17, 0, 0)], [(b"a", 0, 1, 1)] * 29)
     yield 13, made(8, 1000001)
-    yield 14, made(1, 0, [(1, 2, 0, 0), (2, 1, 0, 0), (1, 2, 0, 0), (3, 3, 0, 0)], [entry])
+    yield 14, made(1, 0, [(1, 2, 0, 0), (2, 1, 0, 0), (1, 2, 0, 0), (3, 0, 0, 0)], [entry])
+    yield 14, made(1, 0, [(3, 3, 0, 0), (1, 2, 0, 0), (3, 3, 0, 0)], [entry])
     yield 14, made(1, 0, [(17, 2, 0, 0)], [(b"a", 17, 0, 1)] * 29)
     yield 14, made(1, 0, [(1, 2, 1000001, 0), (2, 1, 0, 0)])
     yield 14, made(1, 0, [(2, 1, 0, 0), (1, 2, 0, 1000001)])

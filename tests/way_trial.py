@@ -1,4 +1,4 @@
-"""Search by trial: document 01's ways, straight from its text and independent of the library. Books are those of book_reader."""
+"""Search by trial: the ways of documents 01 and 02, straight from their text and independent of the library. Books are those of book_reader."""
 import book_reader
 import trial
 
@@ -8,9 +8,9 @@ SHOWN = 1000                           # the most ways of a listing
 def join(book, i, j):
     """The cost of entry j after entry i, or None where it may not follow."""
     (a, _, finish), (b, start, _) = book.entries[i - 1], book.entries[j - 1]
-    if i == j: return None
-    if a == b: return 0 if finish <= start else None
-    return next((c for x, y, t, c in book.moves if (x, y) == (a, b) and finish + t <= start), None)
+    lines = [(t, c) for x, y, t, c in book.moves if (x, y) == (a, b)]
+    if a == b and not lines: lines = [(0, 0)]       # staying, where no line says what it takes
+    return next((c for t, c in lines if i != j and finish + t <= start), None)
 
 
 def ways(book):

@@ -9,7 +9,7 @@ use Rattle.book_form.specs.Book.{Book, parse}
 use Rattle.book_lines.specs.Columns.{table, column}
 use Rattle.book_form.specs.Questions.{bookRefusal}
 
--- `ticks` holds one more than the ticks, so that 0 says that there is no move; `total` is the length of the book
+-- `ticks` holds one more than the ticks, so that 0 says that there is no line; `total` is the length of the book
 abbrev pub checkedOf : ℕ → Book → CheckedBook
 checkedOf total b =
     record {

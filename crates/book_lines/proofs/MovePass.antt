@@ -8,7 +8,7 @@ use lib.ListN.{length, length-append, replicate, set}
 use Rattle.book_lines.specs.declared.moves.Move.{Move}
 use Rattle.book_lines.specs.Questions.{fairMove, moveOf, none?, stands, moves, allPass}
 use Rattle.book_lines.specs.Columns.{table}
-use Rattle.book_lines.specs.Passes.{firstBad, LinesVerdict, place, mayStand, Put, kept}
+use Rattle.book_lines.specs.Passes.{firstBad, LinesVerdict, placeOf, mayStand, Put, kept}
 use Rattle.laws.specs.Tests.{and-true}
 use Rattle.book_lines.proofs.Table.{fair-parts, table-none, table-more, may-stand-stands}
 use Rattle.book_lines.proofs.Verdicts.{verdict-none, verdict-more, moves-more, moves-length}
@@ -41,11 +41,11 @@ unfolding moves kept
 known-moves-none = record { line-is = refl; verdict = verdict-none 4; ticks-are = table-none (λ m. m .ticks + 1); costs-are = table-none (λ m. m .cost) }
 
 -- a move is put into a table if it may stand
-put-table : (f : Move → ℕ) (ms : List Move) (m : Move) (t t′ : List ℕ) (x : Bool) → stands ms m ≡ x → t ≡ table f ms → t′ ≡ cond x (set t (place m) (f m)) t
+put-table : (f : Move → ℕ) (ms : List Move) (m : Move) (t t′ : List ℕ) (x : Bool) → stands ms m ≡ x → t ≡ table f ms → t′ ≡ cond x (set t (placeOf m) (f m)) t
     → t′ ≡ table f (cond x (ms ++ (m ∷ [])) ms)
 put-table f ms m t t′ true s q p =
     let b = and-true (fairMove m) (none? (moveOf ms (m .source) (m .target))) s in
-    p ∙ rw q (table-more m (fair-parts m (b .0)) f ms (b .1))
+    p ∙ rw q (table-more m (fair-parts m (b .0) .pair) f ms (b .1))
 put-table f ms m t t′ false s q p = p ∙ q
 
 pub known-moves-more : (done : List Move) (m : Move) (line bad : ℕ) (ticks costs ticks′ costs′ : List ℕ) (r : Bool)
@@ -54,9 +54,9 @@ known-moves-more done m line bad ticks costs ticks′ costs′ r k p =
     record {
       line-is = omega (arith, k .line-is, length-append done (m ∷ []));
       verdict = rw (moves-more [] done m) (verdict-more (k .verdict) r (stands done m) line asked (omega (arith, k .line-is, moves-length [] done)) (omega (arith, k .line-is)));
-      ticks-are = put-table (λ m. m .ticks + 1) (kept [] done) m ticks ticks′ (stands (kept [] done) m) refl (k .ticks-are) (p .ticks-are ∙ ap (λ x. cond x (set ticks (place m) (m .ticks + 1)) ticks) test)
+      ticks-are = put-table (λ m. m .ticks + 1) (kept [] done) m ticks ticks′ (stands (kept [] done) m) refl (k .ticks-are) (p .ticks-are ∙ ap (λ x. cond x (set ticks (placeOf m) (m .ticks + 1)) ticks) test)
           ∙ ap (table (λ m. m .ticks + 1)) (sym (kept-more [] done m));
-      costs-are = put-table (λ m. m .cost) (kept [] done) m costs costs′ (stands (kept [] done) m) refl (k .costs-are) (p .costs-are ∙ ap (λ x. cond x (set costs (place m) (m .cost)) costs) test)
+      costs-are = put-table (λ m. m .cost) (kept [] done) m costs costs′ (stands (kept [] done) m) refl (k .costs-are) (p .costs-are ∙ ap (λ x. cond x (set costs (placeOf m) (m .cost)) costs) test)
           ∙ ap (table (λ m. m .cost)) (sym (kept-more [] done m));
     }
   where

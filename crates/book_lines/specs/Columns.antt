@@ -1,5 +1,5 @@
 -- Moves by their pair, and entries by their number, as lists of one number each.
-use Prim.Native.Nat.{ℕ, _+_, _/_, _%_}
+use Prim.Native.Nat.{ℕ, _+_, _*_, _-_, _/_, _%_}
 use mathlib.Core.Option.{Option, none, some}
 use mathlib.Core.List.{List, [], map}
 use Rattle.laws.specs.Tabulate.{tabulate}
@@ -12,7 +12,11 @@ abbrev pub valueOf : (Move → ℕ) → Option Move → ℕ
 valueOf f none = 0
 valueOf f (some m) = f m
 
--- a number of the move of each ordered pair of instruments, 1 1 to 16 16, and 0 where there is no move
+-- the place of the pair a, b in a table
+abbrev pub place : ℕ → ℕ → ℕ
+place a b = (a - 1) * 16 + (b - 1)
+
+-- a number of the move of each ordered pair of instruments, 1 1 to 16 16, and 0 where there is no line
 abbrev pub cell : (Move → ℕ) → List Move → ℕ → ℕ
 cell f ms k = valueOf f (moveOf ms (k / 16 + 1) (k % 16 + 1))
 

@@ -1,5 +1,5 @@
 -- What the functions over lines promise: one line, and the passes over the moves and over the entries.
-use Prim.Native.Nat.{ℕ, _+_, _*_, _-_, _≤_, _<_}
+use Prim.Native.Nat.{ℕ, _+_, _-_, _≤_, _<_}
 use mathlib.Core.Path.{_≡_}
 use mathlib.Core.Bool.{Bool, true, cond, _&&_}
 use mathlib.Core.List.{List, [], _∷_, _++_}
@@ -13,7 +13,7 @@ use Rattle.book_lines.specs.declared.entries.Columns.{Columns}
 use Rattle.book_lines.specs.declared.entries.Entries.{Entries}
 use Rattle.book_lines.specs.Lines.{move, Entry, entry}
 use Rattle.book_lines.specs.Questions.{fairMove, stands, moves, entries, allPass, FailsAt}
-use Rattle.book_lines.specs.Columns.{table, column, nobody}
+use Rattle.book_lines.specs.Columns.{place, table, column, nobody}
 
 -- the first line that failed, or 0
 abbrev pub firstBad : ℕ → Bool → ℕ → ℕ
@@ -24,19 +24,19 @@ pub record LinesVerdict (first : ℕ) (answers : List Bool) (bad : ℕ) : Type 0
   pub passed : bad ≡ 0 → allPass answers ≡ true
   pub failed : (bad ≡ 0 → ⊥) → FailsAt first answers bad
 
--- the place of the pair A, B in a table
-abbrev pub place : Move → ℕ
-place m = (m .source - 1) * 16 + (m .target - 1)
+-- the place of the pair of m in a table
+abbrev pub placeOf : Move → ℕ
+placeOf m = place (m .source) (m .target)
 
 -- m may stand, by the table of the lines before it
 abbrev pub mayStand : List ℕ → Move → Bool
-mayStand ticks m = fairMove m && eqb (getD ticks (place m) 0) 0
+mayStand ticks m = fairMove m && eqb (getD ticks (placeOf m) 0) 0
 
 -- m is put into the tables if it may stand
 pub record Put (m : Move) (ticks costs ticks′ costs′ : List ℕ) (r : Bool) : Type 0 where
   pub is : r ≡ mayStand ticks m
-  pub ticks-are : ticks′ ≡ cond (mayStand ticks m) (set ticks (place m) (m .ticks + 1)) ticks
-  pub costs-are : costs′ ≡ cond (mayStand ticks m) (set costs (place m) (m .cost)) costs
+  pub ticks-are : ticks′ ≡ cond (mayStand ticks m) (set ticks (placeOf m) (m .ticks + 1)) ticks
+  pub costs-are : costs′ ≡ cond (mayStand ticks m) (set costs (placeOf m) (m .cost)) costs
 
 -- the moves that the tables take, after `taken`: each that may stand by those taken before it. Where every line passes 14, that is all.
 unfoldable pub kept : List Move → List Move → List Move

@@ -1,7 +1,7 @@
 -- Questions 14 and 15. A question that is put to lines has an answer of each of them, in their order.
 use Prim.Native.Nat.{ℕ, _+_}
 use mathlib.Core.Path.{_≡_}
-use mathlib.Core.Bool.{Bool, true, false, not, cond, _&&_}
+use mathlib.Core.Bool.{Bool, true, false, cond, _&&_}
 use mathlib.Core.Option.{Option, none, some}
 use mathlib.Core.List.{List, [], _∷_, _++_, map}
 use lib.ListN.{getD}
@@ -9,11 +9,10 @@ use lib.Dec.{leb, ltb, eqb}
 use Rattle.book_lines.specs.declared.moves.Move.{Move}
 use Rattle.book_lines.specs.Lines.{Entry}
 
--- 14: "In each move, are A and B 1 to 16 and different, T and C at most 1,000,000,"
+-- 14: "In each move, are A and B 1 to 16 .., T and C at most 1,000,000,"; 02, request 1: "Question 14 no longer requires A and B to differ."
 abbrev pub fairMove : Move → Bool
 fairMove m =
-    leb 1 (m .source) && leb (m .source) 16 && leb 1 (m .target) && leb (m .target) 16
-    && not (eqb (m .source) (m .target)) && leb (m .ticks) 1000000 && leb (m .cost) 1000000
+    leb 1 (m .source) && leb (m .source) 16 && leb 1 (m .target) && leb (m .target) 16 && leb (m .ticks) 1000000 && leb (m .cost) 1000000
 
 -- the move from instrument a to instrument b
 abbrev pub moveOf : List Move → ℕ → ℕ → Option Move

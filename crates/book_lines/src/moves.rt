@@ -2,11 +2,11 @@
 use crate::verdict::first_bad;
 use text_read::read_row;
 ghost use mathlib.Core.Path.{_≡_};
-ghost use mathlib.Core.Bool.{true};
 ghost use Prim.Native.Nat.{_≤_, _<_};
 ghost use lib.ListN.{length};
 ghost use Rattle.book_lines.specs.Questions.{fairMove};
-ghost use Rattle.book_lines.specs.Passes.{place, Put, MovesRead};
+ghost use Rattle.book_lines.specs.Columns.{place};
+ghost use Rattle.book_lines.specs.Passes.{Put, MovesRead};
 
 pub struct Move {
     pub source: u32,
@@ -31,16 +31,16 @@ fn is_fair(m: Move) -> bool
         & (m.source <= 16)
         & (1 <= m.target)
         & (m.target <= 16)
-        & (m.source != m.target)
         & (m.ticks <= 1_000_000)
         & (m.cost <= 1_000_000)
 }
 
-fn place_of(m: Move) -> usize
-    requires { ⌜ fairMove m ≡ true ⌝ }
-    ensures { λ r. ⌜ (r ≡ place m) × (r < 256) ⌝ }
+// The place of the pair a, b in the tables.
+pub fn place_of(a: u32, b: u32) -> usize
+    requires { ⌜ (1 ≤ a) × (a ≤ 16) × (1 ≤ b) × (b ≤ 16) ⌝ }
+    ensures { λ r. ⌜ (r ≡ place a b) × (r < 256) ⌝ }
 {
-    ((m.source - 1) * 16 + (m.target - 1)) as usize
+    ((a - 1) * 16 + (b - 1)) as usize
 }
 
 // Puts a move into the tables, and answers whether its line passes.
@@ -50,7 +50,7 @@ fn put_move(ticks: &mut [u32; 256], costs: &mut [u32; 256], m: Move) -> bool
     if !is_fair(m) {
         return false;
     }
-    let k = place_of(m);
+    let k = place_of(m.source, m.target);
     if ticks[k] != 0 {
         return false;
     }

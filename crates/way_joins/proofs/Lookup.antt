@@ -1,57 +1,37 @@
 -- A join by the numbers of the tables is the join of each book that the tables hold.
 use mathlib.Core.Path.{_≡_, refl, ap, _∙_}
-use mathlib.Core.Bool.{Bool, true, false, cond}
 use mathlib.Core.Option.{Option, none, some}
 use mathlib.Core.List.{List, map}
-use Prim.Native.Nat.{ℕ, zero, suc, _+_, _*_, _-_, _≤_, _<_}
+use Prim.Native.Nat.{ℕ, zero, suc, _+_, _-_, _≤_}
 use native.Mathlib.Omega.{arith}
 use native.Mathlib.Numerals.{add-one}
-use lib.Dec.{eqb}
 use lib.ListN.{length, getD, length-map}
-use borrow.Author.Tests.{eq-eqb, ne-eqb, le-leb, lt-leb}
+use borrow.Author.Tests.{eq-eqb, ne-eqb}
 use Rattle.laws.specs.Padded.{padded-length}
 use Rattle.laws.specs.Tabulate.{tabulate-length}
 use Rattle.book_lines.specs.declared.moves.Move.{Move}
 use Rattle.book_lines.specs.Lines.{Entry}
 use Rattle.book_lines.specs.Questions.{moveOf}
-use Rattle.book_lines.specs.Columns.{valueOf, table, column}
-use Rattle.book_lines.proofs.Table.{fair-parts, table-at}
+use Rattle.book_lines.specs.Columns.{place, valueOf, column}
+use Rattle.book_lines.proofs.Table.{Instruments, fair-parts, table-at}
 use Rattle.book_form.specs.Book.{Book}
 use Rattle.book_form.proofs.Judging.{column-at}
-use Rattle.way_theory.specs.Follow.{size, entryAt, stay, link, inTime}
+use Rattle.way_theory.specs.Follow.{size, entryAt, withoutLine, lineOr, link, inTime}
 use Rattle.way_theory.specs.Ways.{predecessorCost}
 use Rattle.way_theory.proofs.Fair.{FairEntry, fair-entry}
 use Rattle.way_joins.specs.declared.Join.the-variants.{No, At}
 use Rattle.way_joins.specs.Tables.{Tables, HasTables}
-use Rattle.way_joins.specs.Joins.{joinOf, moveBy, linkBy}
+use Rattle.way_joins.specs.Joins.{joinOf, moveWith, moveBy, linkBy}
 
--- the ways through `join_by`
-module _ (a b t c finish start : ℕ) where
-  pub by-stay : a ≡ b → finish ≤ start → At 0 ≡ joinOf (inTime (linkBy a b t c) finish start)
-  by-stay e h = rw (eq-eqb a b e, le-leb (finish + 0) start (omega arith))
-
-  pub by-late : a ≡ b → start < finish → No ≡ joinOf (inTime (linkBy a b t c) finish start)
-  by-late e h = rw (eq-eqb a b e, lt-leb (finish + 0) start (omega arith))
-
-  pub by-none : ¬ (a ≡ b) → t ≡ 0 → No ≡ joinOf (inTime (linkBy a b t c) finish start)
-  by-none e h = rw (ne-eqb a b e, h)
-
-pub by-move : (a b t c finish start : ℕ) → ¬ (a ≡ b) → ¬ (t ≡ 0) → finish + (t - 1) ≤ start → At c ≡ joinOf (inTime (linkBy a b t c) finish start)
-by-move a b zero c finish start e n h = absurd (n refl)
-by-move a b (suc t) c finish start e n h = rw (ne-eqb a b e, le-leb (finish + t) start (omega arith))
-
-pub by-slow : (a b t c finish start : ℕ) → ¬ (a ≡ b) → ¬ (t ≡ 0) → start < finish + (t - 1) → No ≡ joinOf (inTime (linkBy a b t c) finish start)
-by-slow a b zero c finish start e n h = absurd (n refl)
-by-slow a b (suc t) c finish start e n h = rw (ne-eqb a b e, lt-leb (finish + t) start (omega arith))
+-- the move of a line
+pub line-told : (t c : ℕ) → ¬ (t ≡ 0) → moveBy t c ≡ some (moveWith (t - 1) c)
+line-told zero c n = absurd (n refl)
+line-told (suc t) c n = ap (λ k. some (moveWith k c)) (omega arith)
 
 -- the move that the two numbers of a pair tell
-link-told : (a b finish start : ℕ) (o : Option Move) → inTime (linkBy a b (valueOf (λ m. m .ticks + 1) o) (valueOf (λ m. m .cost) o)) finish start ≡ inTime (cond (eqb a b) (some stay) o) finish start
-link-told a b finish start o = go (eqb a b) o
-  where
-    go : (t : Bool) (o : Option Move) → inTime (cond t (some stay) (moveBy (valueOf (λ m. m .ticks + 1) o) (valueOf (λ m. m .cost) o))) finish start ≡ inTime (cond t (some stay) o) finish start
-    go true o = refl
-    go false none = refl
-    go false (some m) = rw add-one
+link-told : (a b finish start : ℕ) (o : Option Move) → inTime (linkBy a b (valueOf (λ m. m .ticks + 1) o) (valueOf (λ m. m .cost) o)) finish start ≡ inTime (lineOr o (withoutLine a b)) finish start
+link-told a b finish start none = refl
+link-told a b finish start (some m) = rw add-one
 
 valueOf-high : (f : Move → ℕ) (B : ℕ) (o : Option Move) → ((m : Move) → o ≡ some m → f m ≤ B) → valueOf f o ≤ B
 valueOf-high f B none h = omega arith
@@ -97,21 +77,14 @@ module _ (b : Book) (fee e : ℕ) (ticks costs instruments starts finishes : Lis
     finish-small = rw finish-at (fair-at .finish-high)
 
   -- the numbers of the move from p to q
-  module _ (p q : ℕ) (p-low : 1 ≤ p) (p-high : p ≤ 16) (q-low : 1 ≤ q) (q-high : q ≤ 16) where
-    pair : Move
-    pair = record { source = p; target = q; ticks = 0; cost = 0 }
+  module _ (p q : ℕ) (r : Instruments p q) where
+    pub ticks-at : getD ticks (place p q) 0 ≡ valueOf (λ m. m .ticks + 1) (moveOf (b .moves) p q)
+    ticks-at = ap (λ l. getD l (place p q) 0) (T .ticks-are) ∙ table-at p q r (λ m. m .ticks + 1) (b .moves)
 
-    cell-at : (f : Move → ℕ) → getD (table f (b .moves)) ((p - 1) * 16 + (q - 1)) 0 ≡ valueOf f (moveOf (b .moves) p q)
-    unfolding pair
-    cell-at f = table-at pair (record { source-low = p-low; source-high = p-high; target-low = q-low; target-high = q-high; ticks-high = omega arith }) f (b .moves)
+    pub costs-at : getD costs (place p q) 0 ≡ valueOf (λ m. m .cost) (moveOf (b .moves) p q)
+    costs-at = ap (λ l. getD l (place p q) 0) (T .costs-are) ∙ table-at p q r (λ m. m .cost) (b .moves)
 
-    pub ticks-at : getD ticks ((p - 1) * 16 + (q - 1)) 0 ≡ valueOf (λ m. m .ticks + 1) (moveOf (b .moves) p q)
-    ticks-at = ap (λ l. getD l ((p - 1) * 16 + (q - 1)) 0) (T .ticks-are) ∙ cell-at (λ m. m .ticks + 1)
-
-    pub costs-at : getD costs ((p - 1) * 16 + (q - 1)) 0 ≡ valueOf (λ m. m .cost) (moveOf (b .moves) p q)
-    costs-at = ap (λ l. getD l ((p - 1) * 16 + (q - 1)) 0) (T .costs-are) ∙ cell-at (λ m. m .cost)
-
-    pub ticks-small : getD ticks ((p - 1) * 16 + (q - 1)) 0 ≤ 1000001
+    pub ticks-small : getD ticks (place p q) 0 ≤ 1000001
     ticks-small = rw ticks-at (valueOf-high (λ m. m .ticks + 1) 1000001 (moveOf (b .moves) p q) (λ m e. (let h = fair-parts m (T .limits .fair-moves p q m e) .ticks-high in omega arith)))
 
   pub join-opening : (i j : ℕ) → i ≡ 0 → At fee ≡ joinOf (predecessorCost b i j)
@@ -133,22 +106,18 @@ module _ (b : Book) (fee e : ℕ) (ticks costs instruments starts finishes : Lis
         go zero h e = absurd (omega arith)
         go (suc i) h e = rw (eq-eqb (suc i) j e)
 
+    played : Instruments (entryAt b i .instrument) (entryAt b j .instrument)
+    played =
+        let g = fair-at i i-low i-high in
+        let h = fair-at j j-low j-high in
+        record { source-low = g .instrument-low; source-high = g .instrument-high; target-low = h .instrument-low; target-high = h .instrument-high }
+
     pub join-told : ¬ (i ≡ j) → (p q : ℕ) → p ≡ getD instruments (i - 1) 0 → q ≡ getD instruments (j - 1) 0
-        → joinOf (inTime (linkBy p q (getD ticks ((p - 1) * 16 + (q - 1)) 0) (getD costs ((p - 1) * 16 + (q - 1)) 0)) (getD finishes (i - 1) 0) (getD starts (j - 1) 0)) ≡ joinOf (predecessorCost b i j)
+        → joinOf (inTime (linkBy p q (getD ticks (place p q) 0) (getD costs (place p q) 0)) (getD finishes (i - 1) 0) (getD starts (j - 1) 0)) ≡ joinOf (predecessorCost b i j)
     join-told n p q w f =
         let u = w ∙ instrument-at i i-low i-high in
         let v = f ∙ instrument-at j j-low j-high in
-        let g = fair-at i i-low i-high in
-        let h = fair-at j j-low j-high in
-        rw (
-          ticks-at p q (rw u (g .instrument-low)) (rw u (g .instrument-high)) (rw v (h .instrument-low)) (rw v (h .instrument-high)),
-          costs-at p q (rw u (g .instrument-low)) (rw u (g .instrument-high)) (rw v (h .instrument-low)) (rw v (h .instrument-high)),
-          finish-at i i-low i-high,
-          start-at j j-low j-high,
-          predecessor-cost-apart n,
-          u,
-          v,
-        )
+        rw (u, v, ticks-at _ _ played, costs-at _ _ played, finish-at i i-low i-high, start-at j j-low j-high, predecessor-cost-apart n)
         (ap joinOf (link-told (entryAt b i .instrument) (entryAt b j .instrument) (entryAt b i .finish) (entryAt b j .start) (moveOf (b .moves) (entryAt b i .instrument) (entryAt b j .instrument))))
 
 -- what can be read for the join from i to j
@@ -160,10 +129,9 @@ pub record CanRead (ticks costs instruments starts finishes : List ℕ) (i j : �
   pub instruments-all : length instruments ≡ 28
   pub starts-all : length starts ≡ 28
   pub finishes-all : length finishes ≡ 28
-  pub i-played : (1 ≤ getD instruments (i - 1) 0) × (getD instruments (i - 1) 0 ≤ 16)
-  pub j-played : (1 ≤ getD instruments (j - 1) 0) × (getD instruments (j - 1) 0 ≤ 16)
+  pub played : Instruments (getD instruments (i - 1) 0) (getD instruments (j - 1) 0)
   pub finish-in : getD finishes (i - 1) 0 ≤ 1000000
-  pub ticks-in : getD ticks ((getD instruments (i - 1) 0 - 1) * 16 + (getD instruments (j - 1) 0 - 1)) 0 ≤ 1000001
+  pub ticks-in : getD ticks (place (getD instruments (i - 1) 0) (getD instruments (j - 1) 0)) 0 ≤ 1000001
 
 pub can-read : {fee e : ℕ} {ticks costs instruments starts finishes : List ℕ} (i j : ℕ) → HasTables fee e ticks costs instruments starts finishes → 1 ≤ i → i ≤ e → 1 ≤ j → j ≤ e
     → CanRead ticks costs instruments starts finishes i j
@@ -174,6 +142,7 @@ can-read {fee} {e} {ticks} {costs} {instruments} {starts} {finishes} i j h il ih
     let n = T .entries-are in
     let u = instrument-in b fee e ticks costs instruments starts finishes T i il (omega arith) in
     let v = instrument-in b fee e ticks costs instruments starts finishes T j jl (omega arith) in
+    let p : Instruments (getD instruments (i - 1) 0) (getD instruments (j - 1) 0) = record { source-low = u .0; source-high = u .1; target-low = v .0; target-high = v .1 } in
     record {
       i-small = omega arith;
       j-small = omega arith;
@@ -182,8 +151,7 @@ can-read {fee} {e} {ticks} {costs} {instruments} {starts} {finishes} i j h il ih
       instruments-all = instruments-long b fee e ticks costs instruments starts finishes T;
       starts-all = starts-long b fee e ticks costs instruments starts finishes T;
       finishes-all = finishes-long b fee e ticks costs instruments starts finishes T;
-      i-played = u;
-      j-played = v;
+      played = p;
       finish-in = finish-small b fee e ticks costs instruments starts finishes T i il (omega arith);
-      ticks-in = ticks-small b fee e ticks costs instruments starts finishes T (getD instruments (i - 1) 0) (getD instruments (j - 1) 0) (u .0) (u .1) (v .0) (v .1);
+      ticks-in = ticks-small b fee e ticks costs instruments starts finishes T _ _ p;
     }

@@ -1,13 +1,11 @@
 -- The cost of a join, or that there is none.
 use mathlib.Core.Path.{_≡_}
-use mathlib.Core.Bool.{cond}
 use mathlib.Core.Option.{Option, none, some}
 use mathlib.Core.List.{List}
 use Prim.Native.Nat.{ℕ, zero, suc}
-use lib.Dec.{eqb}
 use Rattle.book_lines.specs.declared.moves.Move.{Move}
 use Rattle.book_form.specs.Book.{Book}
-use Rattle.way_theory.specs.Follow.{stay}
+use Rattle.way_theory.specs.Follow.{withoutLine, lineOr}
 use Rattle.way_theory.specs.Ways.{predecessorCost}
 use Rattle.way_joins.specs.declared.Join.{Join}
 use Rattle.way_joins.specs.declared.Join.the-variants.{No, At}
@@ -17,13 +15,17 @@ abbrev pub joinOf : Option ℕ → Join
 joinOf none = No
 joinOf (some c) = At c
 
--- a move as the tables hold it: t is one more than its ticks, and 0 where there is none
+-- a move that takes these ticks and costs this
+abbrev pub moveWith : ℕ → ℕ → Move
+moveWith ticks cost = record { source = 0; target = 0; ticks = ticks; cost = cost }
+
+-- a move as the tables hold it: t is one more than its ticks, and 0 where there is no line
 abbrev pub moveBy : ℕ → ℕ → Option Move
 moveBy zero c = none
-moveBy (suc t) c = some (record { source = 0; target = 0; ticks = t; cost = c })
+moveBy (suc t) c = some (moveWith t c)
 
 abbrev pub linkBy : ℕ → ℕ → ℕ → ℕ → Option Move
-linkBy a b t c = cond (eqb a b) (some stay) (moveBy t c)
+linkBy a b t c = lineOr (moveBy t c) (withoutLine a b)
 
 -- the join from i to j, or the opening of j where i is 0, of each book that the tables hold
 pub record Joins (fee e : ℕ) (ticks costs instruments starts finishes : List ℕ) (i j : ℕ) (r : Join) : Type 0 where

@@ -1,9 +1,11 @@
 // Whether an entry of a book may follow another, and what the join costs.
+use book_lines::moves::place_of;
 ghost use mathlib.Core.Path.{_≡_};
+ghost use mathlib.Core.Option.{some};
 ghost use Prim.Native.Nat.{_≤_};
-ghost use Rattle.way_theory.specs.Follow.{inTime};
+ghost use Rattle.way_theory.specs.Follow.{stay, lineOr, inTime};
 ghost use Rattle.way_joins.specs.Tables.{HasTables};
-ghost use Rattle.way_joins.specs.Joins.{joinOf, linkBy, Joins};
+ghost use Rattle.way_joins.specs.Joins.{joinOf, moveWith, moveBy, linkBy, Joins};
 
 // The cost of a join, or that there is none.
 pub enum Join {
@@ -11,24 +13,40 @@ pub enum Join {
     At(u32),
 }
 
-// The join from instrument a to b: t is one more than the ticks of the move, 0 for no move, and c its cost.
+// A join that takes these ticks and costs this, if there is time.
+fn in_time(ticks: u32, cost: u32, finish: u32, start: u32) -> Join
+    requires { ⌜ (ticks ≤ 1000000) × (finish ≤ 1000000) ⌝ }
+    ensures { λ r. ⌜ r ≡ joinOf (inTime (some (moveWith ticks cost)) finish start) ⌝ }
+{
+    if finish + ticks <= start {
+        return Join::At(cost);
+    }
+    Join::No
+}
+
+// The join on one instrument: t is one more than the ticks of its line, 0 for no line, and c its cost.
+fn stay_by(t: u32, c: u32, finish: u32, start: u32) -> Join
+    requires { ⌜ (t ≤ 1000001) × (finish ≤ 1000000) ⌝ }
+    ensures { λ r. ⌜ r ≡ joinOf (inTime (lineOr (moveBy t c) (some stay)) finish start) ⌝ }
+{
+    if t == 0 {
+        return in_time(0, 0, finish, start);
+    }
+    in_time(t - 1, c, finish, start)
+}
+
+// The join from instrument a to b, by the same two numbers of their line.
 fn join_by(a: u32, b: u32, t: u32, c: u32, finish: u32, start: u32) -> Join
     requires { ⌜ (t ≤ 1000001) × (finish ≤ 1000000) ⌝ }
     ensures { λ r. ⌜ r ≡ joinOf (inTime (linkBy a b t c) finish start) ⌝ }
 {
     if a == b {
-        if finish <= start {
-            return Join::At(0);
-        }
-        return Join::No;
+        return stay_by(t, c, finish, start);
     }
     if t == 0 {
         return Join::No;
     }
-    if finish + (t - 1) <= start {
-        return Join::At(c);
-    }
-    Join::No
+    in_time(t - 1, c, finish, start)
 }
 
 // The join from entry i to entry j; from 0, the opening of j.
@@ -54,7 +72,7 @@ pub fn join_of<'a>(
     }
     let a = instruments[i - 1];
     let b = instruments[j - 1];
-    let place = ((a - 1) * 16 + (b - 1)) as usize;
+    let place = place_of(a, b);
     join_by(
         a,
         b,

@@ -13,49 +13,58 @@ use Rattle.net_model.specs.Network.{low, up, balance}
 use Rattle.net_model.specs.Accepted.{AcceptedNet}
 use Rattle.book_lines.specs.declared.moves.Move.{Move}
 use Rattle.book_lines.specs.Questions.{moveOf}
+use Rattle.book_lines.proofs.Table.{fair-parts}
 use Rattle.book_form.specs.Book.{Book}
 use Rattle.book_form.specs.WithinLimits.{WithinLimits}
-use Rattle.way_theory.specs.Follow.{size, entryAt, stay, link, arrival, inTime}
+use Rattle.way_theory.specs.Follow.{size, entryAt, stay, withoutLine, lineOr, link, road, arrival, inTime}
 use Rattle.way_theory.specs.Ways.{orNone}
 use Rattle.way_theory.specs.BookNet.{arcCost, bookArcs, bookNet}
 use Rattle.way_theory.proofs.Nodes.{NodeKind, origin, odd, even, last, node-kind, noBookArc, nodes-count, balance-inner, balance-last}
 use Rattle.way_theory.proofs.Arcs.{arc-holds, part-holds, well-formed}
-use Rattle.way_theory.proofs.Fair.{cost-high}
 use Rattle.way_theory.proofs.Size.{arcs-few, nodes-few}
 
+-- a move that costs at most 1,000,000, if there is one
+abbrev CostSmall : Option Move → Type 0
+CostSmall none = Unit {0}
+CostSmall (some m) = m .cost ≤ 1000000
+
+without-line-small : (t : Bool) → CostSmall (cond t (some stay) none)
+without-line-small true = omega arith
+without-line-small false = tt
+
+line-or-small : (o p : Option Move) → CostSmall o → CostSmall p → CostSmall (lineOr o p)
+line-or-small none p h k = k
+line-or-small (some m) p h k = h
+
+apart-small : (t : Bool) (o : Option Move) → CostSmall o → CostSmall (cond t none o)
+apart-small true o h = tt
+apart-small false o h = h
+
+in-time-small : (o : Option Move) (finish start : ℕ) → CostSmall o → orNone (inTime o finish start) ≤ 1000000
+in-time-small none finish start h = omega arith
+in-time-small (some m) finish start h = go (leb (arrival m finish) start)
+  where
+    go : (t : Bool) → orNone (cond t (some (m .cost)) none) ≤ 1000000
+    go true = h
+    go false = omega arith
+
 module _ (book : Book) (ok : WithinLimits book) where
-  move-small : (a b finish start : ℕ) → orNone (inTime (moveOf (book .moves) a b) finish start) ≤ 1000000
-  move-small a b finish start = go (moveOf (book .moves) a b) refl
+  move-small : (a b : ℕ) → CostSmall (moveOf (book .moves) a b)
+  move-small a b = go (moveOf (book .moves) a b) refl
     where
-      pick : (t : Bool) (m : Move) → m .cost ≤ 1000000 → orNone (cond t (some (m .cost)) none) ≤ 1000000
-      pick true m h = h
-      pick false m h = omega arith
+      go : (o : Option Move) → moveOf (book .moves) a b ≡ o → CostSmall o
+      go none e = tt
+      go (some m) e = fair-parts m (ok .fair-moves a b m e) .cost-high
 
-      go : (o : Option Move) → moveOf (book .moves) a b ≡ o → orNone (inTime o finish start) ≤ 1000000
-      go none e = omega arith
-      go (some m) e = pick (leb (arrival m finish) start) m (cost-high m (ok .fair-moves a b m e))
+  link-small : (a b : ℕ) → CostSmall (link (book .moves) a b)
+  link-small a b = line-or-small (moveOf (book .moves) a b) (withoutLine a b) (move-small a b) (without-line-small (eqb a b))
 
-  link-small : (a b finish start : ℕ) → orNone (inTime (link (book .moves) a b) finish start) ≤ 1000000
-  link-small a b finish start = go (eqb a b) (move-small a b finish start)
-    where
-      pick : (t : Bool) → orNone (cond t (some 0) none) ≤ 1000000
-      pick true = omega arith
-      pick false = omega arith
-
-      go : (t : Bool) → orNone (inTime (moveOf (book .moves) a b) finish start) ≤ 1000000 → orNone (inTime (cond t (some stay) (moveOf (book .moves) a b)) finish start) ≤ 1000000
-      go true k = pick (leb (arrival stay finish) start)
-      go false k = k
+  road-small : (i j : ℕ) → CostSmall (road book i j)
+  road-small i j = apart-small (eqb i j) _ (link-small (entryAt book i .instrument) (entryAt book j .instrument))
 
   pub arc-cost-small : (i j : ℕ) → arcCost book i j ≤ 1000000
   arc-cost-small zero j = ok .fee-high
-  arc-cost-small (suc i) j = go (eqb (suc i) j) (link-small (entryAt book (suc i) .instrument) (entryAt book j .instrument) (entryAt book (suc i) .finish) (entryAt book j .start))
-    where
-      road : Option ℕ
-      road = inTime (link (book .moves) (entryAt book (suc i) .instrument) (entryAt book j .instrument)) (entryAt book (suc i) .finish) (entryAt book j .start)
-
-      go : (t : Bool) → orNone road ≤ 1000000 → orNone (cond t none road) ≤ 1000000
-      go true k = omega arith
-      go false k = k
+  arc-cost-small (suc i) j = in-time-small (road book (suc i) j) (entryAt book (suc i) .finish) (entryAt book j .start) (road-small (suc i) j)
 
   fair-cost : (c : ℕ) → c ≤ 1000000 → (negℤ (pos 1000000) ≤ℤ pos c) × (pos c ≤ℤ pos 1000000)
   fair-cost c h = (simp lin (omega arith), simp lin (omega arith))

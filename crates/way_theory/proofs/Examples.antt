@@ -1,4 +1,4 @@
--- Document 01, "Small networks and books": the starred networks and books in one table, with one theorem.
+-- Document 01, "Small networks and books", the starred networks and books, and books of 02, in one table with one theorem.
 use mathlib.Core.Path.{_≡_, refl, ap}
 use mathlib.Core.Bool.{Bool, true, false, _&&_}
 use mathlib.Core.List.{List, [], _∷_}
@@ -218,8 +218,54 @@ too-late = record {
   walks = [];
 }
 
+-- 02, request 1: two entries on the timpani with a change of mallets between them that takes a tick too many
+abbrev pub mallets-too-short : Example
+mallets-too-short = record {
+  input = book (bytes "(book\n(players 2)\n(fee 20)\n(move 1 1 48 2)\n(entry (name roll) 1 0 96)\n(entry (name strokes) 1 143 240)\n(entry (name roll2) 1 288 384)\n)\n");
+  items = (0 ∷ 0 ∷ 1 ∷ []) ∷ (0 ∷ 0 ∷ 2 ∷ []) ∷ [];
+  answer = item (0 ∷ 0 ∷ 1 ∷ []);
+  cost = pos 42;
+  prices = [];
+  walks = [];
+}
+
+-- it fits to the tick
+abbrev pub mallets-to-the-tick : Example
+mallets-to-the-tick = record {
+  input = book (bytes "(book\n(players 2)\n(fee 20)\n(move 1 1 48 2)\n(entry (name roll) 1 0 96)\n(entry (name strokes) 1 144 240)\n(entry (name roll2) 1 288 384)\n)\n");
+  items = (0 ∷ 1 ∷ 2 ∷ []) ∷ [];
+  answer = item (0 ∷ 1 ∷ 2 ∷ []);
+  cost = pos 24;
+  prices = [];
+  walks = [];
+}
+
+-- it costs more than a player
+abbrev pub mallets-cost : Example
+mallets-cost = record {
+  input = book (bytes "(book\n(players 2)\n(fee 20)\n(move 1 1 48 25)\n(entry (name roll) 1 0 96)\n(entry (name strokes) 1 144 240)\n(entry (name roll2) 1 288 384)\n)\n");
+  items = (0 ∷ 0 ∷ 1 ∷ []) ∷ (0 ∷ 0 ∷ 2 ∷ []) ∷ (0 ∷ 1 ∷ 0 ∷ []) ∷ [];
+  answer = item (0 ∷ 0 ∷ 1 ∷ []);
+  cost = pos 65;
+  prices = [];
+  walks = [];
+}
+
+-- it bears on no other instrument
+abbrev pub mallets-timpani-alone : Example
+mallets-timpani-alone = record {
+  input = book (bytes "(book\n(players 2)\n(fee 20)\n(move 1 1 48 2)\n(entry (name roll) 1 0 96)\n(entry (name strokes) 1 144 240)\n(entry (name snare) 2 0 96)\n(entry (name snare2) 2 96 192)\n)\n");
+  items = (0 ∷ 1 ∷ 0 ∷ 3 ∷ []) ∷ [];
+  answer = item (0 ∷ 1 ∷ 0 ∷ 3 ∷ []);
+  cost = pos 42;
+  prices = [];
+  walks = [];
+}
+
 abbrev pub exampleTable : List Example
-exampleTable = no-arcs ∷ unbalanced ∷ loop ∷ cheap-loop ∷ parallel ∷ opposite ∷ fixed-arc ∷ negative-cycle ∷ zero-cycle ∷ two-players ∷ one-player ∷ too-late ∷ []
+exampleTable =
+    no-arcs ∷ unbalanced ∷ loop ∷ cheap-loop ∷ parallel ∷ opposite ∷ fixed-arc ∷ negative-cycle ∷ zero-cycle ∷ two-players ∷ one-player ∷ too-late
+    ∷ mallets-too-short ∷ mallets-to-the-tick ∷ mallets-cost ∷ mallets-timpani-alone ∷ []
 
 -- the same as tests
 abbrev isSmall : ℕ → ℤ → Bool

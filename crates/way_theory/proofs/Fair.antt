@@ -1,18 +1,12 @@
--- What questions 14 and 15 leave of a move and of an entry.
+-- What question 15 leaves of an entry.
 use mathlib.Core.Path.{_≡_}
-use mathlib.Core.Bool.{true, not, _&&_}
+use mathlib.Core.Bool.{true, _&&_}
 use Prim.Native.Nat.{_≤_, _<_}
-use lib.Dec.{eqb, leb, ltb}
+use lib.Dec.{leb, ltb}
 use borrow.Author.Tests.{leb-true, ltb-true}
 use Rattle.laws.specs.Tests.{and-true}
-use Rattle.book_lines.specs.declared.moves.Move.{Move}
 use Rattle.book_lines.specs.Lines.{Entry}
-use Rattle.book_lines.specs.Questions.{fairMove, fairEntry}
-
-pub cost-high : (m : Move) → fairMove m ≡ true → m .cost ≤ 1000000
-cost-high m e =
-    leb-true (m .cost) 1000000
-    (and-true (leb 1 (m .source) && leb (m .source) 16 && leb 1 (m .target) && leb (m .target) 16 && not (eqb (m .source) (m .target)) && leb (m .ticks) 1000000) (leb (m .cost) 1000000) e .1)
+use Rattle.book_lines.specs.Questions.{fairEntry}
 
 pub record FairEntry (e : Entry) : Type 0 where
   pub instrument-low : 1 ≤ e .instrument

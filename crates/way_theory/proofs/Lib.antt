@@ -15,3 +15,5 @@ pub mod Examples
 pub mod Fair
 pub mod Size
 pub mod Accepted
+pub mod ByRule
+pub mod OldRule

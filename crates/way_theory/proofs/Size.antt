@@ -5,7 +5,7 @@ use mathlib.Core.Option.{Option, none, some}
 use mathlib.Core.List.{[], map}
 use Prim.Native.Nat.{ℕ, zero, suc, _+_, _-_, _≤_, _<_}
 use native.Mathlib.Omega.{arith}
-use lib.Dec.{eqb, leb}
+use lib.Dec.{leb}
 use lib.ListN.{length, length-map, length-append}
 use borrow.Author.Tests.{leb-true}
 use Rattle.laws.specs.Members.{_∈_, keep, keepIf}
@@ -16,7 +16,7 @@ use Rattle.net_model.specs.Network.{nodes, arcs}
 use Rattle.book_lines.specs.declared.moves.Move.{Move}
 use Rattle.book_form.specs.Book.{Book}
 use Rattle.book_form.specs.WithinLimits.{WithinLimits}
-use Rattle.way_theory.specs.Follow.{size, entryAt, link, arrival, inTime, mayFollow}
+use Rattle.way_theory.specs.Follow.{size, entryAt, road, arrival, inTime, mayFollow}
 use Rattle.way_theory.specs.Ways.{given?, permits, oneIf}
 use Rattle.way_theory.specs.FullWays.{numbers}
 use Rattle.way_theory.specs.BookNet.{down, sources, joinArc, joinArcs, bookNet}
@@ -33,14 +33,7 @@ in-time (some m) finish start e = go (leb (arrival m finish) start) refl e
     go false q e = absurd (let z : _≡_ {A = ℕ} 0 1 = cc in omega arith)
 
 follow-time : (book : Book) (i j : ℕ) → given? (mayFollow book i j) ≡ true → entryAt book i .finish ≤ entryAt book j .start
-follow-time book i j h = go (eqb i j) h
-  where
-    road : Option Move
-    road = link (book .moves) (entryAt book i .instrument) (entryAt book j .instrument)
-
-    go : (t : Bool) → given? (cond t none (inTime road (entryAt book i .finish) (entryAt book j .start))) ≡ true → entryAt book i .finish ≤ entryAt book j .start
-    go true h = absurd (let z : _≡_ {A = ℕ} 0 1 = cc in omega arith)
-    go false h = in-time road (entryAt book i .finish) (entryAt book j .start) h
+follow-time book i j h = in-time (road book i j) (entryAt book i .finish) (entryAt book j .start) h
 
 keep-count : (p : ℕ → Bool) (n : ℕ) → length (keep p (down n)) ≡ oneIf (p 0) + totalOf (λ i. oneIf (p i)) (from n 1)
 keep-count p zero = go (p 0)

@@ -22,13 +22,26 @@ entryAt book j = getD (book .entries) (j - 1) nobody
 -- "Entry j may follow i (i ≠ j) if both are on one instrument and F of i ≤ S of j, at cost 0; or if a move leads from i's instrument
 -- to j's and F of i + T ≤ S of j, at cost C. A missing move means it can't."
 
--- to stay on one instrument takes no ticks and costs nothing
+-- 02, request 1: "a move with A equal to B is allowed and states the ticks and cost of staying on that instrument. Where no such line
+-- stands, staying still takes 0 ticks and costs 0."
 abbrev pub stay : Move
 stay = record { source = 0; target = 0; ticks = 0; cost = 0 }
 
+-- how a player goes from instrument a to instrument b where no line says it
+abbrev pub withoutLine : ℕ → ℕ → Option Move
+withoutLine a b = cond (eqb a b) (some stay) none
+
+abbrev pub lineOr : Option Move → Option Move → Option Move
+lineOr none o = o
+lineOr (some m) o = some m
+
 -- how a player goes from instrument a to instrument b
 abbrev pub link : List Move → ℕ → ℕ → Option Move
-link moves a b = cond (eqb a b) (some stay) (moveOf moves a b)
+link moves a b = lineOr (moveOf moves a b) (withoutLine a b)
+
+-- how a player goes from entry i to entry j; no entry follows itself
+abbrev pub road : Book → ℕ → ℕ → Option Move
+road book i j = cond (eqb i j) none (link (book .moves) (entryAt book i .instrument) (entryAt book j .instrument))
 
 -- when a player is there who goes at the tick `finish`: "F of i + T"
 abbrev pub arrival : Move → ℕ → ℕ
@@ -41,6 +54,4 @@ inTime (some m) finish start = cond (leb (arrival m finish) start) (some (m .cos
 
 -- the cost of the join from i to j, if j may follow i
 abbrev pub mayFollow : Book → ℕ → ℕ → Option ℕ
-mayFollow book i j =
-    cond (eqb i j) none
-    (inTime (link (book .moves) (entryAt book i .instrument) (entryAt book j .instrument)) (entryAt book i .finish) (entryAt book j .start))
+mayFollow book i j = inTime (road book i j) (entryAt book i .finish) (entryAt book j .start)

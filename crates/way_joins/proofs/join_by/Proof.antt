@@ -1,22 +1,24 @@
+-- `way_joins::join_by` meets its contract: on one instrument by `stay_by`, else by the line alone.
+use native.Mathlib.Omega.{arith}
 use borrow.Author.Needs.{needs}
-use Rattle.way_joins.proofs.Lookup.{by-stay, by-late, by-none, by-move, by-slow}
+use borrow.Author.Tests.{eq-eqb, ne-eqb}
+use Rattle.way_joins.proofs.Lookup.{line-told}
 use Rattle.way_joins.proofs.join_by.Statement.{statement}
 use Rattle.way_joins.proofs.join_by.Tie as tie
 
 returns : tie.Need-returns
-returns c = by-stay _ _ (c .before .before .args .t) (c .before .before .args .c) _ _ (c .before .if1 .taken) (c .if2 .taken)
+returns c = rw (eq-eqb _ _ (c .before .if1 .taken)) (c .stay-by .ensures)
 
 returns-2 : tie.Need-returns-2
-returns-2 c = by-late _ _ (c .before .before .args .t) (c .before .before .args .c) _ _ (c .before .if1 .taken) (c .if2 .left)
+returns-2 c = rw (ne-eqb _ _ (c .before .if1 .left), c .if2 .taken)
+
+in-time-requires : tie.Need-in-time-requires
+in-time-requires c κs =
+    let s : tie.Start = search in
+    (omega (arith, c .if2 .left, s .pre .0), s .pre .1)
 
 returns-3 : tie.Need-returns-3
-returns-3 c = by-none _ _ _ _ _ _ (c .before .if1 .left) (c .if3 .taken)
-
-returns-4 : tie.Need-returns-4
-returns-4 c = by-move _ _ _ _ _ _ (c .before .before .if1 .left) (c .before .if3 .left) (c .if4 .taken)
-
-returns-5 : tie.Need-returns-5
-returns-5 c = by-slow _ _ _ _ _ _ (c .before .before .if1 .left) (c .before .if3 .left) (c .if4 .left)
+returns-3 c = rw (line-told _ (c .before .before .before .args .c) (c .before .if2 .left)) (c .in-time .ensures)
 
 pub join-by-spec : {M : Type 1} → statement M
-join-by-spec = tie.close (tie.spec returns returns-2 returns-3 (λ c. search needs) (λ c. search needs) returns-4 returns-5)
+join-by-spec = tie.close (tie.spec (λ c κs. search needs) returns returns-2 (λ c. search needs) in-time-requires returns-3)

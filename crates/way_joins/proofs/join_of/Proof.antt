@@ -1,3 +1,4 @@
+-- `way_joins::join_of` meets its contract: what is looked up is that of each book with these tables.
 use mathlib.Core.Path.{refl, _∙_}
 use native.Mathlib.Omega.{arith}
 use borrow.Author.Needs.{needs}
@@ -26,35 +27,28 @@ shared-slice-read-a c = omega (arith, room (c .before))
 shared-slice-read-b : tie.Need-shared-slice-read-b
 shared-slice-read-b c = omega (arith, room (c .before .before))
 
-sub-place : tie.Need-sub-place
-sub-place c = omega (arith, room (c .before .before))
-
-mul-place : tie.Need-mul-place
-mul-place c = omega (arith, room (c .before .before))
-
-sub-place-2 : tie.Need-sub-place-2
-sub-place-2 c = omega (arith, room (c .before .before))
-
-add-place : tie.Need-add-place
-add-place c = omega (arith, room (c .before .before))
-
-cast-place : tie.Need-cast-place
-cast-place c = omega (arith, room (c .before .before))
+-- `place` is that of the two instruments, and within the tables
+place-of-requires : tie.Need-place-of-requires
+place-of-requires c κs =
+    let else2 : tie.Else2 = search in
+    let p = room else2 .played in (p .source-low, p .source-high, p .target-low, p .target-high)
 
 mul-join-by : tie.Need-mul-join-by
-mul-join-by c = omega (arith, room (c .before .before))
+mul-join-by c = omega (arith, c .place-of .ensures .1)
 
 shared-slice-read-join-by : tie.Need-shared-slice-read-join-by
-shared-slice-read-join-by c = omega (arith, room (c .before .before .before))
+shared-slice-read-join-by c = omega (arith, c .before .place-of .ensures .1, room (c .before .before .before .before))
 
 mul-join-by-2 : tie.Need-mul-join-by-2
-mul-join-by-2 c = omega (arith, room (c .before .before .before))
+mul-join-by-2 c = omega (arith, c .before .place-of .ensures .1)
 
 shared-slice-read-join-by-2 : tie.Need-shared-slice-read-join-by-2
-shared-slice-read-join-by-2 c = omega (arith, room (c .before .before .before .before))
+shared-slice-read-join-by-2 c = omega (arith, c .before .before .place-of .ensures .1, room (c .before .before .before .before .before))
 
 shared-slice-read-join-by-3 : tie.Need-shared-slice-read-join-by-3
-shared-slice-read-join-by-3 c = omega (arith, room (c .before .before .before .before .before))
+shared-slice-read-join-by-3 c =
+    let else2 : tie.Else2 = search in
+    omega (arith, room else2)
 
 shared-slice-read-join-by-4 : tie.Need-shared-slice-read-join-by-4
 shared-slice-read-join-by-4 c =
@@ -63,14 +57,18 @@ shared-slice-read-join-by-4 c =
 
 join-by-requires : tie.Need-join-by-requires
 join-by-requires c κs =
+    let placed : tie.After-place-of = search in
     let else2 : tie.Else2 = search in
-    let r = room else2 in (r .ticks-in, r .finish-in)
+    let r = room else2 in (rw (placed .place-of .ensures .0) (r .ticks-in), r .finish-in)
 
 returns-3 : tie.Need-returns-3
 returns-3 c =
+    let placed : tie.After-place-of = search in
     let t : tie.Else2 = search in
     let s = start t in
-    record { each = λ b T. c .join-by .ensures ∙ join-told b _ _ _ _ _ _ _ T _ _ (omega (arith, t .before .if1 .left)) (omega (arith, s .pre .1, T .entries-are)) (s .pre .2) (omega (arith, s .pre .3, T .entries-are)) (t .if2 .left) _ _ refl refl }
+    record {
+      each = λ b T. c .join-by .ensures ∙ rw (placed .place-of .ensures .0) (join-told b _ _ _ _ _ _ _ T _ _ (omega (arith, t .before .if1 .left)) (omega (arith, s .pre .1, T .entries-are)) (s .pre .2) (omega (arith, s .pre .3, T .entries-are)) (t .if2 .left) _ _ refl refl);
+    }
 
 pub join-of-spec : {M : Type 1} → statement M
 join-of-spec =
@@ -78,18 +76,22 @@ join-of-spec =
     (tie.spec
     returns
     returns-2
-    (λ c. search needs) (λ c. search needs) shared-slice-read-a
-    (λ c. search needs) (λ c. search needs) shared-slice-read-b
-    sub-place
-    mul-place
-    sub-place-2
-    add-place
-    cast-place
+    (λ c. search needs)
+    (λ c. search needs)
+    shared-slice-read-a
+    (λ c. search needs)
+    (λ c. search needs)
+    shared-slice-read-b
+    place-of-requires
     mul-join-by
     shared-slice-read-join-by
     mul-join-by-2
     shared-slice-read-join-by-2
-    (λ c. search needs) (λ c. search needs) shared-slice-read-join-by-3
-    (λ c. search needs) (λ c. search needs) shared-slice-read-join-by-4
+    (λ c. search needs)
+    (λ c. search needs)
+    shared-slice-read-join-by-3
+    (λ c. search needs)
+    (λ c. search needs)
+    shared-slice-read-join-by-4
     join-by-requires
     returns-3)

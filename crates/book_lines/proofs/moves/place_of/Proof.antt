@@ -1,25 +1,34 @@
--- `book_lines::moves::place_of` meets its contract: the instruments of a fair move are 1 to 16.
+-- `book_lines::moves::place_of` meets its contract.
 use mathlib.Core.Path.{refl}
 use native.Mathlib.Omega.{arith}
 use borrow.Author.Needs.{needs}
-use Rattle.book_lines.proofs.Table.{fair-parts}
 use Rattle.book_lines.proofs.moves.place_of.Statement.{statement}
 use Rattle.book_lines.proofs.moves.place_of.Tie as tie
 
 sub-result : tie.Need-sub-result
-sub-result c = omega (arith, fair-parts (c .before .args .m) (c .before .pre))
+sub-result c =
+    let s : tie.Start = search in
+    omega (arith, s .pre)
 
 mul-result : tie.Need-mul-result
-mul-result c = omega (arith, fair-parts (c .before .args .m) (c .before .pre))
+mul-result c =
+    let s : tie.Start = search in
+    omega (arith, s .pre)
 
 sub-result-2 : tie.Need-sub-result-2
-sub-result-2 c = omega (arith, fair-parts (c .before .before .args .m) (c .before .before .pre))
+sub-result-2 c =
+    let s : tie.Start = search in
+    omega (arith, s .pre)
 
 add-result : tie.Need-add-result
-add-result c = omega (arith, fair-parts (c .before .before .args .m) (c .before .before .pre))
+add-result c =
+    let s : tie.Start = search in
+    omega (arith, s .pre)
 
 returns : tie.Need-returns
-returns c = (refl, omega (arith, fair-parts (c .before .before .args .m) (c .before .before .pre)))
+returns c =
+    let s : tie.Start = search in
+    (refl, omega (arith, s .pre))
 
 pub place-of-spec : {M : Type 1} → statement M
 place-of-spec =

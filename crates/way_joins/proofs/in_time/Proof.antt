@@ -1,0 +1,14 @@
+-- `way_joins::in_time` meets its contract.
+use borrow.Author.Needs.{needs}
+use borrow.Author.Tests.{le-leb, lt-leb}
+use Rattle.way_joins.proofs.in_time.Statement.{statement}
+use Rattle.way_joins.proofs.in_time.Tie as tie
+
+returns : tie.Need-returns
+returns c = rw (le-leb _ _ (c .if1 .taken))
+
+returns-2 : tie.Need-returns-2
+returns-2 c = rw (lt-leb _ _ (c .if1 .left))
+
+pub in-time-spec : {M : Type 1} → statement M
+in-time-spec = tie.close (tie.spec (λ c. search needs) returns returns-2)
