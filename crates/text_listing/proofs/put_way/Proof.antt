@@ -5,13 +5,13 @@ use mathlib.Core.List.{List, _++_}
 use native.Mathlib.Omega.{arith}
 use lib.ListN.{length, getD, take, length-append}
 use lib.Seq.{take-all}
-use Rattle.text_read.specs.Reader.{bytes}
-use Rattle.text_write.specs.Lines.{decimal, spaced, wayLine}
-use Rattle.text_write.specs.Appended.{Appended}
-use Rattle.text_write.proofs.Pieces.{appended-none, appended-then, appended-long, room-first, room-next}
-use Rattle.text_write.proofs.Spaced.{spaced-more, spaced-front}
-use Rattle.text_write.proofs.put_way.Statement.{statement}
-use Rattle.text_write.proofs.put_way.Tie as tie
+use Rattle.text_read.specs.Heads.{bytes, space, lineEnd, wayHead}
+use Rattle.text_write.specs.Decimal.{decimal}
+use Rattle.text_listing.specs.Lines.{spaced, wayLine}
+use Rattle.laws.specs.Appended.{Appended, appended-none, appended-then, appended-long, room-first, room-next}
+use Rattle.text_listing.proofs.Spaced.{spaced-more, spaced-front}
+use Rattle.text_listing.proofs.put_way.Statement.{statement}
+use Rattle.text_listing.proofs.put_way.Tie as tie
 
 -- the first i predecessors stand in o, from the place k to the place m
 record Put (b : List ℕ) (k : ℕ) (way o : List ℕ) (m i : ℕ) : Type 0 where
@@ -24,11 +24,11 @@ put-none b k way h = record { put = appended-none b k h; some = omega arith }
 
 module _ {b : List ℕ} {k : ℕ} {way o : List ℕ} {m i : ℕ} (d : Put b k way o m i) where
   -- room for one more
-  room-more : k + length (spaced way) ≤ length b → i < length way → m + length (bytes " " ++ decimal (getD way i 0)) ≤ length o
+  room-more : k + length (spaced way) ≤ length b → i < length way → m + length (space ++ decimal (getD way i 0)) ≤ length o
   room-more h g =
-      room-next (spaced (take i way)) (bytes " " ++ decimal (getD way i 0)) (omega (arith, ap length (spaced-more way i g), spaced-front way (i + 1))) (d .put)
+      room-next (spaced (take i way)) (space ++ decimal (getD way i 0)) (omega (arith, ap length (spaced-more way i g), spaced-front way (i + 1))) (d .put)
 
-  put-more : {e : List ℕ} {n : ℕ} → i < length way → Appended o m (bytes " " ++ decimal (getD way i 0)) e n → Put b k way e n (i + 1)
+  put-more : {e : List ℕ} {n : ℕ} → i < length way → Appended o m (space ++ decimal (getD way i 0)) e n → Put b k way e n (i + 1)
   put-more g f = record { put = rw (spaced-more way i g) (appended-then (d .put) f); some = omega arith }
 
   put-all : length way ≤ i → Appended b k (spaced way) o m
@@ -47,10 +47,10 @@ put-text-requires : tie.Need-put-text-requires Inv-loop μ-loop
 unfolding bytes wayLine
 put-text-requires c κs =
     let start = c .before .before .before .before in
-    room-first (bytes "(way") (spaced (start .args .way .now)) _ _ (room-first (bytes "(way" ++ spaced (start .args .way .now)) (bytes ")\n") _ _ (start .pre))
+    room-first wayHead (spaced (start .args .way .now)) _ _ (room-first (wayHead ++ spaced (start .args .way .now)) lineEnd _ _ (start .pre))
 
 -- the head is written, and the rest has room
-headed : (c : tie.After-put-text Inv-loop μ-loop) → Appended (c .before .before .before .before .before .args .out .now) (c .before .before .before .before .before .args .at) (bytes "(way") (c .put-text .last .0) (c .put-text .result)
+headed : (c : tie.After-put-text Inv-loop μ-loop) → Appended (c .before .before .before .before .before .args .out .now) (c .before .before .before .before .before .args .at) wayHead (c .put-text .last .0) (c .put-text .result)
 unfolding bytes
 headed c = c .put-text .ensures
 
@@ -59,7 +59,7 @@ unfolding bytes wayLine
 room c =
     let start = c .before .before .before .before .before in
     let l = spaced (start .args .way .now) in
-    omega (arith, start .pre, length-append (bytes "(way" ++ l) (bytes ")\n"), length-append (bytes "(way") l, headed c .end, appended-long (headed c))
+    omega (arith, start .pre, length-append (wayHead ++ l) lineEnd, length-append wayHead l, headed c .end, appended-long (headed c))
 
 loop-holds : tie.Need-loop-holds Inv-loop μ-loop
 loop-holds c = put-none _ _ _ (omega (arith, room (c .before .before)))

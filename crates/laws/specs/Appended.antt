@@ -1,4 +1,4 @@
--- Pieces written one after another.
+-- A piece written into a list from a place on, and pieces written one after another.
 use mathlib.Core.Path.{_≡_, refl, sym, ap, _∙_}
 use mathlib.Core.List.{List, [], _∷_, _++_, append-assoc, append-nil}
 use Prim.Native.Nat.{ℕ, _+_, _≤_, _<_}
@@ -6,13 +6,18 @@ use native.Mathlib.Omega.{arith}
 use native.Mathlib.Numerals.{add-one}
 use lib.ListN.{length, take, drop, set, length-append, length-drop, take-append-drop}
 use lib.Seq.{length-take-le, take-at, drop-append-add, drop-drop, set-split, append-snoc}
-use Rattle.text_write.specs.Appended.{Appended}
+
+-- `after` is `before` with `piece` in it from the place `at` to the place r; all else is as it was
+pub record Appended (before : List ℕ) (at : ℕ) (piece after : List ℕ) (r : ℕ) : Type 0 where
+  pub end : r ≡ at + length piece
+  pub within : r ≤ length before
+  pub is : after ≡ take at before ++ piece ++ drop r before
 
 pub appended-none : (l : List ℕ) (at : ℕ) → at ≤ length l → Appended l at [] l at
 appended-none l at h = record { end = omega arith; within = h; is = rw append-nil (sym (take-append-drop at l)) }
 
-pub appended-byte : (l : List ℕ) (at x : ℕ) → at < length l → Appended l at (x ∷ []) (set l at x) (at + 1)
-appended-byte l at x h = record { end = refl; within = omega arith; is = rw add-one (set-split l at x h ∙ sym (append-snoc (take at l) x _)) }
+pub appended-one : (l : List ℕ) (at x : ℕ) → at < length l → Appended l at (x ∷ []) (set l at x) (at + 1)
+appended-one l at x h = record { end = refl; within = omega arith; is = rw add-one (set-split l at x h ∙ sym (append-snoc (take at l) x _)) }
 
 module _ {b : List ℕ} {at : ℕ} {p c : List ℕ} {m : ℕ} (d : Appended b at p c m) where
   front-long : length (take at b ++ p) ≡ m
