@@ -11,7 +11,7 @@ use Rattle.way_sheets.specs.Lines.{partLine, playLine, gapLine}
 abbrev pub playOf : Book → ℕ → List ℕ
 playOf book j = playLine (entryAt book j .name) (entryAt book j .start) (entryAt book j .finish)
 
--- "G being the ticks from one entry's F to the next one's S"
+-- "G being the ticks from one entry's F to the next one's S"; in a part that S is never before the F (`parts-in-time`)
 abbrev pub gap : Book → ℕ → ℕ → ℕ
 gap book i j = entryAt book j .start - entryAt book i .finish
 

@@ -16,7 +16,7 @@ room-of-requires : tie.Need-room-of-requires
 room-of-requires c κs =
     let put : tie.After-admit-book = search in
     let passed : tie.Else1 = search in
-    few _ (held _ _ (put .admit-book .ensures) (passed .if1 .left))
+    omega (arith, few _ (held _ _ (put .admit-book .ensures) (passed .if1 .left)))
 
 returns-2 : tie.Need-returns-2
 returns-2 c =
