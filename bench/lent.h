@@ -5,15 +5,17 @@
 
 struct LentBook {
     std::string text;
-    std::vector<uint8_t> way, listing;
+    std::vector<uint8_t> way, listing, sheets;
 
-    explicit LentBook(const std::string &t, size_t entries = 28) : text(t), way(4 * entries), listing(DESK_LISTING_ROOM) {}
+    explicit LentBook(const std::string &t, size_t entries = 28) : text(t), way(4 * entries), listing(DESK_LISTING_ROOM), sheets(DESK_SHEETS_ROOM) {}
     explicit LentBook(const Book &b) : LentBook(text_of(b), b.entries.size()) {}
     const uint8_t *book() const { return reinterpret_cast<const uint8_t *>(text.data()); }
     desk_reply first() { return desk_first(book(), text.size(), way.data(), way.size()); }
     desk_reply next(std::vector<uint8_t> &to) { return desk_next(book(), text.size(), way.data(), way.size(), to.data(), to.size()); }
     desk_reply count(uint16_t cap) { return desk_count(book(), text.size(), cap); }
     desk_reply list() { return desk_listing(book(), text.size(), listing.data(), listing.size()); }
+    desk_reply sheets_room() { return desk_sheets_room(book(), text.size()); }
+    desk_reply write_sheets() { return desk_sheets(book(), text.size(), way.data(), way.size(), sheets.data(), sheets.size()); }
     desk_span name() { return desk_name(book(), text.size(), 1); }
     uint32_t questions() { return desk_name_refusal(book(), text.size(), 1); }      // 11 to 16, then 19
     std::string last_line() {

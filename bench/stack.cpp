@@ -56,6 +56,8 @@ int main() {
         most.call("`desk_next`", [&] { book.next(to); });
         most.call("`desk_count`", [&] { book.count(100); });
         most.call("`desk_listing`", [&] { book.list(); });
+        most.call("`desk_sheets_room`", [&] { book.sheets_room(); });
+        most.call("`desk_sheets`", [&] { book.write_sheets(); });
         most.call("`desk_name`", [&] { book.name(); });
         most.call("`desk_name_refusal`", [&] { book.questions(); });
     }

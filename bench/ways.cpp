@@ -1,4 +1,4 @@
-// The desk on books of 28 entries: first, next, count, the listing, the questions. Beside each stands the flow engine on the book's network, so
+// The desk on books of 28 entries: first, next, count, the listing, the part sheets, the questions. Beside each stands the flow engine on the book's network, so
 // that the difference is what a book costs.
 #include "lent.h"
 #include "measure.h"
@@ -73,6 +73,30 @@ static void long_lists_of(Table &table, const Named &set) {
         whole(median(lengths))});
 }
 
+// The sheets of the first way, beside next with the same way given, which tests that way too. The sheets have a line for each entry, and take no
+// more than the room.
+static void sheets(Table &table, const Named &set) {
+    std::vector<double> rooms, times, nexts, lengths;
+    for (const Book &b : set.books) {
+        LentBook book(b);
+        book.first();
+        desk_reply room = book.sheets_room(), r = book.write_sheets();
+        std::string text(book.sheets.begin(), book.sheets.begin() + r.value);
+        size_t plays = 0;
+        for (size_t at = text.find("(play "); at != std::string::npos; at = text.find("(play ", at + 1)) plays++;
+        if (room.code != DESK_OK || r.code != DESK_OK || r.value > room.value || plays != b.entries.size()) {
+            wrong++;
+            printf("DIFFERENT, sheets: %u %lld, %zu entries, room %u %lld\n", r.code, (long long)r.value, plays, room.code, (long long)room.value);
+        }
+        std::vector<uint8_t> to(book.way.size());
+        rooms.push_back(time_of([&] { book.sheets_room(); }));
+        times.push_back(time_of([&] { book.write_sheets(); }));
+        nexts.push_back(time_of([&] { book.next(to); }));
+        lengths.push_back(double(r.value));
+    }
+    table.row({set.what, whole(double(set.books.size())), shown(median(rooms)), shown(median(times)), shown(largest(times)), shown(median(nexts)), whole(median(lengths))});
+}
+
 // Books that are long to read: the longest that is accepted, and 16,384 bytes of entries and of moves.
 static void questions() {
     const std::string head = "(book\n(players 8)\n(fee 1000000)\n", end = ")\n", word(16, 'z');
@@ -119,6 +143,11 @@ int main() {
         printf("### With the state kept: count less first, by item, and the listing\n\n");
         Table table({"books with more than 65,535 ways", "how many", "an item to cap 1,000", "65,535", "count to 65,535, ms", "listing of 1,000 ways, ms", "its bytes"});
         for (auto &s : long_movements()) long_lists_of(table, s);
+    }
+    {
+        printf("### Part sheets, of the first way\n\n");
+        Table table({"books", "how many", "`desk_sheets_room`", "`desk_sheets`", "at most", "`desk_next`, the same way given", "bytes of the sheets"});
+        for (auto &s : sets) sheets(table, s);
     }
     printf("### The questions\n\n");
     questions();

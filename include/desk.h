@@ -11,7 +11,7 @@
 #define DESK_H
 
 /* The version of the library and of the program ways. */
-#define DESK_VERSION "2.1.0"
+#define DESK_VERSION "2.2.0"
 
 #include <stddef.h>
 #include <stdint.h>
@@ -22,20 +22,22 @@ extern "C" {
 
 /* The codes of a reply that are no refusal. Any other code is the number of the first question that the call fails. */
 enum {
-    DESK_OK = 0,     /* a way or a flow was written, counting came to the end, or there is a listing */
+    DESK_OK = 0,     /* a way, a flow or sheets were written, counting came to the end, there is a listing, or the room is known */
     DESK_NONE = 100, /* there is no way, or no flow */
     DESK_END = 101,  /* no least-cost way or flow follows the one given */
     DESK_MORE = 102  /* there are more than the cap */
 };
 
-/* The most that an accepted book or network has, for lists of a fixed size; and room for every listing, in bytes. */
+/* The most that an accepted book or network has, for lists of a fixed size; and room for every listing and for the sheets of any book, in
+ * bytes. */
 #define DESK_BOOK_BYTES 16384
 #define DESK_ENTRIES 28
 #define DESK_NODES 64
 #define DESK_ARCS 512
 #define DESK_LISTING_ROOM 98304
+#define DESK_SHEETS_ROOM 1988
 
-/* value: with DESK_OK the cost, the count or the length of the listing, and otherwise 0.
+/* value: with DESK_OK the cost, the count, the length of the listing, the room for the sheets or their length, and otherwise 0.
  * line: with 13, 14 and 15 a line of the book that fails that question, counted from 1, and otherwise 0. */
 typedef struct {
     uint32_t code;
@@ -74,6 +76,7 @@ typedef struct {
  *   17  the lent list a multiple of four bytes, with room for E numbers
  *   18  the given list E numbers long, and a least-cost way of the book
  *   19  (names, straight after 16) the entry from 1 to E
+ *   21  (sheets, straight after 18) room for 71 bytes an entry
  * Each question is put of the whole input before the next. The least-cost ways are listed in order: of two, the one with the smaller number
  * at the first entry where they differ comes first. A way fills the first E numbers of its list; all other bytes keep what they held. With
  * every code but DESK_OK the lent list does not change.
@@ -97,6 +100,31 @@ desk_reply desk_count(const uint8_t *book, size_t book_len, uint16_t cap);
  * they held; a shorter list does not change, and the code is DESK_OK all the same.
  * Codes: DESK_OK, DESK_NONE, 11 to 16. */
 desk_reply desk_listing(const uint8_t *book, size_t book_len, uint8_t *text, size_t text_len);
+
+/* The room that desk_sheets asks for, in bytes: 71 * E, at most DESK_SHEETS_ROOM. It is worked out from the book alone, and the sheets of any
+ * way of the book take at most that.
+ * Codes: DESK_OK, 11 to 16. */
+desk_reply desk_sheets_room(const uint8_t *book, size_t book_len);
+
+/* The part sheets of the least-cost way given, written to text, a sheet for each part: its entries in playing order, with the ticks between
+ * them. The parts come by rising number of the entries that open them; N counts them from 1. The lines of a sheet, each closed by byte 10:
+ *   (part N
+ *   (play (name W) S F)      for each entry of the part
+ *   (gap G)                  between two entries: G ticks from F of the one to S of the next; 0 is written too
+ *   )
+ * Every entry stands on exactly one sheet. If snare (0 to 96) and snare2 (240 to 300) are one part and xylo (120 to 200) is another:
+ *   (part 1
+ *   (play (name snare) 0 96)
+ *   (gap 144)
+ *   (play (name snare2) 240 300)
+ *   )
+ *   (part 2
+ *   (play (name xylo) 120 200)
+ *   )
+ * The sheets stand at the front of the list, no byte 0 follows them, and the bytes after them keep what they held; the value is their length.
+ * A list of less than 71 * E bytes is refused, even if the sheets would fit. Without entries there is no sheet, and the length is 0.
+ * Codes: DESK_OK, 11 to 16, 18, 21. */
+desk_reply desk_sheets(const uint8_t *book, size_t book_len, const uint8_t *given, size_t given_len, uint8_t *text, size_t text_len);
 
 /* Where the name of an entry, from 1 to E, lies in the book; start is counted from 0. (0, 0) if it is refused, and no name is empty: of an
  * accepted book, E + 1 is the first entry whose name has length 0. */

@@ -1,4 +1,4 @@
-"""The ten entries of include/desk.h, on any arguments: what the archive answers, and what the readers that share nothing with it answer."""
+"""The twelve entries of include/desk.h, on any arguments: what the archive answers, and what the readers that share nothing with it answer."""
 import ctypes
 import functools
 import math
@@ -19,6 +19,8 @@ ENTRIES = {                            # the lists that are read, the lists that
     "desk_next": (["book", "given"], ["way"], None),
     "desk_count": (["book"], [], "cap"),
     "desk_listing": (["book"], ["text"], None),
+    "desk_sheets_room": (["book"], [], None),
+    "desk_sheets": (["book", "given"], ["text"], None),
     "desk_name": (["book"], [], "entry"),
     "desk_name_refusal": (["book"], [], "entry"),
     "desk_network_first": (["balances", "arcs"], ["flows"], None),
@@ -59,6 +61,8 @@ def expected(entry, a):
     told = reader.told if "book" in a else [0]
     if entry.endswith("count"): return reader.count(a["cap"]), [], told
     if entry == "desk_listing": return *reader.listing(*lent), told
+    if entry == "desk_sheets_room": return reader.sheets_room(), [], told
+    if entry == "desk_sheets": return *reader.sheets(a["given"], *lent), told
     if "given" not in a: return *reader.first(*lent), told
     if a["given"] in reader.place: reader.finger = reader.place[a["given"]]
     return *reader.next(a["given"], *lent), told

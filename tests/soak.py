@@ -5,6 +5,7 @@ import unittest
 import book_reader
 import entries
 import network_library
+import sheet_writer
 import test_network_calls
 import test_way_calls
 import trial
@@ -69,7 +70,7 @@ class Round(unittest.TestCase):
         return 2
 
     def books(self):
-        """Runs of calls on small books and on paired ones, and their listings."""
+        """Runs of calls on small books and on paired ones, calls for sheets among them, and their listings."""
         for k in range(300):
             run = test_way_calls.WaySession(self, self.ways, self.rng, paired(self.rng) if k % 50 == 0 else small_book(self.rng))
             run.walk(self.rng.choice((0.1, 0.5)), 0.02, most=100)
@@ -78,7 +79,7 @@ class Round(unittest.TestCase):
         return 300
 
     def large_books(self):
-        """28 entries: the first way is that of the first flow of the book's network, by its certificate."""
+        """28 entries: the first way is that of the first flow of the book's network, by its certificate, and its sheets are the writer's."""
         for _ in range(5):
             text = large_book(self.rng)
             book = book_reader.read(text)
@@ -88,6 +89,8 @@ class Round(unittest.TestCase):
             self.assertEqual((code, cost), (answer, value), text)
             if code == OK:
                 laid = way_trial.flow_of(book, arcs, trial.Reader._numbers(way))
+                (_, length), (sheets,) = self.ways.sheets(text, way, bytes(28 * sheet_writer.ROOM))
+                self.assertEqual(sheets[:length], sheet_writer.sheets(text, book, trial.Reader._numbers(way)), text)
                 self.assertEqual(flow, numbers(laid), text)
                 self.assertTrue(trial.is_first(balances, arcs, laid), text)
         return 5

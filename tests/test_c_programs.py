@@ -8,7 +8,9 @@ import unittest
 
 import book_reader
 import desk_library
+import sheet_writer
 import trial
+from test_sheets import stored
 from test_way_trial import EXAMPLES, examples
 from way_books import refused
 
@@ -17,7 +19,8 @@ HEADER = ROOT / "include/desk.h"
 STRICT = ["-std=c11", "-pedantic", "-Wall", "-Wextra", "-Werror", "-I", HEADER.parent]
 SANITIZED = ["-g", "-fsanitize=address,undefined", "-fno-sanitize-recover=all"]
 VALGRIND = ["valgrind", "-q", "--error-exitcode=9", "--leak-check=full"]
-LISTED, NOT_LISTED, TROUBLE = 0, 1, 2
+LISTED, NOT_LISTED, TROUBLE = 0, 1, 2                  # of print_sheets: printed, not printed, trouble
+PROGRAMS = "list_ways", "print_sheets", "solve_network"
 
 
 def compiled(program, to, compiler="gcc", flags=("-O2",)):
@@ -60,7 +63,7 @@ def printed(text, book):
 
 
 class Programs:
-    """What both programs do, whatever they are compiled with."""
+    """What the programs do, whatever they are compiled with."""
     flags = ["-O2"]
 
     @classmethod
@@ -68,7 +71,7 @@ class Programs:
         cls.dir = tempfile.TemporaryDirectory()
         cls.addClassCleanup(cls.dir.cleanup)
         cls.folder = pathlib.Path(cls.dir.name)
-        cls.list_ways, cls.solve_network = [compiled(p, cls.folder / p, flags=cls.flags) for p in ("list_ways", "solve_network")]
+        cls.list_ways, cls.print_sheets, cls.solve_network = [compiled(p, cls.folder / p, flags=cls.flags) for p in PROGRAMS]
 
     def test_examples(self):
         """The ways of each example book, in the order of its listing."""
@@ -95,43 +98,62 @@ class Programs:
         """A sentence for each refusal and, for 13 to 15, a line that fails."""
         words, met = {11: "16384 bytes", 12: "form", 13: "players", 14: "move", 15: "entry", 16: "28 entries"}, set()
         for question, book in refused():
-            status, out, complaint = run([self.list_ways], book)
-            self.assertEqual((status, out), (NOT_LISTED, ""))
-            line, code, sentence = re.fullmatch(r"standard input(?::(\d+))?: refused \((\d+)\): (.+)\n", complaint).groups()
-            self.assertEqual(int(code), question)
-            self.assertIn(int(line or 0), book_reader.refusal(book)[1])
-            self.assertIn(words[question], sentence)
+            for name, command in ("standard input", [self.list_ways]), ("/dev/stdin", [self.print_sheets, "/dev/stdin"]):
+                status, out, complaint = run(command, book)
+                self.assertEqual((status, out), (NOT_LISTED, ""))
+                line, code, sentence = re.fullmatch(name + r"(?::(\d+))?: refused \((\d+)\): (.+)\n", complaint).groups()
+                self.assertEqual(int(code), question)
+                self.assertIn(int(line or 0), book_reader.refusal(book)[1])
+                self.assertIn(words[question], sentence)
             met.add(question)
         self.assertEqual(met, set(words))
 
     def test_refused_files(self):
         for name, line in ("refused-12", ""), ("refused-13", ":2"), ("refused-14", ":6"), ("refused-15", ":9"), ("refused-16", ""):
-            path = EXAMPLES / (name + ".book")
-            status, out, complaint = run([self.list_ways, path])
-            self.assertEqual((status, out), (NOT_LISTED, ""))
-            self.assertTrue(complaint.startswith("%s%s: refused (%s): " % (path, line, name[-2:])), complaint)
+            self.refused_file(EXAMPLES / (name + ".book"), line, name[-2:])
         empty, long = self.folder / "empty", self.folder / "long"
         empty.write_bytes(b"")
         long.write_bytes((EXAMPLES / "document.book").read_bytes() * 1000)
-        for path, question in (empty, 12), (long, 11):
-            status, out, complaint = run([self.list_ways, path])
+        for path, question in (empty, 12), (long, 11): self.refused_file(path, "", question)
+
+    def refused_file(self, path, line, question):
+        """Both programs of books tell the question, and the line after the file's name."""
+        for program in self.list_ways, self.print_sheets:
+            status, out, complaint = run([program, path])
             self.assertEqual((status, out), (NOT_LISTED, ""))
-            self.assertTrue(complaint.startswith("%s: refused (%d): " % (path, question)), complaint)
+            self.assertTrue(complaint.startswith("%s%s: refused (%s): " % (path, line, question)), complaint)
 
     def test_trouble(self):
         """Wrong arguments, a file that is not there or cannot be read, output that cannot be written."""
         book = EXAMPLES / "document.book"
         for words in (["-n"], ["-n", ""], ["-n", "x"], ["-n", "-1"], ["-n", "1234567890"], ["-n", "1", "-n", "1"], ["-x"], [book, book], [self.folder / "nowhere"], [self.folder]):
             with self.subTest(words): self.wrong([self.list_ways, *words])
+        for words in ([], [book, ""], [book, "x"], [book, "0"], [book, "-1"], [book, "1234567890"], [book, "1", "1"], ["-n"], [self.folder / "nowhere"], [self.folder]):
+            with self.subTest(words): self.wrong([self.print_sheets, *words])
         for words in ([""], ["x"], ["-1"], ["1234567890"], ["1", "1"]):
             with self.subTest(words): self.wrong([self.solve_network, *words])
         with open("/dev/full", "wb") as full:
-            for command in [self.list_ways, book], [self.solve_network]:
+            for command in [self.list_ways, book], [self.print_sheets, book], [self.solve_network]:
                 self.assertEqual(run(command, out=full)[0], TROUBLE)
 
     def wrong(self, command):
         status, out, complaint = run(command)
         self.assertEqual((status, out, complaint.count("\n")), (TROUBLE, "", 1))
+
+    def test_sheets(self):
+        """The stored sheets; the first way's without a number; the last way's, and none after it; none of a book without entries, and no way."""
+        for name, book, way, text in stored():
+            path, _, place = name.rpartition("-")
+            self.assertEqual(run([self.print_sheets, EXAMPLES / (path + ".book"), place]), (LISTED, text.decode(), ""))
+            if place == "1": self.assertEqual(run([self.print_sheets, EXAMPLES / (path + ".book")]), (LISTED, text.decode(), ""))
+        path = EXAMPLES / "symphony.book"
+        book, ways = path.read_bytes(), listed((EXAMPLES / "symphony.listing").read_bytes())[1]
+        for place in 1, 2, 256: self.assertEqual(run([self.print_sheets, path, str(place)]), (LISTED, sheet_writer.sheets(book, book_reader.read(book), ways[place - 1]).decode(), ""))
+        for place in 257, 999999999: self.assertEqual(run([self.print_sheets, path, str(place)]), (NOT_LISTED, "", "%s: no way %d: the last is way 256\n" % (path, place)))
+        empty, none = EXAMPLES / "no-entries.book", EXAMPLES / "three-at-once.book"
+        self.assertEqual(run([self.print_sheets, empty]), (LISTED, "", ""))
+        self.assertEqual(run([self.print_sheets, empty, "2"]), (NOT_LISTED, "", "%s: no way 2: the last is way 1\n" % empty))
+        for words in [], ["2"]: self.assertEqual(run([self.print_sheets, none, *words]), (NOT_LISTED, "", "%s: no way\n" % none))
 
     def test_network(self):
         """The flows, prices and count of the transport problem are those of the search by trial."""
@@ -149,14 +171,14 @@ class Plain(Programs, unittest.TestCase):
     def test_valgrind(self):
         """A few runs with the library's own reads and writes watched: the status and the words are those without valgrind."""
         book = (EXAMPLES / "symphony.book").read_bytes()
-        for command, data in ([self.list_ways, EXAMPLES / "ballet.book"], b""), ([self.list_ways, "-n", "3"], book), ([self.list_ways, EXAMPLES / "refused-14.book"], b""), ([self.solve_network], b""):
+        for command, data in ([self.list_ways, EXAMPLES / "ballet.book"], b""), ([self.list_ways, "-n", "3"], book), ([self.list_ways, EXAMPLES / "refused-14.book"], b""), \
+                ([self.print_sheets, EXAMPLES / "ballet.book", "4"], b""), ([self.print_sheets, EXAMPLES / "no-entries.book"], b""), ([self.solve_network], b""):
             self.assertEqual(run(VALGRIND + command, data), run(command, data))
-
 
     def test_clang(self):
         """clang, where there is one, warns of nothing either."""
         if shutil.which("clang"):
-            for program in "list_ways", "solve_network": compiled(program, self.folder / "other", "clang")
+            for program in PROGRAMS: compiled(program, self.folder / "other", "clang")
 
 
 class Sanitized(Programs, unittest.TestCase):
@@ -170,7 +192,7 @@ class Header(unittest.TestCase):
 
     def test_limits(self):
         limits = {name: int(value) for name, value in re.findall(r"^#define DESK_(\w+) (\d+)$", HEADER.read_text(), re.M)}
-        self.assertEqual(limits, {"BOOK_BYTES": book_reader.LONGEST, "ENTRIES": 28, "NODES": trial.NODES, "ARCS": trial.ARCS, "LISTING_ROOM": 98304})
+        self.assertEqual(limits, {"BOOK_BYTES": book_reader.LONGEST, "ENTRIES": 28, "NODES": trial.NODES, "ARCS": trial.ARCS, "LISTING_ROOM": 98304, "SHEETS_ROOM": 28 * sheet_writer.ROOM})
 
 
 if __name__ == "__main__":

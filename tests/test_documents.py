@@ -52,16 +52,17 @@ class Documents(unittest.TestCase):
                 self.assertTrue((path.parent / target).exists(), f"{path.relative_to(ROOT)}: {target}")
 
     def test_example(self):
-        """The book that the rule shows is the stored one, with its listing."""
-        book, listing = re.findall(r"^```\n(.*?)^```$", (ROOT / "docs/RULE.md").read_text(), re.M | re.S)
+        """The book that the rule shows is the stored one, with its listing and, where the rule shows them, sheets of it."""
+        book, listing, *sheets = re.findall(r"^```\n(.*?)^```$", (ROOT / "docs/RULE.md").read_text(), re.M | re.S)
         self.assertEqual(book, (EXAMPLES / "document.book").read_text())
         self.assertEqual(listing, (EXAMPLES / "document.listing").read_text())
         self.assertIn("".join("    " + line for line in listing.splitlines(True)), (ROOT / "README.md").read_text())
+        for text in sheets: self.assertIn(text, [path.read_text() for path in EXAMPLES.glob("document-[12].sheets")])
 
     def test_questions(self):
         """The rule has each question once, in order, and names every entry and limit of the header."""
         rule, header = (ROOT / "docs/RULE.md").read_text(), (ROOT / "include/desk.h").read_text()
-        self.assertEqual([int(number) for number in re.findall(r"^\| (\d+) \| (?:[A-Z].*\?) \|", rule, re.M)], [*range(1, 9), *range(11, 20)])
+        self.assertEqual([int(number) for number in re.findall(r"^\| (\d+) \| (?:[A-Z].*\?) \|", rule, re.M)], [*range(1, 9), *range(11, 20), 21])
         for entry in re.findall(r"^desk_\w+ (desk_\w+)\(|^uint32_t (desk_\w+)\(", header, re.M): self.assertIn("`%s`" % "".join(entry), rule)
         for limit in re.findall(r"^#define DESK_[A-Z_]+ (\d+)$", header, re.M): self.assertIn(f"{int(limit):,}", rule)
 

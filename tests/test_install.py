@@ -81,7 +81,7 @@ class Install(unittest.TestCase):
         shown = re.sub(r'^\.(BI?|PP|nf|fi|SH)|["\s]', "", synopsis, flags=re.M)
         text = re.sub(r"/\*.*?\*/", "", HEADER.read_text(), flags=re.S)
         declared = re.findall(r"^typedef struct \{.*?\} \w+;|^\w+ desk_\w+\(.*?\);", text, re.M | re.S)
-        self.assertEqual(len(declared), 12)
+        self.assertEqual(len(declared), 14)
         self.assertEqual(shown, "SYNOPSIS#include<desk.h>" + re.sub(r"\s", "", "".join(declared)))
 
     def test_build(self):
@@ -104,6 +104,7 @@ class Install(unittest.TestCase):
         make("examples")
         self.assertEqual(run([ROOT / "target/examples/solve_network"])[0], 0)
         self.assertEqual(run([ROOT / "target/examples/list_ways", EXAMPLES / "document.book"])[0], 0)
+        self.assertEqual(run([ROOT / "target/examples/print_sheets", EXAMPLES / "document.book"])[0], 0)
 
 
 if __name__ == "__main__":

@@ -1,4 +1,5 @@
-"""The book entries of the C surface beside the reader of way_trial.py: document 01's books, the stored examples, thousands of small books, the limits. Deterministic."""
+"""The book entries of the C surface beside the reader of way_trial.py: document 01's books, the stored examples, thousands of small books, the limits. Calls for
+sheets stand between the others. Deterministic."""
 import random
 import re
 import struct
@@ -64,6 +65,19 @@ class WaySession(Session):
     def wrong(self):
         """A list to give that is not on the full list: a way that costs more, or no way."""
         return self.rng.choice(self.dearer) if self.dearer and self.rng.random() < 0.4 else super().wrong()
+
+    def sheets(self):
+        """The sheets of any item, or a call for them that is refused. The finger stays."""
+        given = self.rng.choice(self.reader.lines) if self.reader.lines and self.rng.random() < 0.7 else self.wrong()
+        text = self.rng.randbytes(max(0, 71 * self.reader.m + self.rng.choice((0, 0, 5, -1))))
+        got, wanted = self.desk.sheets(self.net, given, text), self.reader.sheets(given, text)
+        if got != wanted: self.test.fail("sheets of %r of %s: %r, and not %r" % (given, self.shown(), got, wanted))
+        self.calls[wanted[0][0]] = self.calls.get(wanted[0][0], 0) + 1
+
+    def next(self, given=None, way=None):
+        """Sometimes with a call for sheets before it."""
+        if self.rng.random() < 0.2: self.sheets()
+        super().next(given, way)
 
     def refused(self):
         """A call that fails a question, of this book or of another. The finger stays."""
@@ -163,7 +177,7 @@ class WayCalls(unittest.TestCase):
             for code, times in run.calls.items(): calls[code] = calls.get(code, 0) + times
         # the books are of all kinds, without a line, with one, few and many; and so are the calls
         self.assertTrue(all(seen[length] > 100 for length in (0, 1, 2, 3, 4, 20)), seen)
-        self.assertTrue(all(calls[code] > 100 for code in (OK, NONE, END, *range(11, 19))), calls)
+        self.assertTrue(all(calls[code] > 100 for code in (OK, NONE, END, *range(11, 19), 21)), calls)
 
     def test_each_number(self):
         """A book with one number changed, beside the trial. Each kind of number changes listings, those of accepted books."""
@@ -222,6 +236,11 @@ class WayCalls(unittest.TestCase):
             self.assertEqual(self.desk.count(book, cap), (wanted, 0), book)
             self.assertIn(self.desk.line, lines, book)
         self.listed(book, b"(refused %d)\n" % wanted)
+        for given in (b"", numbers([0] * 3), b"\x33" * 5):
+            self.assertEqual(self.desk.sheets(book, given, full), ((wanted, 0), [full]), book)
+            self.assertIn(self.desk.line, lines, book)
+        self.assertEqual(self.desk.sheets_room(book), (wanted, 0), book)
+        self.assertIn(self.desk.line, lines, book)
         for entry in (0, 1, 29, 2**32 - 1):
             self.assertEqual((self.desk.name(book, entry), self.desk.name_refusal(book, entry)), ((0, 0), wanted), book)
 

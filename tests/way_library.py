@@ -10,13 +10,14 @@ class Span(ctypes.Structure):
 
 
 class Desk:
-    """First, next, count and listing answer (code, value), and `line` is the line that the last of them told; all but count also give the lent lists after the call."""
+    """All but the names answer (code, value), and `line` is the line that the last such call told; those that are lent a list also give the lent lists after the call."""
 
     def __init__(self, library):
         self.line = 0
         self._entries = {name: Entry(library, "desk_" + name, result, lists, *more)
                          for name, result, lists, more in [("first", Reply, 2, []), ("next", Reply, 3, []), ("count", Reply, 1, [ctypes.c_uint16]),
-                                                           ("listing", Reply, 2, []), ("name", Span, 1, [ctypes.c_uint32]),
+                                                           ("listing", Reply, 2, []), ("sheets_room", Reply, 1, []), ("sheets", Reply, 3, []),
+                                                           ("name", Span, 1, [ctypes.c_uint32]),
                                                            ("name_refusal", ctypes.c_uint32, 1, [ctypes.c_uint32])]}
 
     def _call(self, name, read, lent, *more):
@@ -44,6 +45,12 @@ class Desk:
         again, (text,) = self.listing(book, b"\x77" * length)
         assert again == (OK, length), "another answer with room: %r" % (again,)
         return text
+
+    def sheets_room(self, book):
+        return self._call("sheets_room", [book], [])[0]
+
+    def sheets(self, book, given, text):
+        return self._call("sheets", [book, given], [text])
 
     def name(self, book, entry):
         """Where the name starts in the book, and its length."""

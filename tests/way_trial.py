@@ -1,5 +1,6 @@
 """Search by trial: the ways of documents 01 and 02, straight from their text and independent of the library. Books are those of book_reader."""
 import book_reader
+import sheet_writer
 import trial
 
 SHOWN = 1000                           # the most ways of a listing
@@ -85,10 +86,11 @@ def flow_of(book, arcs, way):
 
 class Reader(trial.Reader):
     """Document 01's reader with a finger on the full list of a book. `told` are the lines that a refusal may tell."""
-    SHORT, WRONG = 17, 18
+    SHORT, WRONG, NARROW = 17, 18, 21
 
     def __init__(self, text):
         self.refused, self.told, book = book_reader.refusal(text)
+        self.source, self.book = text, book
         self.n, self.m = 0, len(book.entries) if book else 0
         self.everything = ways(book) if book else []
         lines, cost = cheapest(self.everything)
@@ -101,3 +103,14 @@ class Reader(trial.Reader):
         if not self.lines: return (self.NONE, 0), [text]
         size = len(self.text)
         return (self.OK, size), [self.text + text[size:] if size <= len(text) else text]
+
+    def sheets_room(self):
+        return (self.refused, 0) if self.refused else (self.OK, sheet_writer.ROOM * self.m)
+
+    def sheets(self, given, text):
+        """The answer, and the lent list after the call. The finger stays."""
+        if self.refused: return (self.refused, 0), [text]
+        if given not in self.place: return (self.WRONG, 0), [text]
+        if len(text) < sheet_writer.ROOM * self.m: return (self.NARROW, 0), [text]
+        written = sheet_writer.sheets(self.source, self.book, self._numbers(given))
+        return (self.OK, len(written)), [written + text[len(written):]]

@@ -1,5 +1,5 @@
 -- The questions 11 to 16, from what the passes found.
-use Prim.Native.Nat.{ℕ, zero, suc, _+_, _-_, _<_, _≤_}
+use Prim.Native.Nat.{ℕ, zero, suc, _+_, _<_, _≤_}
 use mathlib.Core.Path.{_≡_, refl, sym, ap, _∙_}
 use mathlib.Core.Bool.{Bool, true, false, cond, _&&_}
 use mathlib.Core.Option.{Option, none, some}
@@ -14,7 +14,6 @@ use Rattle.book_lines.specs.declared.moves.Moves.{Moves}
 use Rattle.book_lines.specs.declared.entries.Columns.{Columns}
 use Rattle.book_lines.specs.declared.entries.Entries.{Entries}
 use Rattle.book_form.specs.declared.Opening.{Opening}
-use Rattle.book_form.specs.declared.CheckedBook.{CheckedBook}
 use Rattle.book_form.specs.declared.Checked.{Checked}
 use Rattle.book_form.specs.declared.Answer.{Answer}
 use Rattle.book_form.specs.declared.Answer.the-variants.{Accepted, TooLong, Malformed, BadHeader, BadMove, BadEntry, TooMany}
@@ -23,15 +22,14 @@ use Rattle.book_form.specs.Book.{Book, parse}
 use Rattle.book_form.specs.Questions.{header, askBook, bookRefusal, questionOf, lineTold}
 use Rattle.book_form.specs.Told.{ToldOf, Told}
 use Rattle.book_lines.specs.Questions.{moves, entries, allPass}
-use Rattle.book_lines.specs.Columns.{table, nobody}
+use Rattle.book_lines.specs.Columns.{table}
 use Rattle.book_form.specs.Checked.{checkedOf, noBook, checkedUnless, checkedBook}
-use Rattle.book_lines.specs.Passes.{LinesVerdict, kept, columnsOf, Placed}
+use Rattle.book_lines.specs.Passes.{LinesVerdict, kept, columnsOf}
 use Rattle.book_form.specs.Steps.{answerOf, headerBad, heldOf, judgedOf}
 use Rattle.book_lines.proofs.Verdicts.{verdict-none, verdict-more}
 use Rattle.book_lines.proofs.MovePass.{kept-all}
-use Rattle.book_form.proofs.Judging.{column-at}
 use Rattle.book_form.proofs.Told.{told-header, told-move, told-entry, none-told, untold}
-use Rattle.book_check.specs.BookCheck.{Lies, ChecksBook}
+use Rattle.book_check.specs.BookCheck.{ChecksBook}
 
 -- some line fails
 not-all : (l : List Bool) (n : ℕ) → getD l n true ≡ false → allPass l ≡ false
@@ -51,7 +49,6 @@ refused-right s r a q e f g told =
       question = g ∙ sym f;
       line = told;
       book = rw f;
-      lies = λ n h. absurd (omega arith);
     })
 
 -- a refusal by 11, and by 12
@@ -72,7 +69,6 @@ pub record PassesFound (s : List ℕ) (o : Opening) (m : Moves) (e : Entries) : 
   pub count : e .count ≡ length entry-list
   pub entries-judged : LinesVerdict (4 + length move-list) (entries entry-list) (e .bad)
   pub columns : e .columns ≡ columnsOf (length s) (take 28 entry-list)
-  pub placed : (n : ℕ) → n < length entry-list → Placed s (getD entry-list n nobody)
 
 held-filled : (o : Opening) (m : Moves) (e : Entries) (total : ℕ) (ms : List Move) (es : List Entry)
     → m .ticks ≡ table (λ m. m .ticks + 1) ms → m .costs ≡ table (λ m. m .cost) ms → e .count ≡ length es → e .columns ≡ columnsOf total es
@@ -143,22 +139,12 @@ module _ (s : List ℕ) (o : Opening) (m : Moves) (e : Entries) (f : PassesFound
   book-is zero h = fills h
   book-is (suc q) h = rw (eqb·suc-zero q)
 
-  lies-in : (q : ℕ) → questionOf A ≡ q → (x : CheckedBook) → x ≡ checkedUnless q (length s) (some B) → (n : ℕ) → n < x .count
-      → Lies s (getD (x .names) n 0) (getD (x .lengths) n 0) (getD (f .entry-list) n nobody .name)
-  lies-in zero h x e n k =
-      let i : n < length (f .entry-list) = omega (arith, ap (λ (y : CheckedBook). y .count) e) in
-      let p = f .placed n i in
-      rw (e, column-at (λ e. length s - e .left) (f .entry-list) n i, column-at (λ e. length (e .name)) (f .entry-list) n i)
-      (record { some = p .some; within = omega (arith, p .begins, p .ends); is = p .is })
-  lies-in (suc q) h x e n k = absurd (omega (arith, ap (λ (y : CheckedBook). y .count) e))
-
   pub judged-right : length s ≤ 16384 → ChecksBook s (judgedOf A o m e)
   judged-right h =
       record {
         question = sym same;
         line = rw (f .parsed) (outcome .told);
         book = is;
-        lies = rw (f .parsed) (lies-in (questionOf A) refl _ (book-is (questionOf A) refl));
       }
     where
       same : bookRefusal s ≡ questionOf A

@@ -1,5 +1,5 @@
 -- The first lines of a book, the last one, and the whole.
-use Prim.Native.Nat.{ℕ, _+_, _<_, _≤_}
+use Prim.Native.Nat.{ℕ, _+_, _<_}
 use mathlib.Core.Path.{_≡_, refl, ap, _∙_}
 use mathlib.Core.Bool.{Bool, true, false, cond}
 use mathlib.Core.Option.{none, some}
@@ -9,11 +9,9 @@ use lib.ListN.{length, length-drop, drop, getD}
 use lib.Seq.{getD-drop}
 use lib.Dec.{eqb}
 use borrow.Author.Tests.{eq-eqb, ne-eqb}
-use Rattle.text_read.specs.Reader.{_>>=_, give, bytes, text, fails, reads, ReadsFront}
-use Rattle.book_lines.specs.Lines.{Entry}
-use Rattle.book_lines.proofs.EntryPass.{placed-drop}
+use Rattle.text_read.specs.Reader.{_>>=_, give, text, fails, reads, ReadsFront}
+use Rattle.text_read.specs.Heads.{lineEnd}
 use Rattle.book_form.specs.Book.{opening, Book, book, whole, parse}
-use Rattle.book_lines.specs.Passes.{Placed}
 use Rattle.book_check.specs.Closing.{Closing}
 use Rattle.laws.specs.Suffix.{take-rest}
 use Rattle.text_read.proofs.Sequence.{From, part, part-part, mapped, all-read}
@@ -23,9 +21,9 @@ pub opening-present : (s ps cs : List ℕ) (used : ℕ) → From (opening s) (gi
 opening-present s ps cs used f h = rw (← getD-drop 3 ps 0 0, ← getD-drop 3 cs 0 0) (all-read f h)
 
 -- the last line
-module _ (s : List ℕ) (n : ℕ) (r : ReadsFront s (text (bytes ")\n") s) n tt) where
-  closes : (b : Book) → ReadsFront s ((text (bytes ")\n") >>= (λ _. give b)) s) n b
-  closes b = mapped (text (bytes ")\n")) (λ _. b) s r
+module _ (s : List ℕ) (n : ℕ) (r : ReadsFront s (text lineEnd s) n tt) where
+  closes : (b : Book) → ReadsFront s ((text lineEnd >>= (λ _. give b)) s) n b
+  closes b = mapped (text lineEnd) (λ _. b) s r
 
   pub closing-absent : n ≡ 0 → Closing s false
   unfolding whole
@@ -45,11 +43,11 @@ pub parse-fails : (s : List ℕ) → book s ≡ fails → parse s ≡ none
 unfolding parse whole
 parse-fails s e = rw e
 
-module _ (s : List ℕ) (n : ℕ) (b : Book) (r : Bool) (f : From (book s) (text (bytes ")\n") >>= (λ _. give b)) s n) (c : Closing (part s n) r) where
+module _ (s : List ℕ) (n : ℕ) (b : Book) (r : Bool) (f : From (book s) (text lineEnd >>= (λ _. give b)) s n) (c : Closing (part s n) r) where
   parse-is : parse s ≡ cond r (some b) none
   unfolding parse
   parse-is =
-      let e : whole ((text (bytes ")\n") >>= (λ _. give b)) (drop n s)) ≡ cond r (some b) none = rw take-rest at (c .is b) in
+      let e : whole ((text lineEnd >>= (λ _. give b)) (drop n s)) ≡ cond r (some b) none = rw take-rest at (c .is b) in
       ap whole (f .is) ∙ e
 
   pub parse-closed : r ≡ true → parse s ≡ some b
@@ -61,7 +59,3 @@ module _ (s : List ℕ) (n : ℕ) (b : Book) (r : Bool) (f : From (book s) (text
 -- the rest after three parts
 pub closing-part : (s : List ℕ) (n1 n2 n3 : ℕ) (r : Bool) → Closing (part (part (part s n1) n2) n3) r → Closing (part s (n1 + n2 + n3)) r
 closing-part s n1 n2 n3 r c = rw (part-part s n1 n2, part-part s (n1 + n2) n3) at c
-
--- a name that lies in the rest of s lies in s
-pub placed-part : (s : List ℕ) (n : ℕ) (e : Entry) → n ≤ length s → Placed (part s n) e → Placed s e
-placed-part s n e h p = placed-drop s n e h (rw take-rest at p)

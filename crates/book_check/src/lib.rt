@@ -6,6 +6,7 @@ use book_form::judge;
 use book_form::refused;
 use book_lines::entries::read_entries;
 use book_lines::moves::read_moves;
+use text_read::heads;
 use text_read::read_row;
 use text_read::read_text;
 ghost use Rattle.text_read.specs.Reader.{ReadsFront};
@@ -17,7 +18,7 @@ ghost use Rattle.book_check.specs.BookCheck.{ChecksBook};
 fn read_opening(book: &[u8]) -> Opening
     ensures { λ r. ⌜ ReadsFront (now (book .entry)) (opening (now (book .entry))) (r .used) (r .players, r .fee) ⌝ }
 {
-    let n1 = read_text(book, b"(book\n");
+    let n1 = read_text(book, &heads::BOOK);
     if n1 == 0 {
         return Opening {
             players: 0,
@@ -25,7 +26,7 @@ fn read_opening(book: &[u8]) -> Opening
             used: 0,
         };
     }
-    let p = read_row(&book[n1..], b"(players ", 1);
+    let p = read_row(&book[n1..], &heads::PLAYERS, 1);
     let n2 = p.used;
     if n2 == 0 {
         return Opening {
@@ -35,7 +36,7 @@ fn read_opening(book: &[u8]) -> Opening
         };
     }
     let at = n1 + n2;
-    let c = read_row(&book[at..], b"(fee ", 1);
+    let c = read_row(&book[at..], &heads::FEE, 1);
     let n3 = c.used;
     if n3 == 0 {
         return Opening {
@@ -57,7 +58,7 @@ fn read_opening(book: &[u8]) -> Opening
 fn closes(rest: &[u8]) -> bool
     ensures { λ r. ⌜ Closing (now (rest .entry)) r ⌝ }
 {
-    let n = read_text(rest, b")\n");
+    let n = read_text(rest, &heads::LINE_END);
     if n == 0 {
         return false;
     }

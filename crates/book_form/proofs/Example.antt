@@ -3,7 +3,8 @@ use Prim.Native.Nat.{ℕ}
 use mathlib.Core.Path.{_≡_, refl}
 use mathlib.Core.Option.{some}
 use mathlib.Core.List.{List, [], _∷_}
-use Rattle.text_read.specs.Reader.{thenRead, _>>=_, _>>_, give, guard, remaining, bytes, begins, text, front, run, valueFrom, number, word, row, more, upTo, many}
+use Rattle.text_read.specs.Reader.{thenRead, _>>=_, _>>_, give, guard, remaining, begins, text, front, run, valueFrom, number, word, row, more, upTo, many}
+use Rattle.text_read.specs.Heads.{bytes}
 use Rattle.book_lines.specs.Lines.{move, entry}
 use Rattle.book_lines.specs.Questions.{moves, allPass}
 use Rattle.book_form.specs.Book.{opening, book, whole, parse}

@@ -1,4 +1,5 @@
 pub mod Judging
 pub mod Told
 pub mod WithinLimits
+pub mod Names
 pub mod Example

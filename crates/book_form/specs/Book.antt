@@ -3,7 +3,8 @@ use Prim.Native.Nat.{ℕ}
 use mathlib.Core.List.{List, [], _∷_}
 use mathlib.Core.Option.{Option, none, some}
 use lib.ListN.{getD}
-use Rattle.text_read.specs.Reader.{Reader, Parsed, fails, reads, _>>=_, _>>_, give, bytes, text, row, many}
+use Rattle.text_read.specs.Reader.{Reader, Parsed, fails, reads, _>>=_, _>>_, give, text, row, many}
+use Rattle.text_read.specs.Heads.{lineEnd, bookLine, playersHead, feeHead}
 use Rattle.book_lines.specs.declared.moves.Move.{Move}
 use Rattle.book_lines.specs.Lines.{move, Entry, entry}
 
@@ -16,9 +17,9 @@ pub record Book : Type 0 where
 -- "Order: `(book`, `(players P)`, `(fee C)`, any count of `(move A B T C)`, any count of `(entry (name W) I S F)`, then `)`"
 unfoldable pub opening : Reader (ℕ × ℕ)
 opening = do
-  text (bytes "(book\n")
-  ps ← row (bytes "(players ") 1
-  cs ← row (bytes "(fee ") 1
+  text bookLine
+  ps ← row playersHead 1
+  cs ← row feeHead 1
   give (getD ps 0 0, getD cs 0 0)
 
 unfoldable pub book : Reader Book
@@ -26,7 +27,7 @@ book = do
   o ← opening
   ms ← many move
   es ← many entry
-  text (bytes ")\n")
+  text lineEnd
   give (record { players = o .0; fee = o .1; moves = ms; entries = es })
 
 -- ".. and nothing more"

@@ -1,11 +1,11 @@
 -- The pass over the lines of entries.
 use Prim.Native.Nat.{ℕ, suc, _+_, _-_, _<_, _≤_}
-use mathlib.Core.Path.{_≡_, refl, sym, ap, subst, _∙_}
+use mathlib.Core.Path.{_≡_, refl, sym, ap, _∙_}
 use mathlib.Core.Bool.{Bool, true, false}
 use mathlib.Core.List.{List, [], _∷_, _++_, map}
 use native.Mathlib.Omega.{arith}
 use lib.ListN.{length, length-append, length-map, length-drop, take, drop, getD, set, replicate}
-use lib.Seq.{set-at, append-snoc, drop-drop, getD-drop, length-take-le, take-all, take-append-le}
+use lib.Seq.{set-at, append-snoc, getD-drop, length-take-le, take-all, take-append-le}
 use lib.Dec.{leb}
 use borrow.Author.Tests.{leb-true, leb-false}
 use Rattle.book_lines.specs.declared.entries.EntryLine.{EntryLine}
@@ -13,46 +13,29 @@ use Rattle.book_lines.specs.declared.entries.Columns.{Columns}
 use Rattle.text_read.specs.Reader.{fails, give}
 use Rattle.book_lines.specs.Lines.{Entry, entry}
 use Rattle.book_lines.specs.Questions.{fairEntry, entries}
-use Rattle.book_lines.specs.Columns.{column, nobody}
-use Rattle.book_lines.specs.Passes.{firstBad, LinesVerdict, entryOf, noEntry, EntryRead, fairLine, putIn, columnsOf, Placed}
+use Rattle.book_lines.specs.Columns.{column}
+use Rattle.book_lines.specs.Passes.{firstBad, LinesVerdict, entryOf, noEntry, EntryRead, fairLine, putIn, columnsOf}
 use Rattle.laws.specs.Suffix.{take-rest}
-use Rattle.laws.specs.Snoc.{each-more, map-more}
+use Rattle.laws.specs.Snoc.{map-more}
 use Rattle.text_read.proofs.Runs.{absent}
 use Rattle.text_read.proofs.Sequence.{From, all-read, part}
 use Rattle.book_lines.proofs.Verdicts.{verdict-none, verdict-more}
 
 -- The line of an entry.
 pub entry-absent : (s : List ℕ) (r : EntryLine) → entry s ≡ fails → r ≡ noEntry → EntryRead s r
-entry-absent s r e z = rw z (record { right = absent e; none = λ _. refl; begins = omega arith; ends = omega arith; some = λ n. absurd (n refl) })
+entry-absent s r e z = rw z (record { right = absent e; none = λ _. refl; begins = omega arith; ends = omega arith })
 
-pub entry-present : (s numbers : List ℕ) (n len used : ℕ) → n + len ≤ length s → (len ≡ 0 → ⊥)
+pub entry-present : (s numbers : List ℕ) (n len used : ℕ) → n + len ≤ length s
     → From (entry s) (give (record { name = take len (part s n); left = length s - n; instrument = getD (drop 1 numbers) 0 0; start = getD (drop 1 numbers) 1 0; finish = getD (drop 1 numbers) 2 0 })) s used
     → 0 < used
     → EntryRead s (record { left = length s - n; length = len; instrument = getD numbers 1 0; start = getD numbers 2 0; finish = getD numbers 3 0; used = used })
-entry-present s numbers n len used h l f u = record { right = rw (value, ← take-rest s n, ← getD-drop 1 numbers 0 0, ← getD-drop 1 numbers 1 0, ← getD-drop 1 numbers 2 0) (all-read f u); none = λ z. absurd (omega arith); begins = omega arith; ends = omega arith; some = λ _. omega arith }
+entry-present s numbers n len used h f u = record { right = rw (value, ← take-rest s n, ← getD-drop 1 numbers 0 0, ← getD-drop 1 numbers 1 0, ← getD-drop 1 numbers 2 0) (all-read f u); none = λ z. absurd (omega arith); begins = omega arith; ends = omega arith }
   where
     value : length s - (length s - n) ≡ n
     value = omega arith
 
--- Where a name lies, and that it lies there in the whole too.
-module _ (t : List ℕ) (r : EntryLine) (e : EntryRead t r) where
-  name-length : length (entryOf t r .name) ≡ r .length
-  name-length = length-take-le (r .length) (drop (length t - r .left) t) (rw length-drop (omega (arith, e .begins, e .ends)))
-
-  name-placed : (r .used ≡ 0 → ⊥) → Placed t (entryOf t r)
-  name-placed z = record { begins = e .begins; ends = omega (arith, name-length, e .ends); some = omega (arith, name-length, e .some z); is = rw name-length }
-
-pub placed-drop : (s : List ℕ) (n : ℕ) (e : Entry) → n ≤ length s → Placed (drop n s) e → Placed s e
-placed-drop s n e h p = record { begins = omega (arith, p .begins, l); ends = p .ends; some = p .some; is = rw same (p .is) }
-  where
-    l : length (drop n s) ≡ length s - n
-    l = length-drop n s
-
-    place : n + (length (drop n s) - e .left) ≡ length s - e .left
-    place = omega (arith, p .begins, l)
-
-    same : drop (length s - e .left) s ≡ drop (length (drop n s) - e .left) (drop n s)
-    same = sym (drop-drop (length (drop n s) - e .left) n s ∙ ap (λ (k : ℕ). drop k s) place)
+name-length : (t : List ℕ) (r : EntryLine) → EntryRead t r → length (entryOf t r .name) ≡ r .length
+name-length t r e = length-take-le (r .length) (drop (length t - r .left) t) (rw length-drop (omega (arith, e .begins, e .ends)))
 
 -- A column with one more entry.
 column-more : (f : Entry → ℕ) (es : List Entry) (e : Entry) (v : ℕ) → length es < 28 → f e ≡ v → set (column f es) (length es) v ≡ column f (es ++ (e ∷ []))
@@ -65,29 +48,27 @@ column-more f es e v h q =
     left = omega (arith, length-map es f, length-map (es ++ (e ∷ [])) f, length-append es (e ∷ []))
 
 -- What the loop of `read_entries` knows after the lines `done`.
-pub record KnownEntries (s : List ℕ) (first total : ℕ) (done : List Entry) (count line bad : ℕ) (columns : Columns) : Type 0 where
+pub record KnownEntries (first total : ℕ) (done : List Entry) (count line bad : ℕ) (columns : Columns) : Type 0 where
   pub count-is : count ≡ length done
   pub line-is : line ≡ first + length done
   pub verdict : LinesVerdict first (entries done) bad
   pub columns-are : columns ≡ columnsOf total (take 28 done)
-  pub placed : (n : ℕ) → n < length done → Placed s (getD done n nobody)
 
-pub known-entries-none : (s : List ℕ) (first total : ℕ) → KnownEntries s first total [] 0 first 0 (columnsOf total [])
-known-entries-none s first total =
-    record { count-is = refl; line-is = omega arith; verdict = verdict-none first; columns-are = refl; placed = λ n h. absurd (omega arith) }
+pub known-entries-none : (first total : ℕ) → KnownEntries first total [] 0 first 0 (columnsOf total [])
+known-entries-none first total =
+    record { count-is = refl; line-is = omega arith; verdict = verdict-none first; columns-are = refl }
 
-pub known-entries-more : (s : List ℕ) (first total : ℕ) (done : List Entry) (count line bad : ℕ) (columns columns′ : Columns) (t : List ℕ) (r : EntryLine)
-    → KnownEntries s first total done count line bad columns → 1 ≤ first
+pub known-entries-more : (first total : ℕ) (done : List Entry) (count line bad : ℕ) (columns columns′ : Columns) (t : List ℕ) (r : EntryLine)
+    → KnownEntries first total done count line bad columns → 1 ≤ first
     → (count < 28 → columns′ ≡ putIn columns count total r) → (28 ≤ count → columns′ ≡ columns)
-    → EntryRead t r → (r .used ≡ 0 → ⊥) → t ≡ drop (length s - length t) s
-    → KnownEntries s first total (done ++ (entryOf t r ∷ [])) (count + 1) (line + 1) (firstBad bad (fairLine r) line) columns′
-known-entries-more s first total done count line bad columns columns′ t r k f put keep e z p =
+    → EntryRead t r
+    → KnownEntries first total (done ++ (entryOf t r ∷ [])) (count + 1) (line + 1) (firstBad bad (fairLine r) line) columns′
+known-entries-more first total done count line bad columns columns′ t r k f put keep e =
     record {
       count-is = omega (arith, k .count-is, longer);
       line-is = omega (arith, k .line-is, longer);
       verdict = rw (map-more fairEntry done (entryOf t r)) (verdict-more (k .verdict) (fairLine r) (fairEntry (entryOf t r)) line (λ _. refl) (omega (arith, k .line-is, length-map done fairEntry)) (omega (arith, k .line-is)));
       columns-are = go (leb 28 count) refl;
-      placed = each-more (λ x. Placed s x) nobody done (entryOf t r) (k .placed) (placed-drop s (length s - length t) (entryOf t r) (omega arith) (subst (λ (x : List ℕ). Placed x (entryOf t r)) p (name-placed t r e z)));
     }
   where
     longer : length (done ++ (entryOf t r ∷ [])) ≡ length done + 1

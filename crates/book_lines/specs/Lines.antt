@@ -2,7 +2,8 @@
 use Prim.Native.Nat.{ℕ}
 use mathlib.Core.List.{List}
 use lib.ListN.{getD}
-use Rattle.text_read.specs.Reader.{Reader, _>>=_, _>>_, give, remaining, bytes, text, word, row}
+use Rattle.text_read.specs.Reader.{Reader, _>>=_, _>>_, give, remaining, text, word, row}
+use Rattle.text_read.specs.Heads.{moveHead, entryHead, nameEnd}
 use Rattle.book_lines.specs.declared.moves.Move.{Move}
 
 -- "`(move A B T C)`"
@@ -11,7 +12,7 @@ moveFrom ns = record { source = getD ns 0 0; target = getD ns 1 0; ticks = getD 
 
 unfoldable pub move : Reader Move
 move = do
-  ns ← row (bytes "(move ") 4
+  ns ← row moveHead 4
   give (moveFrom ns)
 
 -- "`(entry (name W) I S F)`", with how many bytes of the book are left where W begins
@@ -24,8 +25,8 @@ pub record Entry : Type 0 where
 
 unfoldable pub entry : Reader Entry
 entry = do
-  text (bytes "(entry (name ")
+  text entryHead
   left ← remaining
   w ← word
-  ns ← row (bytes ") ") 3
+  ns ← row nameEnd 3
   give (record { name = w; left = left; instrument = getD ns 0 0; start = getD ns 1 0; finish = getD ns 2 0 })

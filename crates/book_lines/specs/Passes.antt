@@ -1,5 +1,5 @@
 -- What the functions over lines promise: one line, and the passes over the moves and over the entries.
-use Prim.Native.Nat.{ℕ, _+_, _-_, _≤_, _<_}
+use Prim.Native.Nat.{ℕ, _+_, _-_, _≤_}
 use mathlib.Core.Path.{_≡_}
 use mathlib.Core.Bool.{Bool, true, cond, _&&_}
 use mathlib.Core.List.{List, [], _∷_, _++_}
@@ -13,7 +13,7 @@ use Rattle.book_lines.specs.declared.entries.Columns.{Columns}
 use Rattle.book_lines.specs.declared.entries.Entries.{Entries}
 use Rattle.book_lines.specs.Lines.{move, Entry, entry}
 use Rattle.book_lines.specs.Questions.{fairMove, stands, moves, entries, allPass, FailsAt}
-use Rattle.book_lines.specs.Columns.{place, table, column, nobody}
+use Rattle.book_lines.specs.Columns.{place, table, column}
 
 -- the first line that failed, or 0
 abbrev pub firstBad : ℕ → Bool → ℕ → ℕ
@@ -67,7 +67,6 @@ pub record EntryRead (s : List ℕ) (r : EntryLine) : Type 0 where
   pub none : r .used ≡ 0 → r ≡ noEntry
   pub begins : r .left ≤ length s
   pub ends : r .length ≤ r .left
-  pub some : (r .used ≡ 0 → ⊥) → 0 < r .length
 
 abbrev pub fairLine : EntryLine → Bool
 fairLine e = leb 1 (e .instrument) && leb (e .instrument) 16 && ltb (e .start) (e .finish) && leb (e .finish) 1000000
@@ -93,13 +92,6 @@ columnsOf total es =
       lengths = column (λ e. length (e .name)) es;
     }
 
--- the name of e is the part of s that begins where `left` bytes are left
-pub record Placed (s : List ℕ) (e : Entry) : Type 0 where
-  pub begins : e .left ≤ length s
-  pub ends : length (e .name) ≤ e .left
-  pub some : 0 < length (e .name)
-  pub is : take (length (e .name)) (drop (length s - e .left) s) ≡ e .name
-
 -- the entries at the front of s, whose first line is `first`; the columns are those of the first 28
 pub record EntriesRead (s : List ℕ) (first total : ℕ) (r : Entries) : Type 0 where
   pub list : List Entry
@@ -108,4 +100,3 @@ pub record EntriesRead (s : List ℕ) (first total : ℕ) (r : Entries) : Type 0
   pub count : r .count ≡ length list
   pub verdict : LinesVerdict first (entries list) (r .bad)
   pub columns : r .columns ≡ columnsOf total (take 28 list)
-  pub placed : (n : ℕ) → n < length list → Placed s (getD list n nobody)

@@ -1,5 +1,6 @@
 // The lines of entries: question 15, and the columns that they make.
 use crate::verdict::first_bad;
+use text_read::heads;
 use text_read::read_row;
 use text_read::read_text;
 use text_read::read_word;
@@ -51,7 +52,7 @@ fn no_entry() -> EntryLine
 fn read_entry(rest: &[u8]) -> EntryLine
     ensures { λ r. ⌜ EntryRead (now (rest .entry)) r ⌝ }
 {
-    let n1 = read_text(rest, b"(entry (name ");
+    let n1 = read_text(rest, &heads::ENTRY);
     if n1 == 0 {
         return no_entry();
     }
@@ -60,7 +61,7 @@ fn read_entry(rest: &[u8]) -> EntryLine
         return no_entry();
     }
     let at = n1 + length;
-    let r = read_row(&rest[at..], b") ", 3);
+    let r = read_row(&rest[at..], &heads::NAME_END, 3);
     let n3 = r.used;
     if n3 == 0 {
         return no_entry();

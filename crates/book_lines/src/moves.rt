@@ -1,5 +1,6 @@
 // The lines of moves: question 14, and the tables that they make.
 use crate::verdict::first_bad;
+use text_read::heads;
 use text_read::read_row;
 ghost use mathlib.Core.Path.{_≡_};
 ghost use Prim.Native.Nat.{_≤_, _<_};
@@ -70,7 +71,7 @@ pub fn read_moves(book: &[u8]) -> Moves
     let mut bad: u32 = 0;
     let mut rest = book;
     loop {
-        let r = read_row(rest, b"(move ", 4);
+        let r = read_row(rest, &heads::MOVE, 4);
         let used = r.used;
         if used == 0 {
             return Moves {

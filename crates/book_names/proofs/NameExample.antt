@@ -1,6 +1,7 @@
 -- The names in the book of 01's listing, by the definitions alone.
 use mathlib.Core.Path.{_≡_, refl}
-use Rattle.text_read.specs.Reader.{thenRead, _>>=_, _>>_, give, guard, remaining, bytes, begins, text, front, run, valueFrom, number, word, row, more, upTo, many}
+use Rattle.text_read.specs.Reader.{thenRead, _>>=_, _>>_, give, guard, remaining, begins, text, front, run, valueFrom, number, word, row, more, upTo, many}
+use Rattle.text_read.specs.Heads.{bytes}
 use Rattle.book_lines.specs.Lines.{move, entry}
 use Rattle.book_lines.specs.Questions.{moves, allPass}
 use Rattle.book_form.specs.Book.{opening, book, whole, parse}

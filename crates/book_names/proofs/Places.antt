@@ -5,36 +5,36 @@ use mathlib.Core.Bool.{true, false, _&&_}
 use mathlib.Core.Option.{Option, none, some}
 use mathlib.Core.List.{List, []}
 use native.Mathlib.Omega.{arith}
-use lib.ListN.{length, length-drop, drop, getD}
-use lib.Seq.{length-take-le}
+use lib.ListN.{length, getD}
 use lib.Dec.{leb}
-use Rattle.book_lines.specs.Columns.{nobody}
 use Rattle.book_form.specs.declared.CheckedBook.{CheckedBook}
 use Rattle.book_form.specs.declared.Checked.{Checked}
 use Rattle.book_form.specs.Book.{Book, parse}
 use Rattle.book_form.specs.Questions.{bookRefusal}
-use Rattle.book_form.specs.Checked.{checkedUnless, checkedBook, entriesOf}
-use Rattle.book_check.specs.BookCheck.{Lies, ChecksBook}
+use Rattle.book_form.specs.Checked.{checkedOf, checkedUnless, checkedBook}
+use Rattle.book_check.specs.BookCheck.{ChecksBook}
 use Rattle.book_form.proofs.Judging.{column-at}
+use Rattle.book_form.proofs.Names.{names-placed, checked-name}
 use Rattle.book_form.proofs.WithinLimits.{within-limits}
 use Rattle.book_names.specs.Name.{orEmptyPart}
 use Rattle.book_names.specs.BookNames.{BookName}
 use Rattle.book_names.proofs.Naming.{from-one, not-refused, refused}
 
-count-few : (s : List ℕ) → checkedBook s .count ≤ 28
-count-few s = go (bookRefusal s) refl (parse s) refl
-  where
-    go : (q : ℕ) → bookRefusal s ≡ q → (o : Option Book) → parse s ≡ o → checkedUnless q (length s) o .count ≤ 28
-    go zero e none p = omega arith
-    go zero e (some b) p = within-limits s b e p .few
-    go (suc q) e o p = omega arith
+-- c is the checked book of an accepted book, of which j is an entry
+record EntryHeld (s : List ℕ) (j : ℕ) (c : CheckedBook) : Type 0 where
+  book : Book
+  parsed : parse s ≡ some book
+  accepted : bookRefusal s ≡ 0
+  is : c ≡ checkedOf (length s) book
+  inside : j - 1 < length (book .entries)
 
--- q is the refusal of the book, o what it holds
-begins-at : (q total : ℕ) (o : Option Book) (n : ℕ) → n < checkedUnless q total o .count
-    → getD (checkedUnless q total o .names) n 0 ≡ total - getD (entriesOf o) n nobody .left
-begins-at zero total none n h = absurd (omega arith)
-begins-at zero total (some b) n h = column-at (λ e. total - e .left) (b .entries) n h
-begins-at (suc q) total o n h = absurd (omega arith)
+entry-held : (s : List ℕ) (j : ℕ) (c : CheckedBook) → c ≡ checkedBook s → (1 ≤ j) × (j ≤ c .count) → EntryHeld s j c
+entry-held s j c e h = go (bookRefusal s) refl (parse s) refl e
+  where
+    go : (q : ℕ) → bookRefusal s ≡ q → (o : Option Book) → parse s ≡ o → c ≡ checkedUnless q (length s) o → EntryHeld s j c
+    go zero a none p k = absurd (omega (arith, ap (λ (b : CheckedBook). b .count) k, h))
+    go zero a (some b) p k = record { book = b; parsed = p; accepted = a; is = k; inside = omega (arith, ap (λ (b : CheckedBook). b .count) k, h) }
+    go (suc q) a o p k = absurd (omega (arith, ap (λ (b : CheckedBook). b .count) k, h))
 
 no-name : (q : ℕ) (name : List ℕ) → ¬ (q ≡ 0) → [] ≡ orEmptyPart q name
 no-name zero name z = absurd (z refl)
@@ -48,26 +48,24 @@ module _ (s : List ℕ) (j : ℕ) (r : Checked) (c : ChecksBook s r) where
       record { within = omega arith; given = record { is = no-name _ _ z; some = λ y. absurd (z y) }; here = λ y. absurd (z y); zero = λ _. refl }
 
   module _ (e : (leb 1 j && leb j (r .book .count)) ≡ true) where
-    count-is : r .book .count ≡ checkedBook s .count
-    count-is = ap (λ (b : CheckedBook). b .count) (c .book)
+    held : EntryHeld s j (r .book)
+    held = entry-held s j (r .book) (c .book) (from-one j (r .book .count) e)
 
     pub in-arrays : (1 ≤ j) × (j - 1 < 28)
-    in-arrays = let h = from-one j (r .book .count) e in (h .0, omega (arith, count-few s, count-is))
-
-    lies : Lies s (getD (r .book .names) (j - 1) 0) (getD (r .book .lengths) (j - 1) 0) (getD (entriesOf (parse s)) (j - 1) nobody .name)
-    lies = c .lies (j - 1) (let h = from-one j (r .book .count) e in omega arith)
+    in-arrays = let d = held in (from-one j (r .book .count) e .0, omega (arith, d .inside, within-limits s (d .book) (d .accepted) (d .parsed) .few))
 
     pub somewhere : BookName s j (record { start = getD (r .book .names) (j - 1) 0; length = getD (r .book .lengths) (j - 1) 0 })
     somewhere =
+        let d = held in
         let z = not-refused s j r c e in
-        let l = lies in
-        let h = from-one j (r .book .count) e in
-        record {
-          within = l .within;
+        let l = checked-name s (d .book) (d .parsed) (j - 1) (d .inside) in
+        rw (d .is)
+        (record {
+          within = l .0;
           given = record {
-            is = l .is ∙ ap (λ (q : ℕ). orEmptyPart q (getD (entriesOf (parse s)) (j - 1) nobody .name)) z;
-            some = λ _. rw (length-take-le (getD (r .book .lengths) (j - 1) 0) (drop (getD (r .book .names) (j - 1) 0) s) (rw length-drop (omega (arith, l .within)))) (l .some);
+            is = l .1 ∙ rw (← z, d .parsed);
+            some = λ _. rw (l .1) (names-placed s (d .book) (d .parsed) (j - 1) (d .inside) .some);
           };
-          here = λ _. ap (λ (b : CheckedBook). getD (b .names) (j - 1) 0) (c .book) ∙ begins-at (bookRefusal s) (length s) (parse s) (j - 1) (omega (arith, count-is));
+          here = λ _. column-at (λ e. length s - e .left) (d .book .entries) (j - 1) (d .inside) ∙ rw (d .parsed);
           zero = λ y. absurd (y (sym z));
-        }
+        })

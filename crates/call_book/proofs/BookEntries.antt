@@ -17,10 +17,8 @@ use Rattle.laws.specs.Run.{shown, respond, Answers}
 use Rattle.laws.specs.Count.{counted}
 use Rattle.bytes_read.specs.Words.{words, encodeWords}
 use Rattle.book_form.specs.Book.{Book, parse}
-use Rattle.book_form.specs.Questions.{bookRefusal, questionOf, lineTold}
+use Rattle.book_form.specs.Questions.{bookRefusal}
 use Rattle.book_form.specs.Checked.{entriesOf}
-use Rattle.book_check.specs.BookCheck.{ChecksBook}
-use Rattle.book_form.specs.declared.Checked.{Checked}
 use Rattle.book_form.specs.declared.CheckedBook.{CheckedBook}
 use Rattle.way_theory.specs.FullWays.{fullWays, firstWay, nextWay, countWays}
 use Rattle.way_theory.specs.Ways.{wayCost}
@@ -37,19 +35,17 @@ use Rattle.call_book.specs.BookEntries.{BookCount}
 use Rattle.way_theory.specs.BookBytes.{waysIn, ways, entryCount, wayCostOrZero, wayCostIn}
 use Rattle.book_form.specs.Told.{Told}
 use Rattle.call_book.specs.BookRules.{bookRules}
-use Rattle.call_way_bytes.specs.WaySteps.{AdmitsBook}
+use Rattle.call_way_bytes.specs.WaySteps.{AdmitsBook, AdmitsWithRoom}
+use Rattle.call_way_bytes.proofs.Admitting.{Admitted}
 use Rattle.call_reply.proofs.Turns.{noItemWord, first-passed, all-passed, count-line}
 use Rattle.call_reply.proofs.Items.{after-given}
 use Rattle.book_form.proofs.Told.{untold}
 use Rattle.call_book.proofs.BookRun.{full}
 
--- past questions 11 to 17: the book, which the checked book holds
+-- past questions 11 to 17
 pub record Past (s : List ℕ) (bytes : ℕ) (c : CheckedBook) : Type 0 where
-  pub ok : bookRefusal s ≡ 0
+  pub admitted : Admitted s c
   pub fits : room (entryCount s) bytes ≡ true
-  pub book : Book
-  pub is : parse s ≡ some book
-  pub holds : Holds book c
 
 module _ (s : List ℕ) where
   -- what was handed out shows the way, or the word
@@ -63,13 +59,13 @@ module _ (s : List ℕ) where
   says c r k t e q h = rw (e, q) (record { number-is = refl; told-is = h; cost-is = refl; lists-are = refl })
 
   -- a call that fails one of questions 11 to 17, or none
-  module _ (r : AdmittedBook) (bytes : ℕ) (h : AdmitsBook s bytes r) where
+  module _ (r : AdmittedBook) (bytes : ℕ) (h : AdmitsWithRoom s bytes r) where
     pub past : r .number ≡ 0 → Past s bytes (r .book)
     past z =
         let e = sym (h .number-is) ∙ z in
         let ok = first-passed (bookRefusal s) _ e in
         let (b, p, k) = held s ok in
-        record { ok = ok; fits = all-passed (bookRefusal s) 16 (room (entryCount s) bytes) e; book = b; is = p; holds = subst (Holds b) (sym (h .book-is)) k }
+        record { admitted = record { ok = ok; book = b; is = p; holds = subst (Holds b) (sym (h .book-is)) k }; fits = all-passed (bookRefusal s) 16 (room (entryCount s) bytes) e }
 
     pub fails : (c : BookCall) (x : Reply) → length (bookLent c) ≡ bytes → ¬ (r .number ≡ 0) → x ≡ refusedAt (r .number) (r .line) → Answers (bookRules s) c (sees x (bookLent c))
     fails c x l n q = go (bookRefusal s) (room (entryCount s) bytes) refl refl (h .number-is)
@@ -82,49 +78,48 @@ module _ (s : List ℕ) where
   -- past them
   module _ (bytes : ℕ) (c : CheckedBook) (h : Past s bytes c) where
     pub is-held : Held c
-    is-held = record { book = h .book; holds = h .holds }
+    is-held = record { book = h .admitted .book; holds = h .admitted .holds }
 
-    pub room-way : (w : WayEnumerator) → Enumerates (h .book) w → room (w .entries) bytes ≡ true
-    room-way w k = ap (λ n. room n bytes) (k .entries-are ∙ sym (ap (λ o. length (entriesOf o)) (h .is))) ∙ h .fits
+    pub room-way : (w : WayEnumerator) → Enumerates (h .admitted .book) w → room (w .entries) bytes ≡ true
+    room-way w k = ap (λ n. room n bytes) (k .entries-are ∙ sym (ap (λ o. length (entriesOf o)) (h .admitted .is))) ∙ h .fits
 
     module _ (l : List ℕ) (long : length l ≡ bytes) where
       fits : room (entryCount s) (length l) ≡ true
       fits = ap (room (entryCount s)) long ∙ h .fits
 
-      of-book : (o : Option (List ℕ)) (k : ℕ) (r : Reply) (l′ : List ℕ) → HandsItem (λ w. pos (wayCost (h .book) w)) o k l r l′ → HandsItem (wayCostIn s) o k l r l′
-      of-book o k r l′ d = subst (λ x. HandsItem (λ w. pos (wayCostOrZero x w)) o k l r l′) (sym (h .is)) d
+      of-book : (o : Option (List ℕ)) (k : ℕ) (r : Reply) (l′ : List ℕ) → HandsItem (λ w. pos (wayCost (h .admitted .book) w)) o k l r l′ → HandsItem (wayCostIn s) o k l r l′
+      of-book o k r l′ d = subst (λ x. HandsItem (λ w. pos (wayCostOrZero x w)) o k l r l′) (sym (h .admitted .is)) d
 
-      pub answers-first : (o : Option (List ℕ)) → o ≡ firstWay (h .book) → (r : Reply) (l′ : List ℕ) → HandsItem (λ w. pos (wayCost (h .book) w)) o 100 l r l′
+      pub answers-first : (o : Option (List ℕ)) → o ≡ firstWay (h .admitted .book) → (r : Reply) (l′ : List ℕ) → HandsItem (λ w. pos (wayCost (h .admitted .book) w)) o 100 l r l′
           → Answers (bookRules s) (first l) (sees r l′)
       answers-first o e r l′ d =
-          let w : first? (ways s) ≡ o = ap (λ x. first? (waysIn x)) (h .is) ∙ sym e in
-          let says : respond (bookRules s) (first l) ≡ shown o nothing = rw (h .ok, fits, w) refl in
+          let w : first? (ways s) ≡ o = ap (λ x. first? (waysIn x)) (h .admitted .is) ∙ sym e in
+          let says : respond (bookRules s) (first l) ≡ shown o nothing = rw (h .admitted .ok, fits, w) refl in
           subst (λ a. Shows (bookRules s) (first l) a (sees r l′)) (sym says) (handed (first l) o r l′ (of-book o 100 r l′ d))
 
-      pub fails-given : (g : List ℕ) (r : Reply) → listed g (fullWays (h .book)) ≡ false → r ≡ codeAlone 18 → Answers (bookRules s) (next g l) (sees r l)
+      pub fails-given : (g : List ℕ) (r : Reply) → listed g (fullWays (h .admitted .book)) ≡ false → r ≡ codeAlone 18 → Answers (bookRules s) (next g l) (sees r l)
       fails-given g r e q =
-          says (next g l) r 17 0 (rw (h .ok, fits, ap (λ x. listed g (waysIn x)) (h .is) ∙ e)) q
+          says (next g l) r 17 0 (rw (h .admitted .ok, fits, ap (λ x. listed g (waysIn x)) (h .admitted .is) ∙ e)) q
           (untold 18 (λ e. omega arith) (λ e. omega arith) (λ e. omega arith) s)
 
-      pub answers-next : (g : List ℕ) (o : Option (List ℕ)) → listed g (fullWays (h .book)) ≡ true → o ≡ nextWay (h .book) (words g) → (r : Reply) (l′ : List ℕ)
-          → HandsItem (λ w. pos (wayCost (h .book) w)) o 101 l r l′ → Answers (bookRules s) (next g l) (sees r l′)
+      pub answers-next : (g : List ℕ) (o : Option (List ℕ)) → listed g (fullWays (h .admitted .book)) ≡ true → o ≡ nextWay (h .admitted .book) (words g) → (r : Reply) (l′ : List ℕ)
+          → HandsItem (λ w. pos (wayCost (h .admitted .book) w)) o 101 l r l′ → Answers (bookRules s) (next g l) (sees r l′)
       answers-next g o e q r l′ d =
-          let on : listed g (ways s) ≡ true = ap (λ x. listed g (waysIn x)) (h .is) ∙ e in
+          let on : listed g (ways s) ≡ true = ap (λ x. listed g (waysIn x)) (h .admitted .is) ∙ e in
           let w : after same-list encodeWords g (ways s) ≡ o =
-          after-given (entryCount s) (ways s) (full s (h .ok)) g on ∙ ap (λ x. after same-list (λ v. v) (words g) (waysIn x)) (h .is) ∙ sym q in
-          let says : respond (bookRules s) (next g l) ≡ shown o end = rw (h .ok, fits, on, w) refl in
+          after-given (entryCount s) (ways s) (full s (h .admitted .ok)) g on ∙ ap (λ x. after same-list (λ v. v) (words g) (waysIn x)) (h .admitted .is) ∙ sym q in
+          let says : respond (bookRules s) (next g l) ≡ shown o end = rw (h .admitted .ok, fits, on, w) refl in
           subst (λ a. Shows (bookRules s) (next g l) a (sees r l′)) (sym says) (handed (next g l) o r l′ (of-book o 101 r l′ d))
 
   -- counting
-  pub counts-refused : (v : Checked) → ChecksBook s v → (k t cap : ℕ) (r : Reply) → k ≡ questionOf (v .answer) → t ≡ lineTold (v .answer) → ¬ (k ≡ 0) → r ≡ refusedAt k t → BookCount s cap r
-  counts-refused v h zero t cap r e l n q = absurd (n refl)
-  counts-refused v h (suc k) t cap r e l n q =
-      let no : bookRefusal s ≡ suc k = sym (h .question) ∙ sym e in
-      record {
-        code-is = rw (no, q);
-        value-is = rw (no, q);
-        told = rw q (subst (λ i. Told s i t) (h .question) (subst (λ i. Told s (questionOf (v .answer)) i) (sym l) (h .line)));
-      }
+  pub counts-refused : (r : AdmittedBook) → AdmitsBook s r → (cap : ℕ) (x : Reply) → ¬ (r .number ≡ 0) → x ≡ refusedAt (r .number) (r .line) → BookCount s cap x
+  counts-refused r h cap x n q = go (r .number) refl
+    where
+      go : (k : ℕ) → r .number ≡ k → BookCount s cap x
+      go zero e = absurd (n e)
+      go (suc k) e =
+          let no : bookRefusal s ≡ suc k = sym (h .number-is) ∙ e in
+          record { code-is = rw (no, q) e; value-is = rw (no, q); told = rw q (subst (λ i. Told s i (r .line)) (h .number-is) (h .told)) }
 
   pub counts : bookRefusal s ≡ 0 → (b : Book) → parse s ≡ some b → (cap n : ℕ) → counted cap n ≡ countWays b cap → (r : Reply) → r ≡ countReply (counted cap n) → BookCount s cap r
   counts ok b p cap n is r q =

@@ -6,7 +6,8 @@ use native.Mathlib.Decide.{ℕ-discrete}
 use Rattle.laws.specs.Rules.{first, next}
 use Rattle.laws.specs.Seen.{refused, end, item}
 use Rattle.laws.specs.Run.{respond}
-use Rattle.text_read.specs.Reader.{thenRead, _>>=_, _>>_, give, guard, remaining, bytes, begins, text, front, run, valueFrom, number, word, row, more, upTo, many}
+use Rattle.text_read.specs.Reader.{thenRead, _>>=_, _>>_, give, guard, remaining, begins, text, front, run, valueFrom, number, word, row, more, upTo, many}
+use Rattle.text_read.specs.Heads.{bytes}
 use Rattle.book_lines.specs.Lines.{move, entry}
 use Rattle.book_lines.specs.Questions as lines
 use Rattle.book_form.specs.Book.{opening, book, whole, parse}

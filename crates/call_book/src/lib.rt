@@ -6,7 +6,7 @@ use call_reply::Reply;
 pub fn first(book: &[u8], way: &mut [u8]) -> Reply
     ensures { λ r. ⌜ BookFirst (now (book .entry)) (now (way .entry)) r (now (way .exit)) ⌝ }
 {
-    let admitted = call_way_bytes::admit_book(book, way.len());
+    let admitted = call_way_bytes::admit_with_room(book, way.len());
     let number = admitted.number;
     if number != 0 {
         return call_reply::refused_at(number, admitted.line);
@@ -20,7 +20,7 @@ pub fn first(book: &[u8], way: &mut [u8]) -> Reply
 pub fn next(book: &[u8], given: &[u8], way: &mut [u8]) -> Reply
     ensures { λ r. ⌜ BookNext (now (book .entry)) (now (given .entry)) (now (way .entry)) r (now (way .exit)) ⌝ }
 {
-    let admitted = call_way_bytes::admit_book(book, way.len());
+    let admitted = call_way_bytes::admit_with_room(book, way.len());
     let number = admitted.number;
     if number != 0 {
         return call_reply::refused_at(number, admitted.line);
@@ -39,13 +39,12 @@ pub fn next(book: &[u8], given: &[u8], way: &mut [u8]) -> Reply
 pub fn count(book: &[u8], cap: u16) -> Reply
     ensures { λ r. ⌜ BookCount (now (book .entry)) cap r ⌝ }
 {
-    let checked = book_check::check(book);
-    let answer = checked.answer;
-    let number = book_form::question(answer);
+    let admitted = call_way_bytes::admit_book(book);
+    let number = admitted.number;
     if number != 0 {
-        return call_reply::refused_at(number, book_form::line(answer));
+        return call_reply::refused_at(number, admitted.line);
     }
-    let b = checked.book;
+    let b = admitted.book;
     let count = way_enumerate::start(b).count(cap);
     call_reply::count_reply(count, cap)
 }

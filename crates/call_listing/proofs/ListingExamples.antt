@@ -2,13 +2,15 @@
 use mathlib.Core.Path.{_≡_, refl}
 use mathlib.Core.List.{List, [], _∷_, map}
 use Prim.Native.Nat.{ℕ}
-use Rattle.text_read.specs.Reader.{thenRead, _>>=_, _>>_, give, guard, remaining, bytes, begins, text, front, run, valueFrom, number, word, row, more, upTo, many}
+use Rattle.text_read.specs.Reader.{thenRead, _>>=_, _>>_, give, guard, remaining, begins, text, front, run, valueFrom, number, word, row, more, upTo, many}
+use Rattle.text_read.specs.Heads.{bytes}
 use Rattle.book_lines.specs.Lines.{move, entry}
 use Rattle.book_lines.specs.Questions as lines
 use Rattle.book_form.specs.Book.{opening, book, whole, parse}
 use Rattle.book_form.proofs.Example.{sample}
 use Rattle.way_theory.specs.FullWays.{wayList, fullWays}
-use Rattle.text_write.specs.Lines.{digits, decimal, spaced, costLine, wayLine, endLine, moreLine, noneLine, refusedLine}
+use Rattle.text_write.specs.Decimal.{digits, decimal}
+use Rattle.text_listing.specs.Lines.{spaced, costLine, wayLine, endLine, moreLine, noneLine, refusedLine}
 use Rattle.call_listing.specs.Listing.{listing, listingCode}
 
 -- one player, and the snare ends at 97

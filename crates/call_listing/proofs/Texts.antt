@@ -1,23 +1,22 @@
 -- From the text that is written to what the functions ensure.
 use mathlib.Core.Path.{_≡_, refl, sym, ap, subst, _∙_}
+use mathlib.Core.Bool.{Bool, true, false}
 use mathlib.Core.List.{List, [], _∷_}
-use mathlib.Core.Option.{none, some}
+use mathlib.Core.Option.{Option, none, some}
 use Prim.Native.Nat.{ℕ, zero, suc, _≤_, _<_}
 use native.Mathlib.Omega.{arith}
 use lib.IntN.{pos}
+use lib.Dec.{leb}
 use lib.ListN.{length, take, drop}
 use lib.Seq.{take-at}
 use Rattle.laws.specs.Members.{first?, none-some}
-use Rattle.text_write.specs.Appended.{Appended}
+use Rattle.laws.specs.Tests.{ask}
+use Rattle.laws.specs.Appended.{Appended, appended-long}
 use Rattle.text_write.specs.Fit.{fit}
-use Rattle.text_write.specs.Lines.{noneLine, refusedLine}
-use Rattle.text_write.proofs.Pieces.{appended-long}
+use Rattle.text_listing.specs.Lines.{noneLine, refusedLine}
+use Rattle.book_lines.specs.Questions.{moves, entries, allPass}
 use Rattle.book_form.specs.Book.{Book, parse}
-use Rattle.book_form.specs.Questions.{bookRefusal, questionOf, lineTold}
-use Rattle.book_form.specs.declared.Answer.{Answer}
-use Rattle.book_form.specs.declared.Answer.the-variants.{Accepted, TooLong, Malformed, BadHeader, BadMove, BadEntry, TooMany}
-use Rattle.book_form.specs.declared.Checked.{Checked}
-use Rattle.book_check.specs.BookCheck.{ChecksBook}
+use Rattle.book_form.specs.Questions.{header, askForm, bookRefusal}
 use Rattle.way_theory.specs.Ways.{wayCost}
 use Rattle.way_theory.specs.FullWays.{fullWays, firstWay}
 use Rattle.way_list.specs.WayListing.{listWays, waysText}
@@ -26,17 +25,25 @@ use Rattle.call_reply.specs.Replies.{refusedAt}
 use Rattle.call_reply.proofs.Turns.{first-passed}
 use Rattle.book_form.specs.Told.{Told}
 use Rattle.book_form.proofs.Told.{untold}
+use Rattle.call_way_bytes.specs.WaySteps.{AdmitsBook}
+use Rattle.call_way_bytes.specs.declared.AdmittedBook.{AdmittedBook}
 use Rattle.call_listing.specs.declared.Written.{Written}
 use Rattle.call_listing.specs.Listing.{listing, noneCode, listingCode, Printed, BookListing, WritesListing}
 
-pub question-few : (a : Answer) → questionOf a < 100
-question-few Accepted = omega arith
-question-few TooLong = omega arith
-question-few Malformed = omega arith
-question-few TooMany = omega arith
-question-few (BadHeader k) = omega arith
-question-few (BadMove k) = omega arith
-question-few (BadEntry k) = omega arith
+-- the number of a question has two digits
+ask-few : (b : Bool) (q r : ℕ) → q < 100 → r < 100 → ask b q r < 100
+ask-few true q r h k = k
+ask-few false q r h k = h
+
+form-few : (o : Option Book) → askForm o < 100
+form-few none = omega arith
+form-few (some b) =
+    ask-few (allPass (header b)) 13 _ (omega arith)
+    (ask-few (allPass (moves [] (b .moves))) 14 _ (omega arith)
+    (ask-few (allPass (entries (b .entries))) 15 _ (omega arith) (ask-few (leb (length (b .entries)) 28) 16 0 (omega arith) (omega arith))))
+
+pub refusal-few : (s : List ℕ) → bookRefusal s < 100
+refusal-few s = ask-few (leb (length s) 16384) 11 _ (omega arith) (form-few (parse s))
 
 no-text : (cost : List ℕ → ℕ) (l : List (List ℕ)) → first? l ≡ none → (noneCode l ≡ 100) × (listWays cost l ≡ noneLine)
 no-text cost [] e = (refl, refl)
@@ -52,12 +59,15 @@ accepted-untold s ok = rw ok (untold 0 (λ e. omega arith) (λ e. omega arith) (
 
 -- what is written
 module _ (s before after : List ℕ) (n : ℕ) where
-  pub writes-refused : (v : Checked) → ChecksBook s v → (k t : ℕ) → k ≡ questionOf (v .answer) → t ≡ lineTold (v .answer) → ¬ (k ≡ 0) → Appended before 0 (refusedLine k) after n
-      → WritesListing s before (record { len = n; code = k; line = t }) after
-  writes-refused v h zero t e l f a = absurd (f refl)
-  writes-refused v h (suc k) t e l f a =
-      let q : bookRefusal s ≡ suc k = sym (h .question) ∙ sym e in
-      record { text = rw q a; code-is = rw q; told = subst (λ i. Told s i t) (h .question) (subst (λ i. Told s (questionOf (v .answer)) i) (sym l) (h .line)) }
+  pub writes-refused : (r : AdmittedBook) → AdmitsBook s r → ¬ (r .number ≡ 0) → Appended before 0 (refusedLine (r .number)) after n
+      → WritesListing s before (record { len = n; code = r .number; line = r .line }) after
+  writes-refused r h f a = go (r .number) refl
+    where
+      go : (k : ℕ) → r .number ≡ k → WritesListing s before (record { len = n; code = r .number; line = r .line }) after
+      go zero e = absurd (f e)
+      go (suc k) e =
+          let q : bookRefusal s ≡ suc k = sym (h .number-is) ∙ e in
+          record { text = rw q (rw e at a); code-is = rw q e; told = subst (λ i. Told s i (r .line)) (h .number-is) (h .told) }
 
   module _ (ok : bookRefusal s ≡ 0) (b : Book) (is : parse s ≡ some b) where
     pub writes-none : firstWay b ≡ none → Appended before 0 noneLine after n → WritesListing s before (record { len = n; code = 100; line = 0 }) after

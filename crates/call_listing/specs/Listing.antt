@@ -6,13 +6,13 @@ use lib.ListN.{length}
 use lib.IntN.{pos}
 use Rattle.book_form.specs.Book.{parse}
 use Rattle.book_form.specs.Questions.{bookRefusal}
-use Rattle.text_write.specs.Appended.{Appended}
-use Rattle.text_write.specs.Lines.{refusedLine}
+use Rattle.laws.specs.Appended.{Appended}
+use Rattle.text_listing.specs.Lines.{refusedLine}
 use Rattle.text_write.specs.Fit.{fit}
 use Rattle.way_list.specs.WayListing.{listWays}
 use Rattle.way_theory.specs.BookBytes.{ways, wayCostOrZero}
 use Rattle.call_reply.specs.declared.Reply.{Reply}
-use Rattle.call_reply.specs.Replies.{orElse}
+use Rattle.call_reply.specs.Replies.{orElse, ifOk}
 use Rattle.book_form.specs.Told.{Told}
 use Rattle.call_listing.specs.declared.Written.{Written}
 
@@ -39,17 +39,12 @@ noneCode (w ∷ l) = 0
 abbrev pub listingCode : List ℕ → ℕ
 listingCode s = orElse (bookRefusal s) (noneCode (ways s))
 
--- "The rest of the result is then zero and no lent list changes." "'None' and 'end' are no refusals; they too write nothing."
-abbrev pub ifListed : {A : Type 0} → ℕ → A → A → A
-ifListed zero x y = x
-ifListed (suc n) x y = y
-
 -- a call of the listing: the reply, and the lent list at exit
 pub record BookListing (s before : List ℕ) (r : Reply) (after : List ℕ) : Type 0 where
   pub code-is : r .code ≡ listingCode s
-  pub value-is : r .value ≡ pos (ifListed (listingCode s) (length (listing s)) 0)
+  pub value-is : r .value ≡ pos (ifOk (listingCode s) (length (listing s)) 0)
   pub told : Told s (bookRefusal s) (r .line)
-  pub text-is : after ≡ ifListed (listingCode s) (fit (listing s) before) before
+  pub text-is : after ≡ ifOk (listingCode s) (fit (listing s) before) before
   pub few : length (listing s) ≤ 98304
 
 -- what both take: the text that `ways` prints at the front of a list, and the code and the line of the reply

@@ -24,23 +24,22 @@ fn write_listing(book: &[u8], out: &mut [u8]) -> Written
     requires { ⌜ 98304 ≤ length (now out) ⌝ }
     ensures { λ r. ⌜ WritesListing (now (book .entry)) (now (out .entry)) r (now (out .exit)) ⌝ }
 {
-    let checked = book_check::check(book);
-    let answer = checked.answer;
-    let number = book_form::question(answer);
+    let admitted = call_way_bytes::admit_book(book);
+    let number = admitted.number;
     if number != 0 {
         return Written {
-            len: text_write::put_refused(out, 0, number as u64),
+            len: text_listing::put_refused(out, 0, number as u64),
             code: number,
-            line: book_form::line(answer),
+            line: admitted.line,
         };
     }
-    let b = checked.book;
+    let b = admitted.book;
     let ways = way_enumerate::start(b).first();
     let flows = ways.flows;
     let place = flows.place;
     if !call_reply::on_item(place) {
         return Written {
-            len: text_write::put_none(out, 0),
+            len: text_listing::put_none(out, 0),
             code: 100,
             line: 0,
         };

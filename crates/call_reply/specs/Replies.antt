@@ -17,6 +17,12 @@ abbrev pub orElse : ℕ → ℕ → ℕ
 orElse zero k = k
 orElse (suc n) k = suc n
 
+-- "The rest of the result is then zero and no lent list changes." "'None' and 'end' are no refusals; they too write nothing.": x with the
+-- code 0, and y with any other
+abbrev pub ifOk : {A : Type 0} → ℕ → A → A → A
+ifOk zero x y = x
+ifOk (suc n) x y = y
+
 -- the reply, and the lent lists as the call leaves them
 abbrev pub sees : {Lent : Type 0} → Reply → Lent → Seen Lent
 sees r l = record { number = r .code; told = r .line; cost = r .value; lists = l }

@@ -1,3 +1,4 @@
 pub mod WayItems
 pub mod Admitting
 mod HandingWays
+pub mod GivenWays

@@ -29,9 +29,12 @@ module _ (b : Book) (ok : WithinLimits b) where
     small = λ w m. joined-small 1 w (full-way b w .0 m .way .joined);
   }
 
+  pub listed-way : (g : List ℕ) → listed g (fullWays b) ≡ true → (length g ≡ 4 * size b) × LeastCostWay b (words g)
+  listed-way g e = let (l, m) = listed-item (size b) (fullWays b) full-ways g e in (l, full-way b (words g) .0 m)
+
   -- question 18: "is the given list E numbers long and a least-cost way of the book?"
   pub way-listed : (g : List ℕ) → Every (λ n. n < 256) g → (listed g (fullWays b) ≡ true) ↔ ((length g ≡ 4 * size b) × LeastCostWay b (words g))
   way-listed g bytes = (
-    λ e. (let (l, m) = listed-item (size b) (fullWays b) full-ways g e in (l, full-way b (words g) .0 m)),
+    listed-way g,
     λ h. item-listed (size b) (fullWays b) full-ways g bytes (h .0) (full-way b (words g) .1 (h .1)),
   )

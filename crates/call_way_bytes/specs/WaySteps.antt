@@ -1,6 +1,6 @@
 -- What the steps of a call of a book ensure.
 use mathlib.Core.Path.{_≡_}
-use mathlib.Core.Bool.{cond}
+use mathlib.Core.Bool.{Bool, cond}
 use mathlib.Core.List.{List}
 use mathlib.Core.Option.{Option, none, some}
 use Prim.Native.Nat.{ℕ}
@@ -24,8 +24,14 @@ use Rattle.call_reply.specs.ByteLists.{room, listed}
 use Rattle.call_way_bytes.specs.declared.AdmittedBook.{AdmittedBook}
 use Rattle.way_theory.specs.BookBytes.{entryCount}
 
+-- questions 11 to 16
+pub record AdmitsBook (s : List ℕ) (r : AdmittedBook) : Type 0 where
+  pub number-is : r .number ≡ bookRefusal s
+  pub told : Told s (r .number) (r .line)
+  pub book-is : r .book ≡ checkedBook s
+
 -- questions 11 to 17, with a list of so many bytes lent for the way
-pub record AdmitsBook (s : List ℕ) (bytes : ℕ) (r : AdmittedBook) : Type 0 where
+pub record AdmitsWithRoom (s : List ℕ) (bytes : ℕ) (r : AdmittedBook) : Type 0 where
   pub number-is : r .number ≡ orElse (bookRefusal s) (ask (room (entryCount s) bytes) 17 0)
   pub told : Told s (r .number) (r .line)
   pub book-is : r .book ≡ checkedBook s
@@ -36,6 +42,10 @@ givenWay b g = cond (listed g (fullWays b)) (some (words g)) none
 
 pub record ResumesWay (c : CheckedBook) (g : List ℕ) (r : WayEnumerator) : Type 0 where
   pub each : (b : Book) → Holds b c → At b Start (givenWay b g) r
+
+-- question 18, "is the given list E numbers long and a least-cost way of the book?", as a test
+pub record IsGiven (c : CheckedBook) (g : List ℕ) (r : Bool) : Type 0 where
+  pub each : (b : Book) → Holds b c → r ≡ listed g (fullWays b)
 
 -- the way that an enumerator stands on is written to the list lent for it; without one the reply is the code k
 pub record HandsWay (s : WayEnumerator) (k : ℕ) (out : List ℕ) (r : Reply) (out′ : List ℕ) : Type 0 where

@@ -2,5 +2,6 @@ pub mod Refusals
 pub mod Runs
 pub mod Matched
 pub mod Listings
+pub mod Sheets
 pub mod Names
 pub mod ThreeCalls

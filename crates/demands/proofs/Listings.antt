@@ -10,10 +10,10 @@ use Rattle.book_form.specs.Book.{parse}
 use Rattle.book_form.specs.Questions.{bookRefusal}
 use Rattle.way_theory.specs.BookBytes.{ways, wayCostOrZero}
 use Rattle.call_reply.specs.declared.Reply.{Reply}
-use Rattle.call_reply.specs.Replies.{orElse}
+use Rattle.call_reply.specs.Replies.{orElse, ifOk}
 use Rattle.text_write.specs.Fit.{fit}
 use Rattle.way_list.specs.WayListing.{listWays}
-use Rattle.call_listing.specs.Listing.{orRefusedLine, listing, noneCode, listingCode, ifListed, BookListing}
+use Rattle.call_listing.specs.Listing.{orRefusedLine, listing, noneCode, listingCode, BookListing}
 use Rattle.demands.specs.Demands.{ListWaysDemands}
 use Rattle.demands.proofs.Runs.{no-line-told}
 
@@ -22,11 +22,11 @@ none-code [] = (λ e. refl, λ e. refl)
 none-code (w ∷ l) = (λ e. absurd (omega arith), λ e. ap noneCode e)
 
 -- the value and the list of a call with the code k, of a text v
-listed-with : (k : ℕ) (v l : List ℕ) (r : Reply) (l′ : List ℕ) → r .value ≡ pos (ifListed k (length v) 0) → l′ ≡ ifListed k (fit v l) l → k ≡ 0 → (r .value ≡ pos (length v)) × (l′ ≡ fit v l)
+listed-with : (k : ℕ) (v l : List ℕ) (r : Reply) (l′ : List ℕ) → r .value ≡ pos (ifOk k (length v) 0) → l′ ≡ ifOk k (fit v l) l → k ≡ 0 → (r .value ≡ pos (length v)) × (l′ ≡ fit v l)
 listed-with zero v l r l′ e q z = (e, q)
 listed-with (suc k) v l r l′ e q z = absurd (omega arith)
 
-unlisted : (k : ℕ) (v l : List ℕ) (r : Reply) (l′ : List ℕ) → r .value ≡ pos (ifListed k (length v) 0) → l′ ≡ ifListed k (fit v l) l → ¬ (k ≡ 0) → (r .value ≡ pos 0) × (l′ ≡ l)
+unlisted : (k : ℕ) (v l : List ℕ) (r : Reply) (l′ : List ℕ) → r .value ≡ pos (ifOk k (length v) 0) → l′ ≡ ifOk k (fit v l) l → ¬ (k ≡ 0) → (r .value ≡ pos 0) × (l′ ≡ l)
 unlisted zero v l r l′ e q z = absurd (z refl)
 unlisted (suc k) v l r l′ e q z = (e, q)
 

@@ -1,18 +1,20 @@
 -- The three demands, put to the entries that C calls. The functions of this crate call the entries and ensure what stands here: an entry that promises
 -- less has a caller here that is not proved. n is always the number of the first question that a call fails, or 0.
 use mathlib.Core.Path.{_≡_}
-use mathlib.Core.List.{List, [], _∷_, _++_}
+use mathlib.Core.List.{List, [], _∷_, _++_, map}
 use mathlib.Core.Logic.{_⊎_, _↔_}
 use mathlib.Core.Option.{none, some}
 use Prim.Native.Nat.{ℕ, zero, suc, _+_, _*_, _-_, _≤_, _<_}
 use lib.ListN.{length, getD, getElem?}
 use lib.IntN.{pos}
 use Rattle.laws.specs.Image.{mapOption}
+use Rattle.laws.specs.Totals.{total, totalOf}
 use Rattle.laws.specs.Rules.{Call, first, next, Rules}
 use Rattle.laws.specs.Seen.{Seen}
 use Rattle.laws.specs.Run.{Run, Strange, ConsistentRun, Kept, AsRead}
 use Rattle.laws.specs.Listing.{CompleteRun, ShowsFullList}
 use Rattle.laws.specs.Count.{counted, count}
+use Rattle.bytes_read.specs.Words.{words, over}
 use Rattle.net_model.specs.Network.{costOf}
 use Rattle.net_model.specs.Accepted.{AcceptedNet}
 use Rattle.net_model.specs.FullList.{fullList}
@@ -31,6 +33,9 @@ use Rattle.book_names.specs.declared.Span.{Span}
 use Rattle.book_names.specs.Name.{nameRefusal}
 use Rattle.book_names.specs.BookNames.{spanned, nameStart}
 use Rattle.book_form.specs.Told.{Told}
+use Rattle.way_theory.specs.Follow.{size}
+use Rattle.way_theory.specs.Ways.{times, IsWay, LeastCostWay}
+use Rattle.way_theory.specs.FullWays.{numbers}
 use Rattle.way_theory.specs.BookNet.{bookNet}
 use Rattle.way_theory.specs.WayFlow.{flowOf}
 use Rattle.way_theory.specs.BookBytes.{ways, entryCount, wayCostOrZero, wayCostIn}
@@ -40,6 +45,10 @@ use Rattle.call_book.specs.FirstWay.{FindsWay, FindsNoWay}
 use Rattle.text_write.specs.Fit.{fit}
 use Rattle.way_list.specs.WayListing.{listWays}
 use Rattle.call_listing.specs.Listing.{listing}
+use Rattle.way_parts.specs.Parts.{parts}
+use Rattle.way_parts.specs.Ticks.{ticksOf}
+use Rattle.way_sheets.specs.Sheets.{sheets}
+use Rattle.call_sheets.specs.SheetCalls.{sheetsQuestion}
 
 -- Demand 1. That every call ends and keeps to the memory lent to it is what the prover shows of every function. It "answers each bad book or network
 -- with the number of the first question it fails and changes nothing, and refuses nothing else". s is what is seen of a call that is lent l.
@@ -114,6 +123,27 @@ module _ (s : List ℕ) where
     pub none-exactly : bookRefusal s ≡ 0 → (r .code ≡ 100) ↔ (ways s ≡ [])
     pub listed : r .code ≡ 0 → (r .value ≡ pos (length (listing s))) × (l′ ≡ fit (listing s) l)
     pub text-is : bookRefusal s ≡ 0 → listing s ≡ listWays (wayCostOrZero (parse s)) (ways s)
+
+  -- The room of the sheets. "71 × E bytes, and the sheets of any of its ways take at most 71 bytes for each entry."
+  pub record SheetsRoomDemands (r : Reply) : Type 0 where
+    pub demand1 : Demand1 {Lists = Unit {0}} (Told s) (bookRefusal s) tt (sees r tt)
+    pub room : bookRefusal s ≡ 0 → r .value ≡ pos (71 * entryCount s)
+    pub enough : bookRefusal s ≡ 0 → (b : Book) → parse s ≡ some b → (w : List ℕ) → IsWay b w → length (sheets b w) ≤ 71 * entryCount s
+
+  -- The sheets of the way given by g, which is a least-cost way, at the front of the lent list. "Every entry stands on exactly one sheet, and the ticks
+  -- played on all sheets sum to those of the book."
+  pub record SheetsWritten (g l : List ℕ) (r : Reply) (l′ : List ℕ) : Type 0 where
+    pub book : Book
+    pub holds : parse s ≡ some book
+    pub least-cost : LeastCostWay book (words g)
+    pub value-is : r .value ≡ pos (length (sheets book (words g)))
+    pub text-is : l′ ≡ over (sheets book (words g)) l
+    pub each-once : (j : ℕ) → 1 ≤ j → j ≤ size book → total (map (λ p. times j p) (parts (words g))) ≡ 1
+    pub ticks : total (map (λ p. totalOf (ticksOf book) p) (parts (words g))) ≡ totalOf (ticksOf book) (numbers book)
+
+  pub record SheetsDemands (g l : List ℕ) (r : Reply) (l′ : List ℕ) : Type 0 where
+    pub demand1 : Demand1 (Told s) (sheetsQuestion s g (length l)) l (sees r l′)
+    pub written : r .code ≡ 0 → SheetsWritten g l r l′
 
   -- The name of entry j, by two calls, p the part and n the number. "The name of an entry is given back as the part of the book that holds it. A refused
   -- name call gives the empty part, which no name is; a second call on the same book and entry gives the number of the refusal, or 0."

@@ -7,7 +7,7 @@ ghost use Rattle.call_reply.specs.Replies.{sees};
 ghost use Rattle.call_network.specs.NetworkCalls.{lends};
 ghost use Rattle.demands.specs.Demands.{FirstFlowDemands, NextFlowDemands, CountFlowsDemands, RunFlowsDemands};
 ghost use Rattle.demands.specs.Demands.{FirstWayDemands, NextWayDemands, CountWaysDemands, RunWaysDemands};
-ghost use Rattle.demands.specs.Demands.{ListWaysDemands, NameOfDemands, madeOf};
+ghost use Rattle.demands.specs.Demands.{ListWaysDemands, SheetsRoomDemands, SheetsDemands, NameOfDemands, madeOf};
 use book_names::Span;
 use call_reply::Reply;
 
@@ -60,6 +60,18 @@ pub fn list_ways(book: &[u8], text: &mut [u8]) -> Reply
     ensures { λ r. ⌜ ListWaysDemands (now (book .entry)) (now (text .entry)) r (now (text .exit)) ⌝ }
 {
     desk::desk_listing(book, text)
+}
+
+pub fn room_of_sheets(book: &[u8]) -> Reply
+    ensures { λ r. ⌜ SheetsRoomDemands (now (book .entry)) r ⌝ }
+{
+    desk::desk_sheets_room(book)
+}
+
+pub fn write_sheets(book: &[u8], given: &[u8], text: &mut [u8]) -> Reply
+    ensures { λ r. ⌜ SheetsDemands (now (book .entry)) (now (given .entry)) (now (text .entry)) r (now (text .exit)) ⌝ }
+{
+    desk::desk_sheets(book, given, text)
 }
 
 // The part of the book that holds the name of an entry, and the number of the question that refuses it, or 0.

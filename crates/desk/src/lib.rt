@@ -3,6 +3,7 @@ ghost use Rattle.call_network.specs.NetworkEntries.{NetworkFirst, NetworkFirstP
 ghost use Rattle.call_book.specs.BookEntries.{BookFirst, BookNext, BookCount};
 ghost use Rattle.book_names.specs.BookNames.{BookName, BookNameRefusal};
 ghost use Rattle.call_listing.specs.Listing.{BookListing};
+ghost use Rattle.call_sheets.specs.SheetCalls.{BookSheetsRoom, BookSheets};
 use book_names::Span;
 use call_reply::Reply;
 
@@ -71,6 +72,20 @@ pub extern "C" fn desk_listing(book: &[u8], text: &mut [u8]) -> Reply
     ensures { λ r. ⌜ BookListing (now (book .entry)) (now (text .entry)) r (now (text .exit)) ⌝ }
 {
     call_listing::list(book, text)
+}
+
+#[no_mangle]
+pub extern "C" fn desk_sheets_room(book: &[u8]) -> Reply
+    ensures { λ r. ⌜ BookSheetsRoom (now (book .entry)) r ⌝ }
+{
+    call_sheets::room(book)
+}
+
+#[no_mangle]
+pub extern "C" fn desk_sheets(book: &[u8], given: &[u8], text: &mut [u8]) -> Reply
+    ensures { λ r. ⌜ BookSheets (now (book .entry)) (now (given .entry)) (now (text .entry)) r (now (text .exit)) ⌝ }
+{
+    call_sheets::write(book, given, text)
 }
 
 #[no_mangle]

@@ -9,6 +9,7 @@ ghost use Rattle.laws.specs.Range.{Bounded};
 ghost use Rattle.laws.specs.Count.{counted};
 ghost use Rattle.net_model.specs.FullList.{firstFlow, nextFlow, countFlows};
 ghost use Rattle.net_model.specs.Struct.{netIn, Sound};
+ghost use Rattle.flow_least.specs.Answers.{LeastIf};
 ghost use Rattle.flow_enumerate.specs.Enumerator.{stateNet, stateFlow, itemOf, wordAfter, itemAfter, Stands, Steps, Resumes, PriceArray};
 
 // Where an enumerator stands: on no item yet, on an item, or on none, for there is no item ("none") or no further one ("end").
@@ -75,6 +76,30 @@ pub fn resume(net: net_model::Network, flow: [u32; 512]) -> Enumerator
         flow: flow,
         free: free,
     }
+}
+
+// Question 8 as a test: whether a given flow is an item.
+pub fn is_item(net: net_model::Network, flow: [u32; 512]) -> bool
+    requires { ⌜ Sound net ⌝ }
+    ensures { λ r. ⌜ LeastIf (netIn net) (take (net .arcs) flow) r ⌝ }
+{
+    let m = net.arcs;
+    let n = net.nodes;
+    let tails = net.tails;
+    let heads = net.heads;
+    let lows = net.lows;
+    let ups = net.ups;
+    let costs = net.costs;
+    let balances = net.balances;
+    flow_least::is_least(
+        &tails[..m],
+        &heads[..m],
+        &lows[..m],
+        &ups[..m],
+        &costs[..m],
+        &balances[..n],
+        &flow[..m],
+    )
 }
 
 // Prices in 32 bits.

@@ -14,7 +14,7 @@ use Rattle.flow_relax.specs.Labels.{Relaxable}
 use Rattle.flow_negative_cycle.specs.Search.{PotentialLabels, FindsCycle}
 use Rattle.flow_cancel.proofs.Cancelling.{labels-of, cycle-of}
 use Rattle.flow_cancel.proofs.NegativeCycles.{no-cycle}
-use Rattle.flow_least.specs.Answers.{IsLeastCost}
+use Rattle.flow_least.specs.Answers.{LeastIf, IsLeastCost}
 use Rattle.flow_least.proofs.Marked.{labels-whole}
 
 pub tested-yes : (N : Net) (f : List ℕ) (d : List ℤ) (r : Bool) → IsLeastCost N f d r → r ≡ true → LeastCost N f × PotentialLabels N f 1 d
@@ -22,6 +22,11 @@ tested-yes N f d r t e = subst (IsLeastCost N f d) e t
 
 pub tested-no : (N : Net) (f : List ℕ) (d : List ℤ) (r : Bool) → IsLeastCost N f d r → r ≡ false → ¬ LeastCost N f
 tested-no N f d r t e = subst (IsLeastCost N f d) e t
+
+-- the test without its labels
+pub tested-alone : (N : Net) (f : List ℕ) (d : List ℤ) (r : Bool) → IsLeastCost N f d r → LeastIf N f r
+tested-alone N f d true t = t .0
+tested-alone N f d false t = t
 
 module _ (N : Net) (f : List ℕ) (ok : WellFormed N) (rel : Relaxable (costed N) f) (F : IsFlow N f) where
   pub tested : (d : List ℤ) (out out′ : List ℕ) (r : ℕ) → FindsCycle (costed N) f 1 d out out′ r → IsLeastCost N f d (eqb r 0)

@@ -16,6 +16,11 @@ abbrev pub FirstFlow : Net → List ℕ → List Bool → List Bool → Bool →
 FirstFlow N f free free′ true = (firstFlow N ≡ some f) × Marked N free′ f
 FirstFlow N f free free′ false = (firstFlow N ≡ none) × InBounds N f × (free′ ≡ free)
 
+-- question 8: "a least-cost flow of the network"
+abbrev pub LeastIf : Net → List ℕ → Bool → Type 0
+LeastIf N f true = LeastCost N f
+LeastIf N f false = ¬ LeastCost N f
+
 -- whether f is a least-cost flow; if so, under labels d no negative cycle has capacity for 1
 abbrev pub IsLeastCost : Net → List ℕ → List ℤ → Bool → Type 0
 IsLeastCost N f d true = LeastCost N f × PotentialLabels N f 1 d

@@ -7,7 +7,7 @@ ghost use Rattle.net_theory.specs.Graph.{netWith};
 ghost use Rattle.flow_negative_cycle.specs.Search.{PotentialLabels};
 ghost use Rattle.flow_feasible.specs.Answer.{Feasible};
 ghost use Rattle.flow_least.specs.Marked.{Marked};
-ghost use Rattle.flow_least.specs.Answers.{FirstFlow, IsLeastCost, MarkedIfLeast};
+ghost use Rattle.flow_least.specs.Answers.{FirstFlow, LeastIf, IsLeastCost, MarkedIfLeast};
 
 // A flow, and a least-cost one where the guess is right; false if there is none.
 fn starting_flow(
@@ -112,6 +112,26 @@ fn is_least_cost(
     let mut codes = [0usize; 64];
     flow_negative_cycle::find_cycle(tails, heads, lows, ups, costs, flow, 1, labels, &mut codes)
         == 0
+}
+
+// Question 8, of m numbers: whether they are a least-cost flow.
+pub fn is_least(
+    tails: &[u8],
+    heads: &[u8],
+    lows: &[u32],
+    ups: &[u32],
+    costs: &[i32],
+    balances: &[i32],
+    flow: &[u32],
+) -> bool
+    requires { let N = netWith (now balances) (now tails) (now heads) (now lows) (now ups) (now costs) in
+        ⌜ AcceptedNet N × (length (now flow) ≡ arcs N) ⌝ }
+    ensures { λ r.
+        let N = netWith (now (balances .entry)) (now (tails .entry)) (now (heads .entry)) (now (lows .entry)) (now (ups .entry)) (now (costs .entry)) in
+        ⌜ LeastIf N (now (flow .entry)) r ⌝ }
+{
+    let mut labels = [0i64; 64];
+    is_least_cost(tails, heads, lows, ups, costs, balances, flow, &mut labels)
 }
 
 // Question 8, of m numbers: whether they are a least-cost flow; if so, its marks.

@@ -21,6 +21,7 @@ pub mod Snoc
 pub mod Tabulate
 pub mod Store
 pub mod Padded
+pub mod Appended
 pub mod Rules
 pub mod Seen
 pub mod Run

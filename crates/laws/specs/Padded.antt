@@ -1,10 +1,10 @@
 -- An array of k places that holds a list: the list, and d in the places that are left; and an array filled one place after another.
 use mathlib.Core.Path.{_≡_, refl, sym, ap, _∙_}
 use mathlib.Core.List.{List, _∷_, _++_, map}
-use Prim.Native.Nat.{ℕ, suc, _+_, _-_, _≤_, _<_}
+use Prim.Native.Nat.{ℕ, zero, suc, _+_, _-_, _≤_, _<_}
 use native.Mathlib.Numerals.{add-one}
 use native.Mathlib.Omega.{arith}
-use lib.ListN.{length, getD, take, set, replicate, length-map, length-append, length-replicate}
+use lib.ListN.{length, getD, take, drop, set, replicate, length-map, length-append, length-replicate}
 use lib.Seq.{append-snoc, take-suc, take-length, length-take-le, take-at, set-at}
 use Rattle.laws.specs.Snoc.{map-more}
 use Rattle.laws.specs.Store.{set-cases}
@@ -18,6 +18,12 @@ padded-length k d l h = length-append l (replicate (k - length l) d) ∙ omega (
 -- the first places hold the list
 pub take-padded : {A : Type 0} (k : ℕ) (d : A) (l : List A) → take (length l) (padded k d l) ≡ l
 take-padded k d l = take-at l (replicate (k - length l) d) (length l) refl
+
+-- what is left of places that all hold d
+pub drop-replicate : {A : Type 0} (n m : ℕ) (d : A) → drop n (replicate m d) ≡ replicate (m - n) d
+drop-replicate zero m d = let z : m - 0 ≡ m = omega arith in rw z
+drop-replicate (suc n) zero d = let z : 0 - suc n ≡ 0 = omega arith in rw z
+drop-replicate (suc n) (suc m) d = let z : suc m - suc n ≡ m - n = omega arith in rw z (drop-replicate n m d)
 
 -- an array whose first places are written over
 pub part-written : {A : Type 0} (l rest : List A) (n : ℕ) → length l ≡ n → (n ≤ length (l ++ rest)) × (take n (l ++ rest) ≡ l)

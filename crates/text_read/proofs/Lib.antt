@@ -2,3 +2,4 @@ pub mod Runs
 pub mod Sequence
 pub mod Rows
 pub mod Lines
+pub mod Leaves

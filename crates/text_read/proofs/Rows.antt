@@ -5,14 +5,15 @@ use mathlib.Core.List.{List, [], _∷_}
 use native.Mathlib.Omega.{arith}
 use lib.ListN.{length, drop, getD, set, replicate, length-set, getD-replicate}
 use lib.Seq.{drop-cons, getD-set-same, getD-set-other, drop-set-lt}
-use Rattle.text_read.specs.Reader.{fails, _>>=_, _>>_, give, bytes, text, number, row, ReadsFront, RowRead}
+use Rattle.text_read.specs.Reader.{fails, _>>=_, _>>_, give, text, number, row, ReadsFront, RowRead}
+use Rattle.text_read.specs.Heads.{space, lineEnd}
 use Rattle.text_read.proofs.Runs.{absent}
 use Rattle.text_read.proofs.Sequence.{From, begin, mapped}
 
 -- a row of no numbers
-pub row-none : (head s : List ℕ) (n u : ℕ) → n ≡ 0 → ReadsFront s (text (bytes ")\n") s) u tt → RowRead s head n u (replicate 4 0)
+pub row-none : (head s : List ℕ) (n u : ℕ) → n ≡ 0 → ReadsFront s (text lineEnd s) u tt → RowRead s head n u (replicate 4 0)
 unfolding row _>>_
-row-none head s n u e r = record { right = rw e (mapped (text (bytes ")\n")) (λ _. []) s r); before = λ k h. getD-replicate 4 k 0 0 (omega arith); none = λ _. refl }
+row-none head s n u e r = record { right = rw e (mapped (text lineEnd) (λ _. []) s r); before = λ k h. getD-replicate 4 k 0 0 (omega arith); none = λ _. refl }
 
 -- a row that is not there
 pub row-absent : (head s : List ℕ) (n : ℕ) → row head n s ≡ fails → RowRead s head n 0 (replicate 4 0)
@@ -20,7 +21,7 @@ row-absent head s n e = record { right = absent e; before = λ k h. getD-replica
 
 -- a row of m numbers and one before them
 pub row-more : (head s : List ℕ) (n m : ℕ) → n ≡ suc m
-    → From (row head n s) (text head >>= (λ _. number >>= (λ v. row (bytes " ") m >>= (λ vs. give (v ∷ vs))))) s 0
+    → From (row head n s) (text head >>= (λ _. number >>= (λ v. row space m >>= (λ vs. give (v ∷ vs))))) s 0
 unfolding row _>>_
 row-more head s n m e = rw e (begin (row head (suc m)) s)
 

@@ -92,7 +92,7 @@ front-first test (b ∷ s) h = go (test b) refl
     go true e = rw (front, e)
     go false e = absurd (not-suc-le-zero (rw (front, e) at h))
 
-take-front : (test : ℕ → Bool) (s : List ℕ) → take (length (front test s)) s ≡ front test s
+pub take-front : (test : ℕ → Bool) (s : List ℕ) → take (length (front test s)) s ≡ front test s
 unfolding front
 take-front test [] = refl
 take-front test (b ∷ s) = go (test b) refl (take-front test s)

@@ -1,12 +1,11 @@
 -- Readers: what stands at the front of a list of bytes, and the bytes that follow it.
 use Prim.Native.Nat.{ℕ, zero, suc, _+_, _*_, _-_, _<_, _≤_}
-use Prim.Native.Char.{code}
-use Prim.Native.String.{String, [] as []ˢ, _∷_ as _∷ˢ_}
 use mathlib.Core.Path.{_≡_}
 use mathlib.Core.List.{List, [], _∷_}
 use mathlib.Core.Bool.{Bool, true, false, not, _&&_, _||_}
 use lib.ListN.{length, drop, getD, replicate}
 use lib.Dec.{leb, eqb}
+use Rattle.text_read.specs.Heads.{space, lineEnd}
 
 -- a form was read, with its value and the bytes that follow it; or it does not stand there
 pub data Parsed (A : Type 0) : Type 0 where
@@ -41,11 +40,6 @@ guard false s = fails
 -- how many bytes are left
 unfoldable pub remaining : Reader ℕ
 remaining s = reads (length s) s
-
--- the bytes of a text of ASCII
-unfoldable pub bytes : String → List ℕ
-bytes []ˢ = []
-bytes (c ∷ˢ w) = code c ∷ bytes w
 
 -- whether s begins with w
 unfoldable pub begins : List ℕ → List ℕ → Bool
@@ -103,12 +97,12 @@ word = do
 -- the rest of a line from `head` on: n numbers, `)` and byte 10. "One space between items, none elsewhere."
 unfoldable pub row : List ℕ → ℕ → Reader (List ℕ)
 row head zero = do
-  text (bytes ")\n")
+  text lineEnd
   give []
 row head (suc n) = do
   text head
   v ← number
-  vs ← row (bytes " ") n
+  vs ← row space n
   give (v ∷ vs)
 
 -- the forms read, put before those that follow

@@ -1,4 +1,6 @@
 // Readers of text. Each reads what stands at the front of `rest`, and answers how many bytes it takes: 0 if it is not there.
+pub mod heads;
+
 ghost use Prim.Native.Nat.{_<_, _≤_};
 ghost use mathlib.Core.Path.{_≡_};
 ghost use lib.ListN.{length, take};
@@ -95,7 +97,7 @@ pub fn read_row(rest: &[u8], head: &[u8], n: usize) -> Row
     if n == 0 {
         return Row {
             numbers: [0u32; 4],
-            used: read_text(rest, b")\n"),
+            used: read_text(rest, &heads::LINE_END),
         };
     }
     let n1 = read_text(rest, head);
@@ -114,7 +116,7 @@ pub fn read_row(rest: &[u8], head: &[u8], n: usize) -> Row
         };
     }
     let at = n1 + n2;
-    let r = read_row(&rest[at..], b" ", n - 1);
+    let r = read_row(&rest[at..], &heads::SPACE, n - 1);
     let n3 = r.used;
     if n3 == 0 {
         return Row {

@@ -1,13 +1,15 @@
--- The digits of a number: those of its tenth part, then the last one.
+-- The digits of a number: those of its tenth part, then the last one; and how many they are at most.
 use mathlib.Core.Path.{_≡_, refl, ap, _∙_}
 use mathlib.Core.Bool.{Bool, true, false}
 use mathlib.Core.List.{List, [], _∷_, _++_}
-use Prim.Native.Nat.{ℕ, zero, suc, _+_, _/_, _%_, _≤_, _<_}
+use Prim.Native.Nat.{ℕ, zero, suc, _+_, _/_, _%_, _^_, _≤_, _<_}
 use native.Mathlib.Omega.{arith}
+use native.Mathlib.Nat.{pow-suc}
 use lib.ListN.{length, length-append}
 use lib.Dec.{ltb}
-use borrow.Author.Tests.{lt-ltb, le-ltb, ltb-false}
-use Rattle.text_write.specs.Lines.{digits, decimal}
+use borrow.Author.Tests.{lt-ltb, le-ltb, ltb-true, ltb-false}
+use Rattle.text_read.specs.Heads.{bytes, lineEnd}
+use Rattle.text_write.specs.Decimal.{digits, decimal}
 
 pub decimal-one : (n : ℕ) → n < 10 → decimal n ≡ (48 + n) ∷ []
 unfolding decimal digits
@@ -30,3 +32,17 @@ decimal-more n h = rw (digits, le-ltb n 10 h) (ap (λ (l : List ℕ). l ++ ((48 
 
 pub decimal-longer : (n : ℕ) → 10 ≤ n → length (decimal n) ≡ length (decimal (n / 10)) + 1
 decimal-longer n h = ap length (decimal-more n h) ∙ length-append (decimal (n / 10)) _
+
+-- a number below a power of ten has no more digits
+pub decimal-size : (k n : ℕ) → n < 10 ^ suc k → length (decimal n) ≤ suc k
+decimal-size zero n h = omega (arith, ap length (decimal-one n h))
+decimal-size (suc k) n h = go (ltb n 10) refl (λ g. decimal-size k (n / 10) g)
+  where
+    go : (x : Bool) → ltb n 10 ≡ x → (n / 10 < 10 ^ suc k → length (decimal (n / 10)) ≤ suc k) → length (decimal n) ≤ suc (suc k)
+    go true e f = omega (arith, ap length (decimal-one n (ltb-true n 10 e)))
+    go false e f = omega (arith, decimal-longer n (ltb-false n 10 e), f (omega (arith, rw pow-suc at h)))
+
+-- a line with one number
+pub row-size : (head : List ℕ) (n k : ℕ) → n < 10 ^ suc k → length (head ++ decimal n ++ lineEnd) ≤ length head + suc k + 2
+unfolding bytes
+row-size head n k h = omega (arith, length-append (head ++ decimal n) lineEnd, length-append head (decimal n), decimal-size k n h)

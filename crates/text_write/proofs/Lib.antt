@@ -1,5 +1,2 @@
-pub mod Pieces
-mod Decimal
-mod Spaced
-pub mod Sizes
+pub mod Decimal
 mod Examples

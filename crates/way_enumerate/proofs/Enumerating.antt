@@ -1,5 +1,6 @@
 -- From the steps through the flows of a book's network to steps through its ways.
 use mathlib.Core.Path.{_≡_, refl, sym, ap, subst, _∙_}
+use mathlib.Core.Bool.{Bool, true, false}
 use mathlib.Core.List.{List}
 use mathlib.Core.Logic.{_↔_}
 use mathlib.Core.Option.{Option, none, some}
@@ -13,6 +14,7 @@ use Rattle.net_model.specs.Network.{WellFormed, IsFlow, LeastCost, costOf}
 use Rattle.net_model.specs.Struct.{netIn, Sound}
 use Rattle.net_model.specs.declared.Network.{Network}
 use Rattle.net_model.proofs.Struct.{struct-of}
+use Rattle.flow_least.specs.Answers.{LeastIf}
 use Rattle.flow_enumerate.specs.declared.Place.{Place}
 use Rattle.flow_enumerate.specs.declared.Place.the-variants.{Start, Item, None, End}
 use Rattle.flow_enumerate.specs.declared.Enumerator.{Enumerator}
@@ -34,7 +36,7 @@ use Rattle.way_network.specs.Arrays.{IsNetworkOf}
 use Rattle.way_flow.specs.Arcs.{ArcEnds, HasEnds, HasFlow, IsWayOf, IsFlowOf}
 use Rattle.way_flow.proofs.Lines.{ends-of, reads-flow, laid-flow, laid-least}
 use Rattle.way_enumerate.specs.declared.WayEnumerator.{WayEnumerator}
-use Rattle.way_enumerate.specs.WayEnumerator.{Enumerates, EnumeratesSome, wayAt, wayItemCost, wayAfter, At, ResumesIn, Tells}
+use Rattle.way_enumerate.specs.WayEnumerator.{Enumerates, EnumeratesSome, wayAt, wayItemCost, wayAfter, At, ResumesIn, LeastWayIf, Tells}
 use Rattle.way_enumerate.proofs.Reading.{next-read, cost-read}
 
 -- an item that a state stands on is least-cost
@@ -115,6 +117,28 @@ module _ (k : CheckedBook) (N : Network) (makes : IsNetworkOf k N) where
   pub net-ends : Held k → HasEnds (k .count) (k .players) (take (N .arcs) (N .tails)) (take (N .arcs) (N .heads))
   net-ends h = record { book = h .book; ends = made-ends (h .book) (h .holds); players-are = ap (λ (c : CheckedBook). c .players) (h .holds .is) }
 
+  -- `flow` is what `flow_of` lays for the list w
+  module _ (b : Book) (h : Holds b k) (w flow : List ℕ) (len : length w ≡ k .count)
+      (lays : IsFlowOf (k .count) (k .players) (take (N .arcs) (N .tails)) (take (N .arcs) (N .heads)) w flow) where
+    held : N .arcs ≡ length (take (N .arcs) (N .tails))
+    held = made-sound b k h N makes .arcs-held
+
+    lays-it : IsFlowOf (k .count) (b .players) (take (N .arcs) (N .tails)) (take (N .arcs) (N .heads)) w flow
+    lays-it = subst (λ p. IsFlowOf (k .count) p (take (N .arcs) (N .tails)) (take (N .arcs) (N .heads)) w flow) (ap (λ (c : CheckedBook). c .players) (h .is)) lays
+
+    laid : take (N .arcs) flow ≡ flowOf b w
+    laid = ap (λ n. take n flow) held ∙ laid-flow b (k .count) _ _ (made-ends b h) w flow len lays-it
+
+    -- question 18 of w is question 8 of its flow
+    least : LeastCost (netIn N) (take (N .arcs) flow) ↔ LeastCostWay b w
+    least =
+        rw (made-net b k h N makes)
+        (subst (λ n. LeastCost (bookNet b) (take n flow) ↔ LeastCostWay b w) (sym held) (laid-least b (k .count) _ _ (made-ends b h) w flow len lays-it))
+
+    pub tested : (r : Bool) → LeastIf (netIn N) (take (N .arcs) flow) r → LeastWayIf b w r
+    tested true l = least .0 l
+    tested false n = λ l. n (least .1 l)
+
   module _ (b : Book) (h : Holds b k) (r : Enumerator) (stands : Stands r) (same : r .net ≡ N) where
     pub enumerates : Enumerates b (record { flows = r; entries = k .count })
     enumerates = record {
@@ -128,37 +152,22 @@ module _ (k : CheckedBook) (N : Network) (makes : IsNetworkOf k N) where
     pub on-start : r .place ≡ Start → At b Start none (record { flows = r; entries = k .count })
     on-start place = at-way b (record { flows = r; entries = k .count }) enumerates Start none (ap (λ p. itemAt p (stateFlow r)) place) place
 
-    -- on the way w, if it is a least-cost way; `flow` is what `flow_of` lays
+    -- on the way w, if it is a least-cost way
     pub resumes : (w flow : List ℕ) → length w ≡ k .count
         → IsFlowOf (k .count) (k .players) (take (N .arcs) (N .tails)) (take (N .arcs) (N .heads)) w flow
         → flows.Resumes (netIn N) (take (N .arcs) flow) r → ResumesIn b w (record { flows = r; entries = k .count })
-    resumes w flow len lays step = record { on = on; off = λ n. on-start (step .place-is ∙ ap (placeAfter Start) (no-item (netIn N) ok (take (N .arcs) flow) (λ l. n (is-way l)))) }
+    resumes w flow len lays step = record { on = on; off = off }
       where
-        made : netIn N ≡ bookNet b
-        made = made-net b k h N makes
-
         ok : WellFormed (netIn N)
         ok = made-sound b k h N makes .accepted .well-formed
 
-        held : N .arcs ≡ length (take (N .arcs) (N .tails))
-        held = made-sound b k h N makes .arcs-held
-
-        lays-it : IsFlowOf (k .count) (b .players) (take (N .arcs) (N .tails)) (take (N .arcs) (N .heads)) w flow
-        lays-it = subst (λ p. IsFlowOf (k .count) p (take (N .arcs) (N .tails)) (take (N .arcs) (N .heads)) w flow) (ap (λ (c : CheckedBook). c .players) (h .is)) lays
-
-        laid : take (N .arcs) flow ≡ flowOf b w
-        laid = ap (λ n. take n flow) held ∙ laid-flow b (k .count) _ _ (made-ends b h) w flow len lays-it
-
-        least : LeastCost (bookNet b) (take (N .arcs) flow) ↔ LeastCostWay b w
-        least = subst (λ n. LeastCost (bookNet b) (take n flow) ↔ LeastCostWay b w) (sym held) (laid-least b (k .count) _ _ (made-ends b h) w flow len lays-it)
-
-        is-way : LeastCost (netIn N) (take (N .arcs) flow) → LeastCostWay b w
-        is-way l = least .0 (subst (λ M. LeastCost M (take (N .arcs) flow)) made l)
+        off : ¬ LeastCostWay b w → At b Start none (record { flows = r; entries = k .count })
+        off n = on-start (step .place-is ∙ ap (placeAfter Start) (no-item (netIn N) ok (take (N .arcs) flow) (λ l. n (least b h w flow len lays .0 l))))
 
         on : LeastCostWay b w → At b Start (some w) (record { flows = r; entries = k .count })
         on l =
-            let e = item-least (netIn N) ok (take (N .arcs) flow) (subst (λ M. LeastCost M (take (N .arcs) flow)) (sym made) (least .1 l)) in
-            subst (λ v. At b Start (some v) (record { flows = r; entries = k .count })) (ap (wayOf b) laid ∙ way-back b w (l .way))
+            let e = item-least (netIn N) ok (take (N .arcs) flow) (least b h w flow len lays .1 l) in
+            subst (λ v. At b Start (some v) (record { flows = r; entries = k .count })) (ap (wayOf b) (laid b h w flow len lays) ∙ way-back b w (l .way))
             (at-way b (record { flows = r; entries = k .count }) enumerates Start (some (take (N .arcs) flow)) (step .item-is ∙ e) (step .place-is ∙ ap (placeAfter Start) e))
 
 -- a sound network's arrays have room for its arcs
@@ -172,8 +181,11 @@ module _ (net : Network) (ok : Sound net) where
   pub in-tails : net .arcs ≤ length (net .tails)
   in-tails = room (net .tails) (sym (ok .arcs-held))
 
+  pub heads-held : net .arcs ≡ length (take (net .arcs) (net .heads))
+  heads-held = ok .arcs-held ∙ sym (ok .accepted .well-formed .heads-len)
+
   pub in-heads : net .arcs ≤ length (net .heads)
-  in-heads = room (net .heads) (ok .accepted .well-formed .heads-len ∙ sym (ok .arcs-held))
+  in-heads = room (net .heads) (sym heads-held)
 
 ends : (b : Book) (s : WayEnumerator) → Enumerates b s → ArcEnds b (s .entries) (take (s .flows .net .arcs) (s .flows .net .tails)) (take (s .flows .net .arcs) (s .flows .net .heads))
 ends b s h = rw (h .entries-are) (ends-of b (h .limits) (s .flows .net) (net-of-book b s h))

@@ -1,5 +1,6 @@
 -- The state of an enumerator of the full list of a book.
 use mathlib.Core.Path.{_≡_}
+use mathlib.Core.Bool.{Bool, true, false}
 use mathlib.Core.List.{List}
 use mathlib.Core.Option.{Option, none, some}
 use Prim.Native.Nat.{ℕ}
@@ -68,6 +69,14 @@ pub record ResumesIn (b : Book) (w : List ℕ) (r : WayEnumerator) : Type 0 wher
 
 pub record WayResumes (c : CheckedBook) (w : List ℕ) (r : WayEnumerator) : Type 0 where
   pub each : (b : Book) → Holds b c → ResumesIn b w r
+
+-- question 18: "a least-cost way of the book"
+abbrev pub LeastWayIf : Book → List ℕ → Bool → Type 0
+LeastWayIf b w true = LeastCostWay b w
+LeastWayIf b w false = ¬ LeastCostWay b w
+
+pub record WayIsItem (c : CheckedBook) (w : List ℕ) (r : Bool) : Type 0 where
+  pub each : (b : Book) → Holds b c → LeastWayIf b w r
 
 -- the way that it stands on, in the first places of an array
 pub record Tells (s : WayEnumerator) (r : List ℕ) : Type 0 where

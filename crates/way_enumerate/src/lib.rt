@@ -8,7 +8,7 @@ ghost use Rattle.flow_enumerate.specs.Enumerator.{wordAfter};
 ghost use Rattle.flow_enumerate.specs.declared.Place.the-variants.{Item, None};
 ghost use Rattle.way_theory.specs.FullWays.{firstWay};
 ghost use Rattle.way_network.specs.Held.{Held};
-ghost use Rattle.way_enumerate.specs.WayEnumerator.{EnumeratesSome, wayAt, wayAfter, WayStarts, WayResumes, WaySteps, Tells, WayCounts};
+ghost use Rattle.way_enumerate.specs.WayEnumerator.{EnumeratesSome, wayAt, wayAfter, WayStarts, WayResumes, WayIsItem, WaySteps, Tells, WayCounts};
 
 pub struct WayEnumerator {
     pub flows: Enumerator,
@@ -42,6 +42,20 @@ pub fn resume(book: CheckedBook, given: &[u32]) -> WayEnumerator
         flows: flow_enumerate::resume(net, flow),
         entries: e,
     }
+}
+
+// Question 18 as a test: whether a given list of numbers is a least-cost way.
+pub fn is_item(book: CheckedBook, given: &[u32]) -> bool
+    requires { ⌜ Held book × (length (now given) ≡ book .count) ⌝ }
+    ensures { λ r. ⌜ WayIsItem book (now (given .entry)) r ⌝ }
+{
+    let e = book.count;
+    let net = way_network::network_of(book);
+    let m = net.arcs;
+    let tails = net.tails;
+    let heads = net.heads;
+    let flow = way_flow::flow_of(e, book.players, &tails[..m], &heads[..m], given);
+    flow_enumerate::is_item(net, flow)
 }
 
 impl WayEnumerator {

@@ -12,6 +12,7 @@ use lib.ListN.{length, getD, set, drop, replicate, length-map, List·getD-map, L
 use lib.Seq.{drop-cons, sets, sets-eq}
 use Rattle.laws.specs.Members.{_∈_, every-member, getD-member}
 use Rattle.laws.specs.Ascending.{Ascending}
+use Rattle.laws.specs.Padded.{drop-replicate}
 use Rattle.net_model.specs.Network.{tail}
 use Rattle.book_form.specs.Book.{Book}
 use Rattle.way_theory.specs.Follow.{size}
@@ -103,11 +104,6 @@ module _ (b : Book) where
       ∙ joins-read (suc j) w (readArcs (map (joinArc b j) (sources b j)) (marked p (sources b j)) y) (omega arith) (h .2)
       ∙ ap₂ (λ i z. sets z i w) s (block-one j p (sources b j) y k (sources-fall b j) (source b j p (h .0) (h .1)))
 
-drop-replicate : (n m : ℕ) → drop {A = ℕ} n (replicate m 0) ≡ replicate (m - n) 0
-drop-replicate zero m = let z : m - 0 ≡ m = omega arith in rw z
-drop-replicate (suc n) zero = let z : 0 - suc n ≡ 0 = omega arith in rw z
-drop-replicate (suc n) (suc m) = let z : suc m - suc n ≡ m - n = omega arith in rw z (drop-replicate n m)
-
 module _ (e : ℕ) (tails heads : List ℕ) where
   pub joins-count : (b : Book) → ArcEnds b e tails heads → length tails ≡ length (joinArcs b (size b) 1) + (2 * e + 1)
   joins-count b h = ap length (h .tails-are) ∙ length-map (bookArcs b) (λ a. a .tail) ∙ arcs-parts b ∙ ap (λ n. length (joinArcs b (size b) 1) + (2 * n + 1)) (sym (h .entries-are))
@@ -140,5 +136,5 @@ module _ (e : ℕ) (tails heads : List ℕ) where
         let d : readArcs (joinArcs b (size b) 1) (joinFlow b 1 w) (replicate 28 0) ≡ sets (replicate 28 0) 0 w =
         subst (λ k. readArcs (joinArcs b k 1) (joinFlow b 1 w) (replicate 28 0) ≡ sets (replicate 28 0) 0 w) len (joins-read b 1 w (replicate 28 0) (omega arith) (v .joined)) in
         q ∙ rw (m, h .tails-are, h .heads-are, f) (read-arcs (joinArcs b (size b) 1) _ (joinFlow b 1 w) _ (replicate 28 0) g)
-        ∙ d ∙ sets-eq w (replicate 28 0) 0 (omega arith) ∙ (let z : 0 + length w ≡ length w = omega arith in ap (λ l. w ++ l) (ap (λ k. drop k (replicate 28 0)) z ∙ drop-replicate (length w) 28)));
+        ∙ d ∙ sets-eq w (replicate 28 0) 0 (omega arith) ∙ (let z : 0 + length w ≡ length w = omega arith in ap (λ l. w ++ l) (ap (λ k. drop k (replicate 28 0)) z ∙ drop-replicate (length w) 28 0)));
   }

@@ -13,9 +13,8 @@ use Rattle.laws.specs.Count.{counted}
 use Rattle.laws.specs.Equality.{same-list}
 use Rattle.laws.specs.Lexicographic.{_<lex_, lex-irrefl, lex-trans}
 use Rattle.laws.specs.Members.{first?, none-some}
-use Rattle.text_write.specs.Appended.{Appended}
-use Rattle.text_write.specs.Lines.{wayLine, endLine, moreLine}
-use Rattle.text_write.proofs.Pieces.{appended-none, appended-then}
+use Rattle.laws.specs.Appended.{Appended, appended-none, appended-then}
+use Rattle.text_listing.specs.Lines.{wayLine, endLine, moreLine}
 use Rattle.book_form.specs.Book.{Book}
 use Rattle.way_theory.specs.FullWays.{fullWays, firstWay, nextWay}
 use Rattle.way_theory.proofs.FullWays.{full-ways-ascending}

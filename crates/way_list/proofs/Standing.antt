@@ -11,9 +11,9 @@ use Rattle.laws.specs.Padded.{take-padded}
 use Rattle.flow_enumerate.specs.Enumerator.{stateFlow, itemAt}
 use Rattle.flow_enumerate.specs.declared.Place.the-variants.{Item}
 use Rattle.flow_enumerate.proofs.Steps.{NoItem}
-use Rattle.text_write.specs.Appended.{Appended}
-use Rattle.text_write.specs.Lines.{wayLine}
-use Rattle.text_write.proofs.Sizes.{way-size}
+use Rattle.laws.specs.Appended.{Appended}
+use Rattle.text_listing.specs.Lines.{wayLine}
+use Rattle.text_listing.proofs.Sizes.{way-size}
 use Rattle.book_form.specs.Book.{Book}
 use Rattle.way_theory.specs.Follow.{size}
 use Rattle.way_theory.specs.Ways.{IsWay}

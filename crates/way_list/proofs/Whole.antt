@@ -9,7 +9,7 @@ use lib.IntN.{pos}
 use Rattle.laws.specs.Count.{counted}
 use Rattle.laws.specs.Members.{first?, none-some}
 use Rattle.flow_enumerate.specs.declared.Place.the-variants.{Item}
-use Rattle.text_write.specs.Lines.{costLine}
+use Rattle.text_listing.specs.Lines.{costLine}
 use Rattle.book_form.specs.Book.{Book}
 use Rattle.book_form.specs.WithinLimits.{WithinLimits}
 use Rattle.way_theory.specs.Ways.{wayCost}

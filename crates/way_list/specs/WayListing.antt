@@ -5,8 +5,8 @@ use mathlib.Core.Option.{some}
 use Prim.Native.Nat.{ℕ}
 use lib.ListN.{length, take}
 use Rattle.laws.specs.Count.{Count, exactly, more, counted}
-use Rattle.text_write.specs.Appended.{Appended}
-use Rattle.text_write.specs.Lines.{costLine, wayLine, endLine, moreLine, noneLine}
+use Rattle.laws.specs.Appended.{Appended}
+use Rattle.text_listing.specs.Lines.{costLine, wayLine, endLine, moreLine, noneLine}
 use Rattle.book_form.specs.Book.{Book}
 use Rattle.way_theory.specs.Ways.{wayCost}
 use Rattle.way_theory.specs.FullWays.{fullWays, firstWay}

@@ -15,7 +15,7 @@ fn list_one(ways: WayEnumerator, out: &mut [u8], at: usize) -> usize
 {
     let way = ways.way();
     let e = ways.entries;
-    text_write::put_way(out, at, &way[..e])
+    text_listing::put_way(out, at, &way[..e])
 }
 
 // The lines from the first way on, which an enumerator stands on, and the last line.
@@ -28,7 +28,7 @@ fn list_from(ways: WayEnumerator, out: &mut [u8], at: usize) -> usize
     let mut n: usize = 0;
     loop {
         if n == 1000 {
-            return text_write::put_more(out, k);
+            return text_listing::put_more(out, k);
         }
         k = list_one(w, out, k);
         n += 1;
@@ -37,7 +37,7 @@ fn list_from(ways: WayEnumerator, out: &mut [u8], at: usize) -> usize
         let place = inner.place;
         match place {
             Place::Item => {}
-            _ => return text_write::put_end(out, k, n as u64),
+            _ => return text_listing::put_end(out, k, n as u64),
         }
     }
 }
@@ -49,6 +49,6 @@ pub fn list(ways: WayEnumerator, out: &mut [u8]) -> usize
 {
     let inner = ways.flows;
     let cost = inner.cost;
-    let at = text_write::put_cost(out, 0, cost as u64);
+    let at = text_listing::put_cost(out, 0, cost as u64);
     list_from(ways, out, at)
 }

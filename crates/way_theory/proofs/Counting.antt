@@ -12,7 +12,7 @@ use Rattle.way_theory.specs.Ways.{times}
 use Rattle.way_theory.specs.WayFlow.{oneIfSame}
 use Rattle.way_theory.proofs.OneIfSame.{same-one, other-none}
 
-total-same : (p n s : ℕ) → s ≤ p → p < s + n → totalOf (oneIfSame p) (from n s) ≡ 1
+pub total-same : (p n s : ℕ) → s ≤ p → p < s + n → totalOf (oneIfSame p) (from n s) ≡ 1
 total-same p zero s h k = absurd (omega arith)
 total-same p (suc n) s h k = step (ℕ-discrete p s) (λ b. total-same p n (suc s) b (omega arith))
   where

@@ -25,7 +25,8 @@ use Rattle.net_model.specs.Residual.{Price}
 use Rattle.net_model.specs.FullList.{flowList, fullList}
 use Rattle.net_model.specs.Input.{netOf}
 use Rattle.net_model.proofs.Prices.{certifies, prices}
-use Rattle.text_read.specs.Reader.{thenRead, _>>=_, _>>_, give, guard, remaining, bytes, begins, text, front, run, valueFrom, number, word, row, more, upTo, many}
+use Rattle.text_read.specs.Reader.{thenRead, _>>=_, _>>_, give, guard, remaining, begins, text, front, run, valueFrom, number, word, row, more, upTo, many}
+use Rattle.text_read.specs.Heads.{bytes}
 use Rattle.book_lines.specs.Lines.{move, entry}
 use Rattle.book_lines.specs.Questions as lines
 use Rattle.book_form.specs.Book as form

@@ -32,7 +32,7 @@ in-time (some m) finish start e = go (leb (arrival m finish) start) refl e
     go true q e = let h = leb-true (arrival m finish) start q in omega arith
     go false q e = absurd (let z : _≡_ {A = ℕ} 0 1 = cc in omega arith)
 
-follow-time : (book : Book) (i j : ℕ) → given? (mayFollow book i j) ≡ true → entryAt book i .finish ≤ entryAt book j .start
+pub follow-time : (book : Book) (i j : ℕ) → given? (mayFollow book i j) ≡ true → entryAt book i .finish ≤ entryAt book j .start
 follow-time book i j h = in-time (road book i j) (entryAt book i .finish) (entryAt book j .start) h
 
 keep-count : (p : ℕ → Bool) (n : ℕ) → length (keep p (down n)) ≡ oneIf (p 0) + totalOf (λ i. oneIf (p i)) (from n 1)
@@ -58,7 +58,7 @@ module _ (book : Book) where
       omega arith
 
   module _ (ok : WithinLimits book) where
-    timed : (j : ℕ) → 1 ≤ j → j ≤ size book → entryAt book j .start < entryAt book j .finish
+    pub timed : (j : ℕ) → 1 ≤ j → j ≤ size book → entryAt book j .start < entryAt book j .finish
     timed j h k = fair-entry (entryAt book j) (ok .fair-entries (j - 1) (omega arith)) .ends-later
 
     one-way : (i j : ℕ) → i ∈ numbers book → j ∈ numbers book → oneIf (permits book i j) + oneIf (permits book j i) ≤ 1

@@ -2,12 +2,13 @@
 use Prim.Native.Nat.{_+_}
 use borrow.Author.Needs.{needs}
 use borrow.Author.Tests.{not-true, not-false}
-use Rattle.text_read.specs.Reader.{Reader, _>>=_, _>>_, give, bytes, text, many}
+use Rattle.text_read.specs.Reader.{Reader, _>>=_, _>>_, give, text, many}
+use Rattle.text_read.specs.Heads.{lineEnd}
 use Rattle.book_lines.specs.Lines.{move, entry}
 use Rattle.book_form.specs.Book.{Book, book}
 use Rattle.text_read.proofs.Sequence.{From, part, part-part, begin, first, first-stops, next}
 use Rattle.book_check.specs.Closing.{Closing}
-use Rattle.book_check.proofs.Form.{parse-fails, parse-closed, parse-open, closing-part, placed-part}
+use Rattle.book_check.proofs.Form.{parse-fails, parse-closed, parse-open, closing-part}
 use Rattle.book_check.proofs.BookChecking.{long-right, form-right, PassesFound, judged-right}
 use Rattle.book_check.proofs.check.Statement.{statement}
 use Rattle.book_check.proofs.check.Tie as tie
@@ -30,7 +31,7 @@ returns c = long-right (c .before .before .before .args .book .now) _ (c .refuse
 
 -- What is to be read after the first lines, after the moves, and after the entries.
 abbrev Close : Book → Reader Book
-Close b = text (bytes ")\n") >>= (λ _. give b)
+Close b = text lineEnd >>= (λ _. give b)
 
 opened : (c : tie.Else2)
     → let s = c .before .before .before .before .args .book .now in
@@ -105,7 +106,6 @@ returns-4 c =
       count = e .count;
       entries-judged = rw (m .line) at (e .verdict);
       columns = e .columns;
-      placed = λ n h. placed-part s _ _ (moved after-read-moves .within) (rw part-part at (e .placed n h));
     } in
     rw (c .judge .ensures) (judged-right s o _ _ found (else1 .if1 .left))
 

@@ -1,6 +1,6 @@
 -- `book_check::closes` meets its contract.
 use borrow.Author.Needs.{needs}
-use Rattle.text_read.specs.Reader.{bytes}
+use Rattle.text_read.specs.Heads.{bytes}
 use Rattle.book_check.proofs.Form.{closing-absent, closing-is}
 use Rattle.book_check.proofs.closes.Statement.{statement}
 use Rattle.book_check.proofs.closes.Tie as tie

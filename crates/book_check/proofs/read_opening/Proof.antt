@@ -3,7 +3,8 @@ use Prim.Native.Nat.{_+_}
 use native.Mathlib.Omega.{arith}
 use borrow.Author.Needs.{needs}
 use lib.ListN.{drop, getD}
-use Rattle.text_read.specs.Reader.{_>>=_, _>>_, give, bytes, row}
+use Rattle.text_read.specs.Reader.{_>>=_, _>>_, give, row}
+use Rattle.text_read.specs.Heads.{bytes, playersHead, feeHead}
 use Rattle.book_form.specs.Book.{opening}
 use Rattle.text_read.proofs.Runs.{absent}
 use Rattle.text_read.proofs.Sequence.{From, begin, first, first-stops, next-right, stops}
@@ -27,7 +28,7 @@ read-row-before-cs c = c .before .before .before .before .before .before .before
 -- What is to be read after the first line, after the players, and after the fee.
 headed : (c : tie.Else1)
     → let s = c .before .before .before .before .args .book .now in
-    From (opening s) (row (bytes "(players ") 1 >>= (λ ps. row (bytes "(fee ") 1 >>= (λ cs. give (getD ps 0 0, getD cs 0 0)))) s (c .before .read-text .result)
+    From (opening s) (row playersHead 1 >>= (λ ps. row feeHead 1 >>= (λ cs. give (getD ps 0 0, getD cs 0 0)))) s (c .before .read-text .result)
 unfolding opening bytes _>>_
 headed c = first _ _ (begin opening _) (c .before .read-text .ensures) (c .if1 .left)
 
@@ -35,7 +36,7 @@ played : (c : tie.Else2)
     → let s = start-before-else2 c .args .book .now in
     let n = c .before .before .before .before .before .read-text .result in
     let p = c .before .read-row .result in
-    From (opening s) (row (bytes "(fee ") 1 >>= (λ cs. give (getD (drop 3 (p .numbers)) 0 0, getD cs 0 0))) s (n + p .used)
+    From (opening s) (row feeHead 1 >>= (λ cs. give (getD (drop 3 (p .numbers)) 0 0, getD cs 0 0))) s (n + p .used)
 unfolding bytes
 played c = next-right _ _ (headed (c .before .before .before .before)) (c .before .read-row .ensures .right) (c .if2 .left)
 

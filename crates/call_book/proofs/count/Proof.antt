@@ -1,60 +1,47 @@
-use mathlib.Core.Path.{_≡_, sym, _∙_}
-use mathlib.Core.Option.{some}
+use mathlib.Core.Path.{_≡_}
 use Rattle.laws.specs.Count.{counted}
-use Rattle.book_form.specs.Book.{Book, parse}
-use Rattle.book_form.specs.Questions.{bookRefusal}
-use Rattle.way_network.specs.Held.{Holds}
 use Rattle.way_theory.specs.FullWays.{countWays}
 use Rattle.way_enumerate.specs.WayEnumerator.{Enumerates}
 use Rattle.call_book.proofs.BookEntries.{counts-refused, counts}
-use Rattle.call_way_bytes.proofs.Admitting.{accepted, held-book}
+use Rattle.call_way_bytes.proofs.Admitting.{Admitted, admitted}
 use borrow.Author.Needs.{needs}
 use Rattle.call_book.proofs.count.Statement.{statement}
 use Rattle.call_book.proofs.count.Tie as tie
 
-abbrev entry : tie.After-question → tie.Start
-entry n = n .before .before .before
+abbrev entry : tie.Else1 → tie.Start
+entry c = search
 
-ok : (c : tie.Else1) → bookRefusal (entry (c .before) .args .book .now) ≡ 0
-ok c = let n = c .before in accepted (entry n .args .book .now) (n .before .check .result) (n .before .check .ensures) (sym (n .question .ensures) ∙ c .if1 .left)
+gone : (c : tie.Else1) → Admitted (entry c .args .book .now) (c .before .admit-book .result .book)
+gone c = admitted _ _ (c .before .admit-book .ensures) (c .if1 .left)
 
-held : (c : tie.Else1) → (b : Book) × (parse (entry (c .before) .args .book .now) ≡ some b) × Holds b (c .before .before .check .result .book)
-held c = let n = c .before in held-book (entry n .args .book .now) (n .before .check .result) (n .before .check .ensures) (ok c)
-
-begun : (c : tie.After-start) → Enumerates (held (c .before .before) .0) (c .start .result)
-begun c = let h = held (c .before .before) in c .start .ensures .each (h .0) (h .2) .enumerates
+begun : (c : tie.After-start) → Enumerates (gone (c .before .before) .book) (c .start .result)
+begun c = let p = gone (c .before .before) in c .start .ensures .each (p .book) (p .holds) .enumerates
 
 counted-is : (c : tie.After-count) → let e = c .before .before .before in
-    counted (entry (e .before) .args .cap) (c .count .result) ≡ countWays (held e .0) (entry (e .before) .args .cap)
-counted-is c = c .count .ensures .1 .each (held (c .before .before .before) .0) (begun (c .before))
+    counted (entry e .args .cap) (c .count .result) ≡ countWays (gone e .book) (entry e .args .cap)
+counted-is c = c .count .ensures .1 .each (gone (c .before .before .before) .book) (begun (c .before))
 
 returns : tie.Need-returns
 returns c =
-    let l = c .before in
-    let n = l .before .before in
-    let a = entry n .args in
-    counts-refused (a .book .now) (n .before .check .result) (n .before .check .ensures) _ _ (a .cap) (c .refused-at .result) (n .question .ensures) (l .line .ensures)
-    (l .before .if1 .taken) (c .refused-at .ensures)
+    let put : tie.After-admit-book = search in
+    counts-refused _ _ (put .admit-book .ensures) _ _ (c .before .if1 .taken) (c .refused-at .ensures)
 
 start-requires : tie.Need-start-requires
-start-requires c κs = let h = held (c .before) in record { book = h .0; holds = h .2 }
+start-requires c κs = let p = gone (c .before) in record { book = p .book; holds = p .holds }
 
 count-requires : tie.Need-count-requires
-count-requires c κs = record { book = held (c .before .before) .0; enumerates = begun c }
+count-requires c κs = record { book = gone (c .before .before) .book; enumerates = begun c }
 
 returns-2 : tie.Need-returns-2
 returns-2 c =
-    let k = c .before in
-    let e = k .before .before .before in
-    let a = entry (e .before) .args in
-    counts (a .book .now) (ok e) (held e .0) (held e .1) (a .cap) (k .count .result) (counted-is k) (c .count-reply .result) (c .count-reply .ensures)
+    let passed : tie.Else1 = search in
+    let p = gone passed in
+    counts _ (p .ok) (p .book) (p .is) _ _ (counted-is (c .before)) _ (c .count-reply .ensures)
 
 pub count-spec : {M : Type 1} → statement M
 count-spec =
     tie.close
     (tie.spec
-    (λ c κs. search needs)
-    (λ c κs. search needs)
     (λ c κs. search needs)
     (λ c κs. search needs)
     returns

@@ -7,7 +7,8 @@ use borrow.Author.Needs.{needs}
 use borrow.Fn.Kinds.{In}
 use borrow.Fn.PlainCycle.{Measures, is, falls, and}
 use lib.ListN.{length, drop}
-use Rattle.text_read.specs.Reader.{Parsed, _>>=_, give, bytes, text, number, row}
+use Rattle.text_read.specs.Reader.{Parsed, _>>=_, give, text, number, row}
+use Rattle.text_read.specs.Heads.{bytes, space}
 use Rattle.text_read.proofs.Sequence.{From, first, first-stops, next-right, stops, all-read}
 use Rattle.text_read.proofs.Rows.{row-none, row-absent, row-more, put-first, put-before}
 use Rattle.text_read.proofs.read_row.Reads as read-row
@@ -65,17 +66,17 @@ module _ (t : ℕ) where
 
   opened : (c : lts.Else1 (claims t) (at t) read-row.Post)
       → let start = c .before .before .before in
-      From (P start) (text (start .args .head .now) >>= (λ _. number >>= (λ v. row (bytes " ") (start .args .n - 1) >>= (λ vs. give (v ∷ vs))))) (S start) 0
+      From (P start) (text (start .args .head .now) >>= (λ _. number >>= (λ v. row space (start .args .n - 1) >>= (λ vs. give (v ∷ vs))))) (S start) 0
   opened c = row-more _ _ _ _ (omega (arith, c .if1 .left))
 
   headed : (c : lts.Else2 (claims t) (at t) read-row.Post)
       → let start = c .before .before .before .before .before in
-      From (P start) (number >>= (λ v. row (bytes " ") (start .args .n - 1) >>= (λ vs. give (v ∷ vs)))) (S start) (c .before .read-text2 .result)
+      From (P start) (number >>= (λ v. row space (start .args .n - 1) >>= (λ vs. give (v ∷ vs)))) (S start) (c .before .read-text2 .result)
   headed c = first _ _ (opened (c .before .before)) (c .before .read-text2 .ensures) (c .if2 .left)
 
   numbered : (c : lts.Else3 (claims t) (at t) read-row.Post)
       → let start = start-before-else3 c in
-      From (P start) (row (bytes " ") (start .args .n - 1) >>= (λ vs. give (c .before .read-number .result .value ∷ vs))) (S start)
+      From (P start) (row space (start .args .n - 1) >>= (λ vs. give (c .before .read-number .result .value ∷ vs))) (S start)
       (c .before .before .before .before .read-text2 .result + c .before .read-number .result .used)
   numbered c = next-right _ _ (headed (c .before .before .before)) (c .before .read-number .ensures) (c .if3 .left)
 

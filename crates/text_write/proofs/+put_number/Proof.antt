@@ -7,9 +7,8 @@ use borrow.Author.Needs.{needs}
 use borrow.Fn.Kinds.{In}
 use borrow.Fn.PlainCycle.{Measures, is, falls, and}
 use lib.ListN.{length, set}
-use Rattle.text_write.specs.Lines.{decimal}
-use Rattle.text_write.specs.Appended.{Appended}
-use Rattle.text_write.proofs.Pieces.{appended-byte, appended-then, appended-long}
+use Rattle.text_write.specs.Decimal.{decimal}
+use Rattle.laws.specs.Appended.{Appended, appended-one, appended-then, appended-long}
 use Rattle.text_write.proofs.Decimal.{decimal-one, decimal-more, decimal-longer}
 use Rattle.text_write.proofs.put_number.Reads as put-number
 use Rattle.text_write.proofs.put_number.Kinds as kinds
@@ -29,14 +28,14 @@ claims t = (digit-reads.Asked, digit-reads.Learnt, and 1 kinds.ps (falls 1 kinds
 
 -- a number of one digit, and one of more
 one : (l : List ℕ) (k n d : ℕ) → n < 10 → k + length (decimal n) ≤ length l → d ≡ 48 + n → Appended l k (decimal n) (set l k d) (k + 1)
-one l k n d h g e = rw (decimal-one n h, e) (appended-byte l k (48 + n) (omega (arith, ap length (decimal-one n h))))
+one l k n d h g e = rw (decimal-one n h, e) (appended-one l k (48 + n) (omega (arith, ap length (decimal-one n h))))
 
 module _ (l o : List ℕ) (k m n : ℕ) (h : 10 ≤ n) (g : k + length (decimal n) ≤ length l) (w : Appended l k (decimal (n / 10)) o m) where
   room : m < length o
   room = omega (arith, appended-long w, w .end, decimal-longer n h)
 
   more : (d : ℕ) → d ≡ 48 + n % 10 → Appended l k (decimal n) (set o m d) (m + 1)
-  more d e = rw (decimal-more n h, e) (appended-then w (appended-byte o m (48 + n % 10) room))
+  more d e = rw (decimal-more n h, e) (appended-then w (appended-one o m (48 + n % 10) room))
 
 module _ (t : ℕ) where
   -- places, seen from later ones

@@ -4,7 +4,7 @@ use Prim.Native.Nat.{ℕ, _<_}
 use native.Mathlib.Omega.{arith}
 use lib.ListN.{length}
 use borrow.Author.Tests.{le-leb, lt-leb}
-use Rattle.text_write.specs.Appended.{Appended}
+use Rattle.laws.specs.Appended.{Appended}
 use Rattle.text_write.specs.Fit.{fit}
 use borrow.Author.Needs.{needs}
 use Rattle.text_write.proofs.copy_if_room.Statement.{statement}

@@ -6,8 +6,7 @@ use native.Mathlib.Omega.{arith}
 use native.Mathlib.Numerals.{add-one}
 use lib.ListN.{length, getD, take, set}
 use lib.Seq.{take-suc, take-all}
-use Rattle.text_write.specs.Appended.{Appended}
-use Rattle.text_write.proofs.Pieces.{appended-none, appended-byte, appended-then, appended-long}
+use Rattle.laws.specs.Appended.{Appended, appended-none, appended-one, appended-then, appended-long}
 use Rattle.text_write.proofs.put_text.Statement.{statement}
 use Rattle.text_write.proofs.put_text.Tie as tie
 
@@ -26,7 +25,7 @@ none l at h =
 more : (l w o : List ℕ) (at i : ℕ) → Appended l at (take i w) o (at + i) → i < length w → at + i < length l → Appended l at (take (i + 1) w) (set o (at + i) (getD w i 0)) (at + (i + 1))
 more l w o at i d h k =
     let e : at + (i + 1) ≡ at + i + 1 = omega arith in
-    rw (e, add-one i, take-suc w i 0 h) (appended-then d (appended-byte o (at + i) (getD w i 0) (rw (appended-long d) k)))
+    rw (e, add-one i, take-suc w i 0 h) (appended-then d (appended-one o (at + i) (getD w i 0) (rw (appended-long d) k)))
 
 loop-holds : tie.Need-loop-holds Inv-loop μ-loop
 loop-holds c = (none _ _ (omega (arith, c .pre)), omega arith)

@@ -8,10 +8,9 @@ use lib.IntN.{pos, natAbs}
 use mir.Syntax.{w64}
 use mir.Val.{toZ, ofZ}
 use mir.Facts.{toZ-ofZ}
-use Rattle.text_write.specs.Appended.{Appended}
-use Rattle.text_write.specs.Lines.{costLine}
-use Rattle.text_write.proofs.Pieces.{appended-then}
-use Rattle.text_write.proofs.Sizes.{cost-size}
+use Rattle.laws.specs.Appended.{Appended, appended-then}
+use Rattle.text_listing.specs.Lines.{costLine}
+use Rattle.text_listing.proofs.Sizes.{cost-size}
 use Rattle.book_form.specs.Book.{Book}
 use Rattle.way_theory.specs.Ways.{wayCost}
 use Rattle.way_enumerate.specs.WayEnumerator.{Enumerates}

@@ -6,7 +6,7 @@ use lib.ListN.{length}
 use Rattle.flow_enumerate.specs.Enumerator.{wordAfter}
 use Rattle.flow_enumerate.specs.declared.Place.the-variants.{Item}
 use Rattle.flow_enumerate.proofs.Places.{no-item-at}
-use Rattle.text_write.proofs.Sizes.{more-size, end-size}
+use Rattle.text_listing.proofs.Sizes.{more-size, end-size}
 use Rattle.book_form.specs.Book.{Book}
 use Rattle.way_theory.specs.FullWays.{firstWay}
 use Rattle.way_enumerate.specs.WayEnumerator.{EnumeratesSome, Enumerates, wayAt}

@@ -4,7 +4,7 @@ use Prim.Native.Nat.{_≤_}
 use native.Mathlib.Omega.{arith}
 use lib.ListN.{length}
 use lib.Seq.{length-take-le}
-use Rattle.text_write.specs.Lines.{wayLine}
+use Rattle.text_listing.specs.Lines.{wayLine}
 use Rattle.way_list.proofs.Standing.{line-short, told, lists-one}
 use Rattle.way_list.proofs.list_one.Statement.{statement}
 use Rattle.way_list.proofs.list_one.Tie as tie

@@ -14,13 +14,13 @@ use Rattle.book_lines.proofs.entries.read_entries.Statement.{statement}
 use Rattle.book_lines.proofs.entries.read_entries.Tie as tie
 
 abbrev Inv-loop : tie.InvT-loop
-Inv-loop book first total columns₀ count₀ line₀ bad₀ rest₀ columns count line bad rest = (done : List Entry) × Lines entry book done rest × KnownEntries book first total done count line bad columns
+Inv-loop book first total columns₀ count₀ line₀ bad₀ rest₀ columns count line bad rest = (done : List Entry) × Lines entry book done rest × KnownEntries first total done count line bad columns
 
 abbrev μ-loop : tie.MeasureT-loop
 μ-loop book first total columns₀ count₀ line₀ bad₀ rest₀ columns count line bad rest = length rest
 
 loop-holds : tie.Need-loop-holds Inv-loop μ-loop
-loop-holds c = ([], lines-none entry _, known-entries-none _ _ _)
+loop-holds c = ([], lines-none entry _, known-entries-none _ _)
 
 sub-t19 : tie.Need-sub-t19 Inv-loop μ-loop
 sub-t19 c = omega (arith, c .before .before .loop .inv .1 .shorter)
@@ -35,7 +35,6 @@ returns c =
       count = v .2 .count-is;
       verdict = v .2 .verdict;
       columns = v .2 .columns-are;
-      placed = v .2 .placed;
     }
 
 put-entry-requires : tie.Need-put-entry-requires Inv-loop μ-loop
@@ -88,7 +87,7 @@ loop-again c =
       v .0 ++ (entryOf t r ∷ []),
       lines-more (v .1) (e .right) (else1 .if1 .left),
       rw (c .before .first-bad .ensures, c .before .before .is-fair .ensures)
-          (known-entries-more _ _ _ (v .0) _ _ _ _ _ t r (v .2) (start .pre .0) (stored (c .before .before .before)) (passed-over (c .before .before .before)) e (else1 .if1 .left) (v .1 .part-is)),
+          (known-entries-more _ _ (v .0) _ _ _ _ _ t r (v .2) (start .pre .0) (stored (c .before .before .before)) (passed-over (c .before .before .before)) e),
     )
 
 pub read-entries-spec : {M : Type 1} → statement M

@@ -4,7 +4,8 @@ use mathlib.Core.List.{List}
 use native.Mathlib.Omega.{arith}
 use borrow.Author.Needs.{needs}
 use lib.ListN.{length, take, drop, getD}
-use Rattle.text_read.specs.Reader.{Reader, _>>=_, _>>_, give, bytes, word, row}
+use Rattle.text_read.specs.Reader.{Reader, _>>=_, _>>_, give, word, row}
+use Rattle.text_read.specs.Heads.{bytes, nameEnd}
 use Rattle.book_lines.specs.Lines.{Entry, entry}
 use Rattle.text_read.proofs.Sequence.{From, part, begin, first, first-stops, skip, next-right, stops}
 use Rattle.book_lines.proofs.EntryPass.{entry-absent, entry-present}
@@ -30,7 +31,7 @@ returns c = entry-absent _ _ (first-stops _ _ (begin entry _) (c .before .before
 
 -- What is to be read after the name, after the head, after the word, and after the row.
 abbrev Rest : ℕ → List ℕ → Reader Entry
-Rest left w = row (bytes ") ") 3 >>= (λ ns. give (record { name = w; left = left; instrument = getD ns 0 0; start = getD ns 1 0; finish = getD ns 2 0 }))
+Rest left w = row nameEnd 3 >>= (λ ns. give (record { name = w; left = left; instrument = getD ns 0 0; start = getD ns 1 0; finish = getD ns 2 0 }))
 
 headed : (c : tie.Else1)
     → let s = c .before .before .before .before .args .rest .now in
@@ -86,7 +87,7 @@ add-t32 : tie.Need-add-t32
 add-t32 c = omega (arith, ended c)
 
 returns-4 : tie.Need-returns-4
-returns-4 c = entry-present _ (c .before .before .read-row .result .numbers) _ _ _ (worded (c .before .before .before .before .before) .within) (c .before .before .before .before .before .if2 .left) (ended c) (omega (arith, c .before .if3 .left))
+returns-4 c = entry-present _ (c .before .before .read-row .result .numbers) _ _ _ (worded (c .before .before .before .before .before) .within) (ended c) (omega (arith, c .before .if3 .left))
 
 pub read-entry-spec : {M : Type 1} → statement M
 read-entry-spec =

@@ -4,7 +4,8 @@ use native.Mathlib.Omega.{arith}
 use borrow.Author.Needs.{needs}
 use lib.ListN.{length}
 use Rattle.book_lines.specs.declared.moves.Move.{Move}
-use Rattle.text_read.specs.Reader.{bytes, row, ReadsFront}
+use Rattle.text_read.specs.Reader.{row, ReadsFront}
+use Rattle.text_read.specs.Heads.{bytes, moveHead}
 use Rattle.book_lines.specs.Lines.{move, moveFrom}
 use Rattle.text_read.proofs.Sequence.{mapped}
 use Rattle.text_read.proofs.Lines.{Lines, lines-none, lines-more, lines-fall, lines-all}
@@ -25,7 +26,7 @@ loop-holds c = ([], lines-none move _, known-moves-none)
 got : (c : tie.After-read-row Inv-loop μ-loop)
     → ReadsFront (c .before .before .loop .rest .now) (move (c .before .before .loop .rest .now)) (c .read-row .result .used) (moveFrom (c .read-row .result .numbers))
 unfolding move bytes
-got c = mapped (row (bytes "(move ") 4) moveFrom _ (c .read-row .ensures .right)
+got c = mapped (row moveHead 4) moveFrom _ (c .read-row .ensures .right)
 
 sub-t20 : tie.Need-sub-t20 Inv-loop μ-loop
 sub-t20 c = omega (arith, c .before .before .before .loop .inv .1 .shorter)

@@ -1,0 +1,2 @@
+mod Sheeting
+mod SheetExamples

@@ -1,0 +1,3 @@
+mod Spaced
+pub mod Sizes
+mod Examples

@@ -1,0 +1,15 @@
+-- Document 02, request 2: the ticks that are played, and that the entries of a sheet follow one another in time.
+use mathlib.Core.List.{List, [], _∷_}
+use Prim.Native.Nat.{ℕ, _-_, _≤_}
+use Rattle.book_form.specs.Book.{Book}
+use Rattle.way_theory.specs.Follow.{entryAt}
+
+-- "the ticks played": of entry j, from its S to its F
+abbrev pub ticksOf : Book → ℕ → ℕ
+ticksOf book j = entryAt book j .finish - entryAt book j .start
+
+-- "G being the ticks from one entry's F to the next one's S": each entry but the first starts no earlier than the one before it finishes
+abbrev pub FollowInTime : Book → List ℕ → Type 0
+FollowInTime book [] = Unit {0}
+FollowInTime book (i ∷ []) = Unit {0}
+FollowInTime book (i ∷ j ∷ p) = (entryAt book i .finish ≤ entryAt book j .start) × FollowInTime book (j ∷ p)

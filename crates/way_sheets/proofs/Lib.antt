@@ -1,0 +1,4 @@
+mod Cases
+pub mod Visits
+pub mod Sizes
+mod Turn

@@ -1,0 +1,26 @@
+"""A writer of part sheets for the tests, written from request 2 of document 02 alone and independent of the library. Books are those of book_reader."""
+
+ROOM = 71                              # bytes an entry
+
+
+def parts(way):
+    """The parts of a way, by rising number of their opening entries: the entries of each in playing order."""
+    found = [[j] for j, i in enumerate(way, 1) if i == 0]
+    for part in found:
+        while part[-1] in way: part.append(way.index(part[-1]) + 1)
+    return found
+
+
+def sheets(text, book, way):
+    """The sheets of a way of the book that the bytes `text` hold."""
+    lines = []
+    for n, part in enumerate(parts(way), 1):
+        lines.append(b"(part %d" % n)
+        before = None
+        for j in part:
+            (_, start, finish), (begin, end) = book.entries[j - 1], book.names[j - 1]
+            if before is not None: lines.append(b"(gap %d)" % (start - before))
+            lines.append(b"(play (name %s) %d %d)" % (text[begin:end], start, finish))
+            before = finish
+        lines.append(b")")
+    return b"".join(line + b"\n" for line in lines)

@@ -1,0 +1,217 @@
+"""The part sheets: the stored ones, the numbers of request 2, and each least-cost way of many books beside the writer in sheet_writer.py. Deterministic."""
+import itertools
+import random
+import re
+import unittest
+
+import book_reader
+import sheet_writer
+import way_library
+import way_trial
+from desk_library import NONE, OK, ROOT, numbers
+from test_books import EXAMPLE, made
+from test_way_trial import EXAMPLES
+from way_books import MOST, THOUSAND, large, named, paired, refused, small
+
+SHEET = re.compile(rb"\(part (\d+)\n((?:\(play .*\)\n\(gap .*\)\n)*\(play .*\)\n)\)\n")
+PLAY, GAP = re.compile(rb"\(play \(name ([a-z0-9]{1,16})\) (\d+) (\d+)\)"), re.compile(rb"\(gap (\d+)\)")
+NO_WAY = made(1, 0, [], [(b"a", 1, 0, 2), (b"b", 1, 1, 3)])
+
+
+def stored():
+    """Each stored text of sheets: its name, the book, the way and the text. NAME-N.sheets is of way N of NAME.listing."""
+    for path in sorted(EXAMPLES.glob("*.sheets")):
+        name, _, place = path.stem.rpartition("-")
+        row = re.findall(r"^\(way(.*)\)$", (EXAMPLES / (name + ".listing")).read_text(), re.M)[int(place) - 1]
+        yield path.stem, (EXAMPLES / (name + ".book")).read_bytes(), [int(word) for word in row.split()], path.read_bytes()
+
+
+def read_back(text):
+    """The parts that sheets tell, from their text alone: name, start and finish of each entry. The parts are numbered from 1, and the gaps are those between the entries."""
+    parts, at = [], 0
+    while at < len(text):
+        sheet = SHEET.match(text, at)
+        assert sheet and int(sheet[1]) == len(parts) + 1, text
+        lines = sheet[2].split(b"\n")[:-1]
+        plays = [(name, int(start), int(finish)) for name, start, finish in (PLAY.fullmatch(line).groups() for line in lines[::2])]
+        assert [int(GAP.fullmatch(line)[1]) for line in lines[1::2]] == [b[1] - a[2] for a, b in zip(plays, plays[1:])], text
+        parts.append(plays)
+        at = sheet.end()
+    return parts
+
+
+def chains(players, *rows):
+    """A book whose cheapest way is a part for each row of starts and finishes: each row has an instrument of its own, and no move leads to another. The names have 16 bytes."""
+    return made(players, 1, [], [(b"%016d" % start, k, start, finish) for k, row in enumerate(rows, 1) for start, finish in row])
+
+
+def far(gaps, start=100000):
+    """Entries of one tick with these gaps, the last one to tick 1,000,000."""
+    starts = list(itertools.accumulate(gaps, lambda at, gap: at + 1 + gap, initial=start))
+    return [(s, s + 1) for s in starts[:-1]] + [(starts[-1], 1000000)]
+
+
+class Sheets(unittest.TestCase):
+    @classmethod
+    def setUpClass(cls):
+        cls.desk = way_library.load()
+
+    def written(self, book, way):
+        """The sheets of a way, as the library writes them: into a list with room for 71 bytes an entry, and into a longer one."""
+        room = sheet_writer.ROOM * len(way)
+        self.assertEqual(self.desk.sheets_room(book), (OK, room))
+        texts = []
+        for more in (0, 9):
+            lent = bytes((7 * k + 1) % 256 for k in range(room + more))
+            (code, length), (after,) = self.desk.sheets(book, numbers(way), lent)
+            self.assertEqual((code, after[length:]), (OK, lent[length:]), book)
+            texts.append(after[:length])
+        self.assertEqual(*texts)
+        return texts[0]
+
+    def same(self, text, way):
+        """The library's sheets are the writer's; every entry stands on exactly one, and the ticks played sum to those of the book. Gives the parts."""
+        book, written = book_reader.read(text), self.written(text, way)
+        self.assertEqual(written, sheet_writer.sheets(text, book, way), text)
+        self.assertLessEqual(len(written), sheet_writer.ROOM * len(way))
+        parts = read_back(written)
+        told = [(text[begin:end], start, finish) for (begin, end), (_, start, finish) in zip(book.names, book.entries)]
+        self.assertEqual(sorted(play for part in parts for play in part), sorted(told), text)
+        self.assertEqual(sum(finish - start for part in parts for _, start, finish in part), sum(finish - start for _, start, finish in book.entries), text)
+        self.assertEqual(len(parts), list(way).count(0), text)
+        return parts
+
+    def refused(self, book, given, text, question):
+        """The call is refused with the question, and changes nothing."""
+        self.assertEqual(self.desk.sheets(book, given, text), ((question, 0), [text]), book)
+
+    def test_document(self):
+        """The sheets of the document's book, word by word."""
+        self.assertEqual(self.written(EXAMPLE, (0, 0, 1)), b"(part 1\n(play (name snare) 0 96)\n(gap 144)\n(play (name snare2) 240 300)\n)\n(part 2\n(play (name xylo) 120 200)\n)\n")
+        self.assertEqual(self.written(EXAMPLE, (0, 1, 2)), b"(part 1\n(play (name snare) 0 96)\n(gap 24)\n(play (name xylo) 120 200)\n(gap 40)\n(play (name snare2) 240 300)\n)\n")
+
+    def test_stored(self):
+        """Every stored text, byte for byte, by the library and by the writer."""
+        names = []
+        for name, book, way, text in stored():
+            with self.subTest(name):
+                self.assertEqual(sheet_writer.sheets(book, book_reader.read(book), way), text)
+                self.assertEqual(self.written(book, way), text)
+                names.append(name)
+        self.assertEqual(names, ["ballet-4", "document-1", "document-2", "free-parts-1", "not-in-time-order-1", "touching-1"])
+
+    def test_shown(self):
+        """The header, desk(3) and the page on the C programs show the sheets of the document's first way."""
+        lines = (EXAMPLES / "document-1.sheets").read_text().splitlines(True)
+        self.assertIn("".join(" *   " + line for line in lines), (ROOT / "include/desk.h").read_text())
+        self.assertIn(".nf\n%s.fi\n" % "".join(lines), (ROOT / "packaging/desk.3.in").read_text())
+        self.assertIn("\n\n%s\n" % "".join("    " + line for line in lines), (ROOT / "examples/c/README.md").read_text())
+
+    def test_room(self):
+        """71 bytes an entry, of a book without a way too; refused as the other calls of a book are."""
+        for e in range(29):
+            book = made(1, 0, [], [(b"e%d" % j, 1, j, j + 1) for j in range(e)])
+            self.assertEqual(self.desk.sheets_room(book), (OK, 71 * e))
+            if e: self.same(book, range(e))
+        header = (ROOT / "include/desk.h").read_text()
+        self.assertEqual(re.search(r"^#define DESK_SHEETS_ROOM (\d+)$", header, re.M)[1], str(71 * 28))
+        self.assertEqual(self.desk.first(NO_WAY, bytes(8))[0], (NONE, 0))
+        self.assertEqual(self.desk.sheets_room(NO_WAY), (OK, 142))
+        for question, book in refused():
+            self.assertEqual(self.desk.sheets_room(book), (question, 0))
+            self.assertIn(self.desk.line, book_reader.refusal(book)[1])
+
+    def test_short(self):
+        """A list with less than 71 bytes an entry is refused, also one in which the sheets would fit; one with as many, or more, is not."""
+        row = made(8, 0, [(1, 1, 0, 1)], named([(1, j, j + 1) for j in range(8)]))
+        for book, way in ((EXAMPLE, (0, 0, 1)), (EXAMPLE, (0, 1, 2)), (made(1, 0, [], named([(1, 0, 1)])), (0,)), (row, (0,) * 8), (made(1, 0, [], named([(1, j, j + 1) for j in range(28)])), range(28))):
+            text, room = sheet_writer.sheets(book, book_reader.read(book), list(way)), 71 * len(way)
+            self.assertLess(len(text), room - 1)
+            for size in (0, 1, len(text) - 1, len(text), len(text) + 1, room - 4, room - 1): self.refused(book, numbers(way), b"\x77" * size, 21)
+            for size in (room, room + 1, room + 4, 4 * room):
+                self.assertEqual(self.desk.sheets(book, numbers(way), b"\x77" * size), ((OK, len(text)), [text + b"\x77" * (size - len(text))]))
+
+    def test_no_entries(self):
+        """No sheet, in a list of any length; the way given is the empty list."""
+        for book in (made(), made(8, 1000000, [(1, 2, 0, 0)])):
+            for lent in (b"", b"\x55", b"\x55" * 71): self.assertEqual(self.desk.sheets(book, b"", lent), ((OK, 0), [lent]))
+            for given in (b"\0", b"\0" * 4): self.refused(book, given, b"", 18)
+
+    def test_given(self):
+        """A list that is cut, too long, or permitted and dearer is refused, whatever room there is; and so is every list of a book without a way."""
+        rng, dearer, met = random.Random(31), 0, 0
+        books = [EXAMPLE, NO_WAY, *THOUSAND.values(), *(small(rng, 5) for _ in range(300))]
+        for book in books:
+            found = way_trial.ways(book_reader.read(book))
+            lines, cost = way_trial.cheapest(found)
+            e = len(book_reader.read(book).entries)
+            wrong = [numbers(way) for c, way in found if c != cost][:20]
+            dearer += len(wrong)
+            for way in map(numbers, lines[:3]):
+                wrong += [way[:-cut] for cut in (1, 2, 3, 4) if way] + [way[cut:] for cut in (1, 4) if way] + [way + more for more in (b"\0", b"\0" * 2, b"\0" * 3, b"\0" * 4, numbers([1]))]
+                met += 1
+            if not lines: wrong += [b"", numbers([0] * e), numbers(range(e))]
+            for given in wrong:
+                for room in (71 * e, 71 * e + 1, max(0, 71 * e - 1), 0): self.refused(book, given, b"\x66" * room, 18)
+        self.assertTrue(dearer > 300 and met > 300, (dearer, met))
+
+    def test_small(self):
+        """Each least-cost way of small books: parts of every number, gaps of 0 and others, openings that are not in the order of time."""
+        rng, parts, touching, late = random.Random(32), {}, 0, 0
+        for _ in range(1500):
+            book = small(rng)
+            for way in way_trial.full_list(book_reader.read(book))[0][:30]:
+                found = self.same(book, way)
+                parts[len(found)] = parts.get(len(found), 0) + 1
+                touching += any(a[2] == b[1] for part in found for a, b in zip(part, part[1:]))
+                late += any(a[0][1] > b[0][1] for a, b in zip(found, found[1:]))
+        self.assertTrue(all(parts[n] > 20 for n in range(7)) and touching > 500 and late > 500, (parts, touching, late))
+
+    def test_most_parts(self):
+        """Eight parts at once."""
+        crowd = made(8, 0, [], [(b"c%d" % j, 1 + j, 0, 1) for j in range(8)])
+        self.assertEqual(self.same(crowd, (0,) * 8), [[(b"c%d" % j, 0, 1)] for j in range(8)])
+
+    def test_large(self):
+        """Up to 28 entries: the sheets of the first ways, as first and next give them."""
+        rng, many = random.Random(33), 0
+        for book in [MOST, *(large(rng) for _ in range(30)), *(paired(rng) for _ in range(20))]:
+            e = len(book_reader.read(book).entries)
+            (code, _), (way,) = self.desk.first(book, bytes(4 * e))
+            for _ in range(20):
+                if code != OK: break
+                self.same(book, [int.from_bytes(way[k:k + 4], "little") for k in range(0, 4 * e, 4)])
+                many += 1
+                (code, _), (way,) = self.desk.next(book, way, bytes(4 * e))
+        self.assertGreater(many, 300)
+
+    def test_longest(self):
+        """Names of 16 bytes, starts and gaps of six digits, finishes of seven: 56 bytes of 71, 520 of 639, and 1,617 of 1,988, which is 57.75 an entry."""
+        nine, ten = far([100000] * 8), far([99990] + [100000] * 8)
+        for book, length in ((chains(1, far([], 999999)), 56), (chains(1, nine), 520), (chains(3, nine, nine, ten), 1617)):
+            (way,), _ = way_trial.full_list(book_reader.read(book))
+            self.same(book, way)
+            self.assertEqual(len(self.written(book, way)), length)
+
+    def test_numbers(self):
+        """Numbers of every count of digits, at both ends."""
+        edges = [0, 1, 9, 10, 99, 100, 999, 1000, 9999, 10000, 99999, 100000, 999999, 1000000]
+        for start, finish in itertools.combinations(edges, 2): self.assertEqual(self.same(made(1, 0, [], [(b"a", 1, start, finish)]), (0,)), [[(b"a", start, finish)]])
+        for gap in [*edges[:-2], 999998]:
+            end = 2 + gap
+            self.assertEqual(self.same(made(1, 0, [], [(b"a", 1, 0, 1), (b"b", 1, 1 + gap, end)]), (0, 1)), [[(b"a", 0, 1), (b"b", 1 + gap, end)]])
+
+    def test_order_of_questions(self):
+        """A book that fails 11 to 16 fails it with any list given and lent; a wrong list given comes before a short list lent."""
+        for question, book in refused():
+            for given, text in itertools.product((b"", b"\0", numbers([0]), numbers([0] * 28)), (b"", b"\x55" * 70, b"\x55" * 1988)):
+                self.refused(book, given, text, question)
+                self.assertIn(self.desk.line, book_reader.refusal(book)[1])
+        for given in (b"", b"\0" * 11, numbers([0, 0, 0]), numbers([0, 0, 2])):
+            for room in (0, 212, 213): self.refused(EXAMPLE, given, b"\x55" * room, 18)
+        self.refused(EXAMPLE, numbers([0, 0, 1]), b"\x55" * 212, 21)
+        self.refused(NO_WAY, numbers([0, 0]), b"", 18)
+
+
+if __name__ == "__main__":
+    unittest.main()
