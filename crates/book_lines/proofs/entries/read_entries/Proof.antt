@@ -33,7 +33,7 @@ returns c =
       is = lines-all (v .1) (c .before .read-entry .ensures .right) (c .if1 .taken);
       within = omega arith;
       count = v .2 .count-is;
-      verdict = v .2 .verdict;
+      bad = v .2 .bad-is;
       columns = v .2 .columns-are;
     }
 
@@ -86,8 +86,8 @@ loop-again c =
     let e = after-read-entry .read-entry .ensures in (
       v .0 ++ (entryOf t r ∷ []),
       lines-more (v .1) (e .right) (else1 .if1 .left),
-      rw (c .before .first-bad .ensures, c .before .before .is-fair .ensures)
-          (known-entries-more _ _ (v .0) _ _ _ _ _ t r (v .2) (start .pre .0) (stored (c .before .before .before)) (passed-over (c .before .before .before)) e),
+      known-entries-more _ _ (v .0) _ _ _ _ _ _ t r (v .2) (start .pre .0) (stored (c .before .before .before)) (passed-over (c .before .before .before)) e
+          (rw (c .before .before .is-fair .ensures) at (c .before .first-bad .ensures)),
     )
 
 pub read-entries-spec : {M : Type 1} → statement M

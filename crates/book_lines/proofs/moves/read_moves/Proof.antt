@@ -40,7 +40,7 @@ returns c =
       within = omega arith;
       few = omega (arith, v .1 .shorter);
       line = v .2 .line-is;
-      verdict = v .2 .verdict;
+      bad = v .2 .bad-is;
       ticks = v .2 .ticks-are;
       costs = v .2 .costs-are;
     }
@@ -78,7 +78,7 @@ loop-again c =
     let m = moveFrom (after-read-row .read-row .result .numbers) in (
       v .0 ++ (m ∷ []),
       lines-more (v .1) (got after-read-row) (else1 .if1 .left),
-      rw (c .before .first-bad .ensures) (known-moves-more (v .0) m _ _ _ _ _ _ _ (v .2) (c .before .before .put-move .ensures)),
+      known-moves-more (v .0) m _ _ _ _ _ _ _ _ (v .2) (c .before .before .put-move .ensures) (c .before .first-bad .ensures),
     )
 
 pub read-moves-spec : {M : Type 1} → statement M
