@@ -1,15 +1,14 @@
 -- The first bad line of the lines that a question is put to.
 use Prim.Native.Nat.{ℕ, zero, suc, _+_, _<_, _≤_}
-use mathlib.Core.Path.{_≡_, refl, sym, ap, subst, _∙_}
-use mathlib.Core.Bool.{Bool, true, false, true≢false}
+use mathlib.Core.Path.{_≡_, refl, sym, ap, _∙_}
+use mathlib.Core.Bool.{Bool, true, false, cond, true≢false}
 use mathlib.Core.List.{List, [], _∷_, _++_}
 use native.Mathlib.Omega.{arith}
-use native.Mathlib.Decide.{ℕ-discrete}
 use lib.ListN.{length, getD}
 use lib.Dec.{eqb}
 use borrow.Author.Tests.{ne-eqb}
 use Rattle.book_lines.specs.Questions.{allPass, firstBad, LowestFailing}
-use Rattle.book_lines.specs.Passes.{OneMoreLine}
+use Rattle.book_lines.specs.Passes.{firstBadAfter}
 
 -- 0 says that no line fails
 pub all-pass : (first : ℕ) (l : List Bool) → 0 < first → allPass l ≡ eqb (firstBad first l) 0
@@ -36,31 +35,23 @@ first-bad-lowest first [] e = absurd (true≢false e)
 first-bad-lowest first (false ∷ l) e = record { fails = (0, omega arith, refl); lowest = λ j f. omega (arith, f .1) }
 first-bad-lowest first (true ∷ l) e = lowest-after first l _ (first-bad-lowest (first + 1) l e)
 
--- lines with more after them
-first-bad-kept : (first : ℕ) (l m : List Bool) → ¬ (firstBad first l ≡ 0) → firstBad first (l ++ m) ≡ firstBad first l
+-- one line more, which passes by the test that the code makes while none failed
+alone : (line : ℕ) (x : Bool) → cond x 0 line ≡ firstBad line (x ∷ [])
 unfolding firstBad
-first-bad-kept first [] m z = absurd (z refl)
-first-bad-kept first (true ∷ l) m z = first-bad-kept (first + 1) l m z
-first-bad-kept first (false ∷ l) m z = refl
+alone line true = refl
+alone line false = refl
 
-first-bad-after : (first : ℕ) (l m : List Bool) → 0 < first → firstBad first l ≡ 0 → firstBad first (l ++ m) ≡ firstBad (first + length l) m
+stays : (first line : ℕ) (x : Bool) → 0 < first → firstBadAfter first x line ≡ first
+stays first line true h = refl
+stays first line false h = rw (ne-eqb first 0 (λ z. omega arith))
+
+one-more : (first : ℕ) (l : List Bool) (passes answer : Bool) → 0 < first → (firstBad first l ≡ 0 → passes ≡ answer)
+    → firstBadAfter (firstBad first l) passes (first + length l) ≡ firstBad first (l ++ (answer ∷ []))
 unfolding firstBad
-first-bad-after first [] m h z = ap (λ n. firstBad n m) (omega arith)
-first-bad-after first (true ∷ l) m h z = first-bad-after (first + 1) l m (omega arith) z ∙ ap (λ n. firstBad n m) (omega arith)
-first-bad-after first (false ∷ l) m h z = absurd (omega arith)
+one-more first [] passes answer h same = rw (same refl) (ap (cond answer 0) (omega arith) ∙ alone first answer)
+one-more first (true ∷ l) passes answer h same = ap (firstBadAfter (firstBad (first + 1) l) passes) (omega arith) ∙ one-more (first + 1) l passes answer (omega arith) same
+one-more first (false ∷ l) passes answer h same = stays first (first + length (false ∷ l)) passes h
 
--- one more line: after one that failed, where none did, and if it passes
-module _ (bad : ℕ) (passes : Bool) (line : ℕ) where
-  pub failed-before : ¬ (bad ≡ 0) → OneMoreLine bad passes line bad
-  failed-before z = record { each = λ first l h e at answer same. e ∙ sym (first-bad-kept first l (answer ∷ []) (λ q. z (e ∙ q))) }
-
-  pub none-before : bad ≡ 0 → (x : Bool) → passes ≡ x → OneMoreLine bad passes line (firstBad line (x ∷ []))
-  none-before z x p = record { each = λ first l h e at answer same. sym (first-bad-after first l (answer ∷ []) h (sym e ∙ z) ∙ rw (← at, ← same z, p)) }
-
-  pub passes-too : passes ≡ true → OneMoreLine bad passes line bad
-  unfolding firstBad
-  passes-too p = go (ℕ-discrete bad 0)
-    where
-      go : Dec (bad ≡ 0) → OneMoreLine bad passes line bad
-      go (yes z) = subst (OneMoreLine bad passes line) (sym z) (none-before z true p)
-      go (no z) = failed-before z
+pub first-bad-more : (first : ℕ) (l : List Bool) {bad line : ℕ} (passes answer : Bool) → 0 < first → bad ≡ firstBad first l → line ≡ first + length l → (bad ≡ 0 → passes ≡ answer)
+    → firstBadAfter bad passes line ≡ firstBad first (l ++ (answer ∷ []))
+first-bad-more first l passes answer h e at same = rw (e, at) (one-more first l passes answer h (λ z. same (e ∙ z)))

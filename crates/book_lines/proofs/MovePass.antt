@@ -8,10 +8,10 @@ use lib.ListN.{length, length-append, replicate, set}
 use Rattle.book_lines.specs.declared.moves.Move.{Move}
 use Rattle.book_lines.specs.Questions.{fairMove, moveOf, none?, stands, moves, allPass, firstBad}
 use Rattle.book_lines.specs.Columns.{table}
-use Rattle.book_lines.specs.Passes.{OneMoreLine, placeOf, mayStand, Put, kept}
+use Rattle.book_lines.specs.Passes.{firstBadAfter, placeOf, mayStand, Put, kept}
 use Rattle.laws.specs.Tests.{and-true}
 use Rattle.book_lines.proofs.Table.{fair-parts, table-none, table-more, may-stand-stands}
-use Rattle.book_lines.proofs.FirstBad.{none-bad}
+use Rattle.book_lines.proofs.FirstBad.{none-bad, first-bad-more}
 
 -- the answers to 14: of one more line, and how many
 moves-more : (ds ms : List Move) (m : Move) → moves ds (ms ++ (m ∷ [])) ≡ moves ds ms ++ (stands (ds ++ ms) m ∷ [])
@@ -59,12 +59,12 @@ put-table f ms m t t′ true s q p =
     p ∙ rw q (table-more m (fair-parts m (b .0) .pair) f ms (b .1))
 put-table f ms m t t′ false s q p = p ∙ q
 
-pub known-moves-more : (done : List Move) (m : Move) (line bad bad′ : ℕ) (ticks costs ticks′ costs′ : List ℕ) (r : Bool)
-    → KnownMoves done line bad ticks costs → Put m ticks costs ticks′ costs′ r → OneMoreLine bad r line bad′ → KnownMoves (done ++ (m ∷ [])) (line + 1) bad′ ticks′ costs′
-known-moves-more done m line bad bad′ ticks costs ticks′ costs′ r k p one =
+pub known-moves-more : (done : List Move) (m : Move) (line bad : ℕ) (ticks costs ticks′ costs′ : List ℕ) (r : Bool)
+    → KnownMoves done line bad ticks costs → Put m ticks costs ticks′ costs′ r → KnownMoves (done ++ (m ∷ [])) (line + 1) (firstBadAfter bad r line) ticks′ costs′
+known-moves-more done m line bad ticks costs ticks′ costs′ r k p =
     record {
       line-is = omega (arith, k .line-is, length-append done (m ∷ []));
-      bad-is = one .each 4 (moves [] done) (omega arith) (k .bad-is) (omega (arith, k .line-is, moves-length [] done)) (stands done m) asked ∙ ap (firstBad 4) (sym (moves-more [] done m));
+      bad-is = first-bad-more 4 (moves [] done) r (stands done m) (omega arith) (k .bad-is) (omega (arith, k .line-is, moves-length [] done)) asked ∙ ap (firstBad 4) (sym (moves-more [] done m));
       ticks-are = put-table (λ m. m .ticks + 1) (kept [] done) m ticks ticks′ (stands (kept [] done) m) refl (k .ticks-are) (p .ticks-are ∙ ap (λ x. cond x (set ticks (placeOf m) (m .ticks + 1)) ticks) test)
           ∙ ap (table (λ m. m .ticks + 1)) (sym (kept-more [] done m));
       costs-are = put-table (λ m. m .cost) (kept [] done) m costs costs′ (stands (kept [] done) m) refl (k .costs-are) (p .costs-are ∙ ap (λ x. cond x (set costs (placeOf m) (m .cost)) costs) test)

@@ -1,5 +1,5 @@
 -- What the functions over lines promise: one line, and the passes over the moves and over the entries.
-use Prim.Native.Nat.{ℕ, _+_, _-_, _<_, _≤_}
+use Prim.Native.Nat.{ℕ, _+_, _-_, _≤_}
 use mathlib.Core.Path.{_≡_}
 use mathlib.Core.Bool.{Bool, cond, _&&_}
 use mathlib.Core.List.{List, [], _∷_, _++_}
@@ -15,10 +15,9 @@ use Rattle.book_lines.specs.Lines.{move, Entry, entry}
 use Rattle.book_lines.specs.Questions.{fairMove, stands, moves, entries, firstBad}
 use Rattle.book_lines.specs.Columns.{place, table, column}
 
--- one more line: `bad` is the first bad line of those before it, r that of all. What it answers is asked only where none failed before.
-pub record OneMoreLine (bad : ℕ) (passes : Bool) (line r : ℕ) : Type 0 where
-  pub each : (first : ℕ) (answers : List Bool) → 0 < first → bad ≡ firstBad first answers → line ≡ first + length answers
-      → (answer : Bool) → (bad ≡ 0 → passes ≡ answer) → r ≡ firstBad first (answers ++ (answer ∷ []))
+-- the first bad line after one line more, which is line `line`: `bad` is that of the lines before it, or 0 (`first-bad-more`, proofs/FirstBad.antt)
+abbrev pub firstBadAfter : ℕ → Bool → ℕ → ℕ
+firstBadAfter bad passes line = cond passes bad (cond (eqb bad 0) line bad)
 
 -- the place of the pair of m in a table
 abbrev pub placeOf : Move → ℕ

@@ -1,9 +1,10 @@
 // A question that is put to lines: the first line that fails it, or 0.
-ghost use Rattle.book_lines.specs.Passes.{OneMoreLine};
+ghost use mathlib.Core.Path.{_≡_};
+ghost use Rattle.book_lines.specs.Passes.{firstBadAfter};
 
 // With one line more: `bad` is the first line that failed before it, or 0.
 pub fn first_bad(bad: u32, passes: bool, line: u32) -> u32
-    ensures { λ r. ⌜ OneMoreLine bad passes line r ⌝ }
+    ensures { λ r. ⌜ r ≡ firstBadAfter bad passes line ⌝ }
 {
     if passes {
         return bad;

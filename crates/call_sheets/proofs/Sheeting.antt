@@ -53,7 +53,7 @@ module _ (s : List ℕ) (r : AdmittedBook) (h : AdmitsBook s r) (n : ¬ (r .numb
 
 -- a call that fails a question after them, which tells no line
 fails-later : (s g l : List ℕ) (k : ℕ) → sheetsQuestion s g (length l) ≡ suc k → ((b : Book) → linesAsked b (suc k) .1 ≡ []) → (x : Reply) → x ≡ codeAlone (suc k) → BookSheets s g l x l
-fails-later s g l k e none x q = record { reply-is = q ∙ rw (e, untold s (suc k) none) refl; text-is = rw e }
+fails-later s g l k e unasked x q = record { reply-is = q ∙ rw (e, untold s (suc k) unasked) refl; text-is = rw e }
 
 -- past them
 module _ (s : List ℕ) (r : AdmittedBook) (h : AdmitsBook s r) (z : r .number ≡ 0) where

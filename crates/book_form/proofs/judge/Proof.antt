@@ -6,6 +6,8 @@ use native.Mathlib.Omega.{arith}
 use lib.Dec.{leb}
 use borrow.Author.Needs.{needs}
 use Rattle.book_lines.specs.Questions.{firstBad}
+use Rattle.book_lines.specs.Passes.{firstBadAfter}
+use Rattle.book_lines.proofs.FirstBad.{first-bad-more}
 use Rattle.book_form.specs.declared.Answer.{Answer}
 use Rattle.book_form.specs.Steps.{answerOf, headerBad, judgedOf}
 use Rattle.book_form.proofs.Judging.{judged-refused, judged-held}
@@ -24,8 +26,10 @@ answered c =
     let header : tie.After-first-bad2 = search in
     let o = start .args .o in
     let fair = leb 1 (o .players) && leb (o .players) 8 in
-    let p = players .first-bad .ensures .each 2 [] (omega arith) refl refl fair (λ _. refl) in
-    let h : header .first-bad2 .result ≡ headerBad o = header .first-bad2 .ensures .each 2 (fair ∷ []) (omega arith) p refl (leb (o .fee) 1000000) (λ _. refl) in
+    let one : players .first-bad .result ≡ firstBadAfter 0 fair 2 = players .first-bad .ensures in
+    let p = one ∙ first-bad-more 2 [] fair fair (omega arith) refl refl (λ _. refl) in
+    let low = leb (o .fee) 1000000 in
+    let h : header .first-bad2 .result ≡ headerBad o = header .first-bad2 .ensures ∙ first-bad-more 2 (fair ∷ []) low low (omega arith) p refl (λ _. refl) in
     c .answer-of .ensures ∙ rw h
 
 returns : tie.Need-returns

@@ -86,8 +86,8 @@ loop-again c =
     let e = after-read-entry .read-entry .ensures in (
       v .0 ++ (entryOf t r ∷ []),
       lines-more (v .1) (e .right) (else1 .if1 .left),
-      known-entries-more _ _ (v .0) _ _ _ _ _ _ t r (v .2) (start .pre .0) (stored (c .before .before .before)) (passed-over (c .before .before .before)) e
-          (rw (c .before .before .is-fair .ensures) at (c .before .first-bad .ensures)),
+      rw (c .before .first-bad .ensures, c .before .before .is-fair .ensures)
+          (known-entries-more _ _ (v .0) _ _ _ _ _ t r (v .2) (start .pre .0) (stored (c .before .before .before)) (passed-over (c .before .before .before)) e),
     )
 
 pub read-entries-spec : {M : Type 1} → statement M

@@ -78,7 +78,7 @@ loop-again c =
     let m = moveFrom (after-read-row .read-row .result .numbers) in (
       v .0 ++ (m ∷ []),
       lines-more (v .1) (got after-read-row) (else1 .if1 .left),
-      known-moves-more (v .0) m _ _ _ _ _ _ _ _ (v .2) (c .before .before .put-move .ensures) (c .before .first-bad .ensures),
+      rw (c .before .first-bad .ensures) (known-moves-more (v .0) m _ _ _ _ _ _ _ (v .2) (c .before .before .put-move .ensures)),
     )
 
 pub read-moves-spec : {M : Type 1} → statement M

@@ -1,19 +1,16 @@
 -- `book_lines::verdict::first_bad` meets its contract.
-use mathlib.Core.Bool.{false}
-use Rattle.book_lines.specs.Questions.{firstBad}
-use Rattle.book_lines.proofs.FirstBad.{failed-before, none-before, passes-too}
+use borrow.Author.Tests.{eq-eqb, ne-eqb}
 use Rattle.book_lines.proofs.verdict.first_bad.Statement.{statement}
 use Rattle.book_lines.proofs.verdict.first_bad.Tie as tie
 
 returns : tie.Need-returns
-returns c = passes-too _ _ _ (c .if1 .taken)
+returns c = simp (c .if1 .taken)
 
 returns-2 : tie.Need-returns-2
-unfolding firstBad
-returns-2 c = none-before _ _ _ (c .if2 .taken) false (c .before .if1 .left)
+returns-2 c = simp (c .before .if1 .left, eq-eqb _ 0 (c .if2 .taken))
 
 returns-3 : tie.Need-returns-3
-returns-3 c = failed-before _ _ _ (c .if2 .left)
+returns-3 c = simp (c .before .if1 .left, ne-eqb _ 0 (c .if2 .left))
 
 pub first-bad-spec : {M : Type 1} → statement M
 first-bad-spec = tie.close (tie.spec returns returns-2 returns-3)
