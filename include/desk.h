@@ -11,7 +11,7 @@
 #define DESK_H
 
 /* The version of the library and of the program ways. */
-#define DESK_VERSION "2.2.0"
+#define DESK_VERSION "2.3.0"
 
 #include <stddef.h>
 #include <stdint.h>
@@ -38,7 +38,7 @@ enum {
 #define DESK_SHEETS_ROOM 1988
 
 /* value: with DESK_OK the cost, the count, the length of the listing, the room for the sheets or their length, and otherwise 0.
- * line: with 13, 14 and 15 a line of the book that fails that question, counted from 1, and otherwise 0. */
+ * line: with 13, 14 and 15 the first line of the book that fails that question, counted from 1, and otherwise 0. */
 typedef struct {
     uint32_t code;
     uint32_t line;

@@ -46,14 +46,14 @@ def failing(book):
 
 
 def refusal(text):
-    """The number of the first question that fails, or 0; the lines that may be told with it; and the book, if it is accepted."""
-    if len(text) > LONGEST: return 11, [0], None
+    """The number of the first question that fails, or 0; the line that is told with it, the lowest of 02's request 3, or 0; and the book, if it is accepted."""
+    if len(text) > LONGEST: return 11, 0, None
     book = read(text)
-    if book is None: return 12, [0], None
+    if book is None: return 12, 0, None
     for question, lines in failing(book).items():
-        if lines: return question, lines, None
-    if len(book.entries) > 28: return 16, [0], None
-    return 0, [0], book
+        if lines: return question, min(lines), None
+    if len(book.entries) > 28: return 16, 0, None
+    return 0, 0, book
 
 
 def name(text, entry):

@@ -51,21 +51,21 @@ def ways_reader(book):
 
 
 def expected(entry, a):
-    """The answer to a call, the lent lists after it, and the lines that may be told."""
+    """The answer to a call, the lent lists after it, and the line told."""
     read, lent, _ = ENTRIES[entry]
     lent = [a[name] for name in lent]
     if entry in ("desk_name", "desk_name_refusal"):
         question, (start, end) = book_reader.name(a["book"], a["entry"])
-        return (start, end - start) if entry == "desk_name" else question, [], [0]
+        return (start, end - start) if entry == "desk_name" else question, [], 0
     reader = ways_reader(a["book"]) if "book" in a else network_reader(a["balances"], a["arcs"])
-    told = reader.told if "book" in a else [0]
-    if entry.endswith("count"): return reader.count(a["cap"]), [], told
-    if entry == "desk_listing": return *reader.listing(*lent), told
-    if entry == "desk_sheets_room": return reader.sheets_room(), [], told
-    if entry == "desk_sheets": return *reader.sheets(a["given"], *lent), told
-    if "given" not in a: return *reader.first(*lent), told
+    line = reader.line if "book" in a else 0
+    if entry.endswith("count"): return reader.count(a["cap"]), [], line
+    if entry == "desk_listing": return *reader.listing(*lent), line
+    if entry == "desk_sheets_room": return reader.sheets_room(), [], line
+    if entry == "desk_sheets": return *reader.sheets(a["given"], *lent), line
+    if "given" not in a: return *reader.first(*lent), line
     if a["given"] in reader.place: reader.finger = reader.place[a["given"]]
-    return *reader.next(a["given"], *lent), told
+    return *reader.next(a["given"], *lent), line
 
 
 class Surface:
@@ -88,6 +88,6 @@ class Surface:
         """Calls, compares, and gives the answer's number."""
         answer, after, line = self.call(entry, a, placed)
         wanted, kept, told = expected(entry, a)
-        assert (answer, after) == (wanted, kept) and line in told, "%s(%s) answered %r, line %d and %r, and not %r, line %r and %r" % (
+        assert (answer, after, line) == (wanted, kept, told), "%s(%s) answered %r, line %d and %r, and not %r, line %d and %r" % (
             entry, ", ".join("%s=%r" % x for x in a.items()), answer, line, after, wanted, told, kept)
         return answer[0] if isinstance(answer, tuple) else answer

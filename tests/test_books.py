@@ -1,20 +1,14 @@
 """The book's questions by desk_count and desk_first, and the names by desk_name and desk_name_refusal, beside the reader in book_reader.py. Deterministic."""
+import itertools
 import random
 import unittest
 
 import book_reader as reader
 import way_library
 from desk_library import MORE, NONE, OK
+from way_books import EXAMPLE, bad_lines, made, sized
 
-EXAMPLE = b"(book\n(players 2)\n(fee 6)\n(move 1 2 24 3)\n(move 2 1 24 3)\n(entry (name snare) 1 0 96)\n(entry (name xylo) 2 120 200)\n(entry (name snare2) 1 240 300)\n)\n"
 LENT = b"\x55" * 112                   # room for 28 entries
-
-
-def made(players=2, fee=6, moves=(), entries=()):
-    lines = [b"(book", b"(players %d)" % players, b"(fee %d)" % fee]
-    lines += [b"(move %d %d %d %d)" % m for m in moves]
-    lines += [b"(entry (name %s) %d %d %d)" % e for e in entries]
-    return b"\n".join(lines) + b"\n)\n"
 
 
 class Run:
@@ -37,12 +31,12 @@ class Run:
 
     def check(self, text, code=None, line=None):
         """The library's answer is the reader's, and that of the case where it states one."""
-        wanted, lines, _ = reader.refusal(text)
+        wanted, lowest, _ = reader.refusal(text)
         for got, told, accepted in self.asked(text, code is not None):
             if got in accepted: got = 0
             self.seen[got] = self.seen.get(got, 0) + 1
             self.expect("refusal of %r" % text[:200], got, wanted)
-            self.expect("line told of %r" % text[:200], told in lines, True)
+            self.expect("line told of %r" % text[:200], told, lowest)
             if code is not None: self.expect("stated refusal of %r" % text[:200], got, code)
             if line is not None: self.expect("stated line of %r" % text[:200], told, line)
 
@@ -95,14 +89,6 @@ def near_misses(run):
     for digits in (b"1000000", b"1000001", b"9999999"): run.check(EXAMPLE.replace(b"(fee 6)", b"(fee %s)" % digits), 0 if digits == b"1000000" else 13)
 
 
-def sized(size):
-    """A book of that many bytes that keeps the form, of moves."""
-    text, line = b"(book\n(players 2)\n(fee 6)\n", b"(move 1 2 3 4)\n"
-    while len(text) + 2 + 2 * len(line) <= size: text += line
-    pad = size - len(text) - 2 - len(line)
-    return text + b"(move 1 2 3 4)\n".replace(b"1 2 3 4", {0: b"1 2 3 4"}.get(pad, b"%d 2 %d %d" % (1, 3 * 10 ** min(pad, 6), 4 * 10 ** max(0, pad - 6)))) + b")\n"
-
-
 def sizes(run):
     for size, code in ((16384, 14), (16385, 11), (16386, 11), (20000, 11)):
         text = sized(size)
@@ -117,7 +103,7 @@ def sizes(run):
 
 
 def orders(run):
-    """Every refusal against every other: the lowest decides, and its line is one that fails that question."""
+    """Every refusal against every other: the lowest decides, and its line is the lowest that fails that question."""
     faults = {13: "players", 14: "moves", 15: "entries", 16: "count"}
     for mask in range(16):
         on = [q for k, q in enumerate(faults) if mask >> k & 1]
@@ -161,6 +147,19 @@ def orders(run):
     twice = made(entries=[(b"drum", 1, 0, 1), (b"drum", 2, 3, 4)])
     run.check(twice, 0)
     run.names(twice, (0, 1, 2, 3, 4294967295))
+
+
+def several(run):
+    """Several lines fail a question, in every order: the lowest is told."""
+    for question, line, text in bad_lines(): run.check(text, question, line)
+    # one set of lines in every order: which moves fail depends on the order
+    for moves in itertools.permutations([(1, 2, 0, 0), (1, 2, 5, 5), (3, 3, 0, 0), (3, 3, 0, 0), (17, 2, 0, 0), (17, 2, 1, 1)]): run.check(made(moves=moves))
+    entries = [(b"a", 1, 0, 1), (b"b", 1, 1, 1), (b"c", 2, 7, 8), (b"d", 17, 0, 1), (b"e", 1, 0, 1000001)]
+    for some in itertools.permutations(entries): run.check(made(moves=[(1, 2, 0, 0)], entries=some), 15, 5 + min(some.index(entries[k]) for k in (1, 3, 4)))
+    # beyond the 28th entry, and with 16 as well
+    for k in (28, 29, 300):
+        text = made(entries=[(b"a", 1, 0, 1)] * k + [(b"b", 1, 1, 1)] * 3)
+        run.check(text, 15, 4 + k)
 
 
 def random_book(rng):
@@ -216,6 +215,9 @@ class Books(unittest.TestCase):
 
     def test_orders(self):
         self.compare(orders, 1636, [0, 11, 12, 13, 14, 15, 16])
+
+    def test_several(self):
+        self.compare(several, 67960, [0, 13, 14, 15])
 
     def test_damaged(self):
         self.compare(damaged, 215090, [0, 12, 13, 14, 15, 16])

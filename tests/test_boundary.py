@@ -8,8 +8,7 @@ from desk_library import END, MORE, NONE, OK, Fenced, List, numbers
 from entries import CAP, ENTRIES, Surface, lists, network_reader, ways_reader
 from flow_networks import EXTREMES, small, wide
 from network_library import network
-from test_books import EXAMPLE, made
-from way_books import THOUSAND, refused
+from way_books import EXAMPLE, THOUSAND, made, refused
 from way_books import small as small_book
 
 ARCS = [(0, 1, 0, 2, 1), (0, 1, 0, 2, 1), (1, 2, 0, 1, 0), (2, 1, 0, 1, 0)]

@@ -1,4 +1,5 @@
 """The C programs of examples/c and the header: compiled without a warning, run on the example books, on refused ones and on trouble, also with the sanitizers and under valgrind."""
+import itertools
 import pathlib
 import re
 import shutil
@@ -12,7 +13,7 @@ import sheet_writer
 import trial
 from test_sheets import stored
 from test_way_trial import EXAMPLES, examples
-from way_books import refused
+from way_books import ENTRIES, MOVES, bad_lines, made, refused
 
 ROOT = desk_library.ROOT
 HEADER = ROOT / "include/desk.h"
@@ -95,7 +96,7 @@ class Programs:
             self.assertEqual(printed(run([self.list_ways, "-n", count], book)[1], book), (cost, ways, "256 in all"))
 
     def test_refused(self):
-        """A sentence for each refusal and, for 13 to 15, a line that fails."""
+        """A sentence for each refusal and, for 13 to 15, the lowest line that fails."""
         words, met = {11: "16384 bytes", 12: "form", 13: "players", 14: "move", 15: "entry", 16: "28 entries"}, set()
         for question, book in refused():
             for name, command in ("standard input", [self.list_ways]), ("/dev/stdin", [self.print_sheets, "/dev/stdin"]):
@@ -103,14 +104,17 @@ class Programs:
                 self.assertEqual((status, out), (NOT_LISTED, ""))
                 line, code, sentence = re.fullmatch(name + r"(?::(\d+))?: refused \((\d+)\): (.+)\n", complaint).groups()
                 self.assertEqual(int(code), question)
-                self.assertIn(int(line or 0), book_reader.refusal(book)[1])
+                self.assertEqual(int(line or 0), book_reader.refusal(book)[1])
                 self.assertIn(words[question], sentence)
             met.add(question)
         self.assertEqual(met, set(words))
 
     def test_refused_files(self):
-        for name, line in ("refused-12", ""), ("refused-13", ":2"), ("refused-14", ":6"), ("refused-15", ":9"), ("refused-16", ""):
-            self.refused_file(EXAMPLES / (name + ".book"), line, name[-2:])
+        for name, line, question in (("refused-12", "", 12), ("refused-13", ":2", 13), ("refused-14", ":6", 14), ("refused-15", ":9", 15), ("refused-16", "", 16),
+                                     ("several-bad-lines", ":5", 14)):
+            self.refused_file(EXAMPLES / (name + ".book"), line, question)
+        shown = run([self.list_ways, EXAMPLES / "several-bad-lines.book"])[2].removeprefix(str(ROOT) + "/")
+        self.assertIn("\n\n    %s\n" % shown, (ROOT / "examples/c/README.md").read_text())
         empty, long = self.folder / "empty", self.folder / "long"
         empty.write_bytes(b"")
         long.write_bytes((EXAMPLES / "document.book").read_bytes() * 1000)
@@ -122,6 +126,19 @@ class Programs:
             status, out, complaint = run([program, path])
             self.assertEqual((status, out), (NOT_LISTED, ""))
             self.assertTrue(complaint.startswith("%s%s: refused (%s): " % (path, line, question)), complaint)
+
+    def test_mended(self):
+        """A copyist mends each line that is told until the book is listed, and never goes up again."""
+        good, mended = made(8, 1000000, MOVES, ENTRIES).split(b"\n"), 0
+        for question, line, book in itertools.islice(bad_lines(), 0, None, 263):
+            lines, told = book.split(b"\n"), []
+            while (answer := run([self.list_ways, "-n", "1"], b"\n".join(lines)))[0] == NOT_LISTED:
+                told.append(int(re.match(r"standard input:(\d+): refused ", answer[2])[1]))
+                lines[told[-1] - 1] = good[told[-1] - 1]
+            self.assertEqual(answer[0], LISTED)
+            self.assertEqual((told[:1], told), ([line] if question else [], sorted(set(told))), book)
+            mended += len(told)
+        self.assertGreater(mended, 100)
 
     def test_trouble(self):
         """Wrong arguments, a file that is not there or cannot be read, output that cannot be written."""

@@ -51,6 +51,13 @@ class Documents(unittest.TestCase):
             for target in re.findall(r"\]\(([^)#:]+)\)", path.read_text()):
                 self.assertTrue((path.parent / target).exists(), f"{path.relative_to(ROOT)}: {target}")
 
+    def test_tables(self):
+        """A row stands beneath its table's head: nothing parts a table."""
+        for path in documents():
+            lines = ["", *path.read_text().split("\n")]
+            for k, (before, line) in enumerate(zip(lines, lines[1:]), 1):
+                if re.match(r" *\|", line) and not re.match(r" *\|", before): self.assertRegex(lines[k + 1], r"^ *\|[-|: ]+\|$", "%s:%d" % (path, k))
+
     def test_example(self):
         """The book that the rule shows is the stored one, with its listing and, where the rule shows them, sheets of it."""
         book, listing, *sheets = re.findall(r"^```\n(.*?)^```$", (ROOT / "docs/RULE.md").read_text(), re.M | re.S)

@@ -9,9 +9,8 @@ import sheet_writer
 import way_library
 import way_trial
 from desk_library import NONE, OK, ROOT, numbers
-from test_books import EXAMPLE, made
 from test_way_trial import EXAMPLES
-from way_books import MOST, THOUSAND, large, named, paired, refused, small
+from way_books import EXAMPLE, MOST, THOUSAND, large, made, named, paired, refused, small
 
 SHEET = re.compile(rb"\(part (\d+)\n((?:\(play .*\)\n\(gap .*\)\n)*\(play .*\)\n)\)\n")
 PLAY, GAP = re.compile(rb"\(play \(name ([a-z0-9]{1,16})\) (\d+) (\d+)\)"), re.compile(rb"\(gap (\d+)\)")
@@ -119,7 +118,7 @@ class Sheets(unittest.TestCase):
         self.assertEqual(self.desk.sheets_room(NO_WAY), (OK, 142))
         for question, book in refused():
             self.assertEqual(self.desk.sheets_room(book), (question, 0))
-            self.assertIn(self.desk.line, book_reader.refusal(book)[1])
+            self.assertEqual(self.desk.line, book_reader.refusal(book)[1])
 
     def test_short(self):
         """A list with less than 71 bytes an entry is refused, also one in which the sheets would fit; one with as many, or more, is not."""
@@ -206,7 +205,7 @@ class Sheets(unittest.TestCase):
         for question, book in refused():
             for given, text in itertools.product((b"", b"\0", numbers([0]), numbers([0] * 28)), (b"", b"\x55" * 70, b"\x55" * 1988)):
                 self.refused(book, given, text, question)
-                self.assertIn(self.desk.line, book_reader.refusal(book)[1])
+                self.assertEqual(self.desk.line, book_reader.refusal(book)[1])
         for given in (b"", b"\0" * 11, numbers([0, 0, 0]), numbers([0, 0, 2])):
             for room in (0, 212, 213): self.refused(EXAMPLE, given, b"\x55" * room, 18)
         self.refused(EXAMPLE, numbers([0, 0, 1]), b"\x55" * 212, 21)

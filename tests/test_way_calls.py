@@ -1,5 +1,6 @@
 """The book entries of the C surface beside the reader of way_trial.py: document 01's books, the stored examples, thousands of small books, the limits. Calls for
 sheets stand between the others. Deterministic."""
+import itertools
 import random
 import re
 import struct
@@ -11,10 +12,9 @@ import trial
 import way_library
 import way_trial
 from desk_library import END, MORE, NONE, OK, numbers
-from test_books import EXAMPLE, made, sized
 from test_network_calls import CAP, Session, caps
 from test_way_trial import examples
-from way_books import HALVES, MOST, THOUSAND, damaged, large, named, paired, refused, small
+from way_books import EXAMPLE, HALVES, MOST, THOUSAND, bad_lines, damaged, large, made, named, paired, refused, sized, small
 
 ONE = EXAMPLE.replace(b"(players 2)", b"(players 1)")
 LATE = (b"1 0 96)", b"1 0 97)")
@@ -117,14 +117,14 @@ class WayCalls(unittest.TestCase):
 
     def listed(self, book, listing):
         """The listing, as `ways` prints it, into lists that are shorter, as long and longer; without a way, and refused, nothing is written."""
-        size, lines = len(listing), book_reader.refusal(book)[1]
+        size, line = len(listing), book_reader.refusal(book)[1]
         if listing == b"(none)\n": answer, listing = (NONE, 0), b""
         elif listing.startswith(b"(refused "): answer, listing = (int(listing[9:-2]), 0), b""
         else: answer = (OK, size)
         for room in sorted({0, 1, size // 2, size - 1, size, size + 1, size + 30}):
             text = bytes((7 * k + 1) % 256 for k in range(room))
             self.assertEqual(self.desk.listing(book, text), (answer, [listing + text[len(listing):] if room >= size else text]))
-            self.assertIn(self.desk.line, lines)
+            self.assertEqual(self.desk.line, line)
 
     def test_documents(self):
         """The books of 01, and staying on one instrument."""
@@ -224,29 +224,35 @@ class WayCalls(unittest.TestCase):
             run.walk(0.8, 0.1, most=12)
 
     def refused_book(self, book, question=None):
-        """Every entry refuses with the question, whatever is lent and given, tells a line that fails it, and changes nothing."""
-        wanted, lines, _ = book_reader.refusal(book)
+        """Every entry refuses with the question, whatever is lent and given, tells the lowest line that fails it, and changes nothing."""
+        wanted, line, _ = book_reader.refusal(book)
         if question is not None: self.assertEqual(wanted, question)
         full = bytes(range(120))
         for lent in (full, b"", b"\x33"):
             for got in (self.desk.first(book, lent), self.desk.next(book, numbers([0] * 3), lent), self.desk.next(book, b"\x33" * 5, lent), self.desk.next(book, b"", lent)):
                 self.assertEqual(got, ((wanted, 0), [lent]), book)
-                self.assertIn(self.desk.line, lines, book)
+                self.assertEqual(self.desk.line, line, book)
         for cap in (0, 1, CAP):
             self.assertEqual(self.desk.count(book, cap), (wanted, 0), book)
-            self.assertIn(self.desk.line, lines, book)
+            self.assertEqual(self.desk.line, line, book)
         self.listed(book, b"(refused %d)\n" % wanted)
         for given in (b"", numbers([0] * 3), b"\x33" * 5):
             self.assertEqual(self.desk.sheets(book, given, full), ((wanted, 0), [full]), book)
-            self.assertIn(self.desk.line, lines, book)
+            self.assertEqual(self.desk.line, line, book)
         self.assertEqual(self.desk.sheets_room(book), (wanted, 0), book)
-        self.assertIn(self.desk.line, lines, book)
+        self.assertEqual(self.desk.line, line, book)
         for entry in (0, 1, 29, 2**32 - 1):
             self.assertEqual((self.desk.name(book, entry), self.desk.name_refusal(book, entry)), ((0, 0), wanted), book)
 
     def test_refused_books(self):
         for question, book in REFUSED:
             with self.subTest(question=question, book=book[:60]): self.refused_book(book, question)
+
+    def test_bad_lines(self):
+        """Several lines fail: every entry tells the lowest."""
+        for question, line, book in itertools.islice(bad_lines(), 0, None, 23):
+            self.assertEqual(book_reader.refusal(book)[:2], (question, line))
+            if question: self.refused_book(book, question)
 
     def test_damaged_books(self):
         """Damaged books: refused as the reader refuses, listed as the trial lists."""

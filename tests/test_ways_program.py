@@ -7,9 +7,8 @@ import unittest
 
 import way_library
 import way_trial
-from test_books import EXAMPLE, sized
 from test_way_trial import examples
-from way_books import THOUSAND, damaged, large, refused, small
+from way_books import EXAMPLE, THOUSAND, damaged, large, refused, sized, small
 
 PROGRAM = os.environ.get("WAYS_PROGRAM") or pathlib.Path(__file__).parents[1] / "target/bin/ways"     # WAYS_PROGRAM names another one to try
 

@@ -1,7 +1,23 @@
-"""Books to try: small random ones, larger ones, refused ones. Each is a function of the generator of random numbers."""
+"""Books to try: the example of 01, small random ones, larger ones, refused ones. Those at random are functions of the generator of random numbers."""
+import itertools
 import re
 
-from test_books import EXAMPLE, made
+EXAMPLE = b"(book\n(players 2)\n(fee 6)\n(move 1 2 24 3)\n(move 2 1 24 3)\n(entry (name snare) 1 0 96)\n(entry (name xylo) 2 120 200)\n(entry (name snare2) 1 240 300)\n)\n"
+
+
+def made(players=2, fee=6, moves=(), entries=()):
+    lines = [b"(book", b"(players %d)" % players, b"(fee %d)" % fee]
+    lines += [b"(move %d %d %d %d)" % m for m in moves]
+    lines += [b"(entry (name %s) %d %d %d)" % e for e in entries]
+    return b"\n".join(lines) + b"\n)\n"
+
+
+def sized(size):
+    """A book of that many bytes that keeps the form, of moves."""
+    text, line = b"(book\n(players 2)\n(fee 6)\n", b"(move 1 2 3 4)\n"
+    while len(text) + 2 + 2 * len(line) <= size: text += line
+    pad = size - len(text) - 2 - len(line)
+    return text + b"(move 1 2 3 4)\n".replace(b"1 2 3 4", {0: b"1 2 3 4"}.get(pad, b"%d 2 %d %d" % (1, 3 * 10 ** min(pad, 6), 4 * 10 ** max(0, pad - 6)))) + b")\n"
 
 
 def named(entries):
@@ -79,6 +95,26 @@ def refused():
     yield 15, made(1, 0, [], [(b"a", 1, 0, 1000001)])
     yield 16, made(1, 0, [], [entry] * 29)
     yield 16, made(8, 0, [(1, 2, 0, 0)], [(b"a", 1, j, j + 1) for j in range(300)])
+
+
+MOVES = [(1, 2, 0, 0), (2, 1, 5, 5), (3, 3, 0, 0), (16, 15, 1000000, 1000000)]
+ENTRIES = [(b"a", 1, 0, 1), (b"b", 2, 1, 2), (b"c", 16, 0, 1000000), (b"d", 3, 5, 6)]
+BAD_MOVES = [(0, 5, 0, 0), (17, 5, 0, 0), (5, 0, 0, 0), (5, 17, 0, 0), (5, 6, 1000001, 0), (5, 6, 0, 1000001), (17, 17, 0, 0)]
+BAD_ENTRIES = [(b"x", 0, 0, 1), (b"x", 17, 0, 1), (b"x", 1, 1, 1), (b"x", 1, 2, 1), (b"x", 1, 0, 1000001), (b"x", 17, 9, 9), (b"x", 1, 1000000, 1000001)]
+
+
+def bad_lines():
+    """Books whose lines fail and pass 13, 14 and 15 in every order, with the question and the line that is told; each fault at each line. The last is of a
+    pair that an earlier line has, whether that line passes or not."""
+    for players, fee, moves, entries in itertools.product((0, 1), (0, 1), range(16), range(16)):
+        question, line = next(((q, first + lines.index(1)) for q, first, lines in (
+            (13, 2, [players, fee]), (14, 4, [moves >> k & 1 for k in range(4)]), (15, 8, [entries >> k & 1 for k in range(4)])) if 1 in lines), (0, 0))
+        for turn in range(8):
+            ms, es = list(MOVES), list(ENTRIES)
+            for k in range(4):
+                if moves >> k & 1: ms[k] = BAD_MOVES[(turn + k) % 7] if turn < 7 or k == 0 else (*ms[k - 1][:2], 7, 7)
+                if entries >> k & 1: es[k] = BAD_ENTRIES[(turn + k) % 7]
+            yield question, line, made((9, 0)[turn % 2] if players else 8, 1000001 if fee else 1000000, ms, es)
 
 
 def damaged(rng):

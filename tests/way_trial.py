@@ -85,11 +85,11 @@ def flow_of(book, arcs, way):
 
 
 class Reader(trial.Reader):
-    """Document 01's reader with a finger on the full list of a book. `told` are the lines that a refusal may tell."""
+    """Document 01's reader with a finger on the full list of a book. `line` is the line told with a refusal, or 0."""
     SHORT, WRONG, NARROW = 17, 18, 21
 
     def __init__(self, text):
-        self.refused, self.told, book = book_reader.refusal(text)
+        self.refused, self.line, book = book_reader.refusal(text)
         self.source, self.book = text, book
         self.n, self.m = 0, len(book.entries) if book else 0
         self.everything = ways(book) if book else []

@@ -1,5 +1,6 @@
 pub mod Judging
-pub mod Told
+pub mod LineTold
 pub mod WithinLimits
 pub mod Names
 pub mod Example
+pub mod LineExamples

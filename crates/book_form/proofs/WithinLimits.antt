@@ -50,7 +50,7 @@ unfolding allPass
 within-limits s b e p =
     let q0 = asked (leb (length s) 16384) 10 (askForm (parse s)) e in
     let q : askBook b ≡ 0 = rw p at (q0 .1) in
-    let q1 = asked (allPass (header b)) 12 _ q in
+    let q1 = asked (allPass (header (b .players) (b .fee))) 12 _ q in
     let q2 = asked (allPass (moves [] (b .moves))) 13 _ (q1 .1) in
     let q3 = asked (allPass (entries (b .entries))) 14 _ (q2 .1) in
     let q4 = asked (leb (length (b .entries)) 28) 15 _ (q3 .1) in

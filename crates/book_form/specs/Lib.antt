@@ -1,6 +1,6 @@
 pub mod Book
 pub mod Questions
-pub mod Told
+pub mod LineTold
 pub mod WithinLimits
 pub mod Checked
 pub mod Steps

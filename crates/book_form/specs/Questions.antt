@@ -12,12 +12,12 @@ use Rattle.book_form.specs.declared.Answer.the-variants.{Accepted, TooLo
 use Rattle.book_form.specs.Book.{Book, parse}
 
 -- 13, put to the lines of the players and of the fee: "Is P 1 to 8 and the fee at most 1,000,000?"
-abbrev pub header : Book → List Bool
-header b = (leb 1 (b .players) && leb (b .players) 8) ∷ leb (b .fee) 1000000 ∷ []
+abbrev pub header : ℕ → ℕ → List Bool
+header players fee = (leb 1 players && leb players 8) ∷ leb fee 1000000 ∷ []
 
 abbrev pub askBook : Book → ℕ
 askBook b =
-    ask (allPass (header b)) 13
+    ask (allPass (header (b .players) (b .fee))) 13
     (ask (allPass (moves [] (b .moves))) 14
     (ask (allPass (entries (b .entries))) 15
     (ask (leb (length (b .entries)) 28) 16
@@ -43,11 +43,11 @@ questionOf (BadEntry k) = 15
 questionOf TooMany = 16
 
 -- the line that each answer carries, 0 if none
-abbrev pub lineTold : Answer → ℕ
-lineTold Accepted = 0
-lineTold TooLong = 0
-lineTold Malformed = 0
-lineTold (BadHeader k) = k
-lineTold (BadMove k) = k
-lineTold (BadEntry k) = k
-lineTold TooMany = 0
+abbrev pub lineOf : Answer → ℕ
+lineOf Accepted = 0
+lineOf TooLong = 0
+lineOf Malformed = 0
+lineOf (BadHeader k) = k
+lineOf (BadMove k) = k
+lineOf (BadEntry k) = k
+lineOf TooMany = 0

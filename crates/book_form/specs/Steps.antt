@@ -1,19 +1,19 @@
 -- What the judging promises: the answer and the checked book, from what the lines gave.
 use Prim.Native.Nat.{ℕ}
-use mathlib.Core.Bool.{cond, _&&_}
+use mathlib.Core.Bool.{cond}
 use lib.Dec.{eqb, leb}
 use Rattle.book_lines.specs.declared.moves.Moves.{Moves}
 use Rattle.book_lines.specs.declared.entries.Entries.{Entries}
-use Rattle.book_lines.specs.Passes.{firstBad}
+use Rattle.book_lines.specs.Questions.{firstBad}
 use Rattle.book_form.specs.declared.Opening.{Opening}
 use Rattle.book_form.specs.declared.CheckedBook.{CheckedBook}
 use Rattle.book_form.specs.declared.Checked.{Checked}
 use Rattle.book_form.specs.declared.Answer.{Answer}
 use Rattle.book_form.specs.declared.Answer.the-variants.{Accepted, BadHeader, BadMove, BadEntry, TooMany}
-use Rattle.book_form.specs.Questions.{questionOf}
+use Rattle.book_form.specs.Questions.{header, questionOf}
 use Rattle.book_form.specs.Checked.{noBook}
 
--- the answer, by the lines that fail 13, 14 and 15, or 0, and the count of entries
+-- the answer, by the first lines that fail 13, 14 and 15, or 0, and the count of entries
 abbrev pub answerOf : ℕ → ℕ → ℕ → ℕ → Answer
 answerOf header moves entries count =
     cond (eqb header 0)
@@ -24,9 +24,9 @@ answerOf header moves entries count =
     (BadMove moves))
     (BadHeader header)
 
--- the line that fails 13, or 0
+-- the first line that fails 13, or 0
 abbrev pub headerBad : Opening → ℕ
-headerBad o = firstBad (firstBad 0 (leb 1 (o .players) && leb (o .players) 8) 2) (leb (o .fee) 1000000) 3
+headerBad o = firstBad 2 (header (o .players) (o .fee))
 
 abbrev pub heldOf : Opening → Moves → Entries → CheckedBook
 heldOf o m e =

@@ -3,11 +3,11 @@ use book_lines::entries::Entries;
 use book_lines::moves::Moves;
 use book_lines::verdict::first_bad;
 ghost use mathlib.Core.Path.{_≡_};
-ghost use Rattle.book_form.specs.Questions.{questionOf, lineTold};
+ghost use Rattle.book_form.specs.Questions.{questionOf, lineOf};
 ghost use Rattle.book_form.specs.Checked.{noBook};
 ghost use Rattle.book_form.specs.Steps.{answerOf, headerBad, heldOf, judgedOf};
 
-// The first question that a book fails, and for 13 to 15 a line that fails it.
+// The first question that a book fails, and for 13 to 15 the first line that fails it.
 pub enum Answer {
     Accepted,
     TooLong,
@@ -56,7 +56,7 @@ pub fn question(answer: Answer) -> u32
 
 // The line that an answer tells of, 0 if none.
 pub fn line(answer: Answer) -> u32
-    ensures { λ r. ⌜ r ≡ lineTold answer ⌝ }
+    ensures { λ r. ⌜ r ≡ lineOf answer ⌝ }
 {
     match answer {
         Answer::Accepted => 0,
@@ -76,7 +76,7 @@ pub struct Opening {
     pub used: usize,
 }
 
-// The answer, from the lines that fail 13, 14 and 15, each 0 if none does, and the count of entries.
+// The answer, from the first lines that fail 13, 14 and 15, each 0 if none does, and the count of entries.
 fn answer_of(header: u32, moves: u32, entries: u32, count: usize) -> Answer
     ensures { λ r. ⌜ r ≡ answerOf header moves entries count ⌝ }
 {

@@ -12,14 +12,14 @@ use Rattle.book_lines.specs.declared.entries.EntryLine.{EntryLine}
 use Rattle.book_lines.specs.declared.entries.Columns.{Columns}
 use Rattle.text_read.specs.Reader.{fails, give}
 use Rattle.book_lines.specs.Lines.{Entry, entry}
-use Rattle.book_lines.specs.Questions.{fairEntry, entries}
+use Rattle.book_lines.specs.Questions.{fairEntry, entries, firstBad}
 use Rattle.book_lines.specs.Columns.{column}
-use Rattle.book_lines.specs.Passes.{firstBad, LinesVerdict, entryOf, noEntry, EntryRead, fairLine, putIn, columnsOf}
+use Rattle.book_lines.specs.Passes.{firstBadAfter, entryOf, noEntry, EntryRead, fairLine, putIn, columnsOf}
 use Rattle.laws.specs.Suffix.{take-rest}
 use Rattle.laws.specs.Snoc.{map-more}
 use Rattle.text_read.proofs.Runs.{absent}
 use Rattle.text_read.proofs.Sequence.{From, all-read, part}
-use Rattle.book_lines.proofs.Verdicts.{verdict-none, verdict-more}
+use Rattle.book_lines.proofs.FirstBad.{first-bad-more}
 
 -- The line of an entry.
 pub entry-absent : (s : List ℕ) (r : EntryLine) → entry s ≡ fails → r ≡ noEntry → EntryRead s r
@@ -51,23 +51,24 @@ column-more f es e v h q =
 pub record KnownEntries (first total : ℕ) (done : List Entry) (count line bad : ℕ) (columns : Columns) : Type 0 where
   pub count-is : count ≡ length done
   pub line-is : line ≡ first + length done
-  pub verdict : LinesVerdict first (entries done) bad
+  pub bad-is : bad ≡ firstBad first (entries done)
   pub columns-are : columns ≡ columnsOf total (take 28 done)
 
 pub known-entries-none : (first total : ℕ) → KnownEntries first total [] 0 first 0 (columnsOf total [])
+unfolding firstBad
 known-entries-none first total =
-    record { count-is = refl; line-is = omega arith; verdict = verdict-none first; columns-are = refl }
+    record { count-is = refl; line-is = omega arith; bad-is = refl; columns-are = refl }
 
 pub known-entries-more : (first total : ℕ) (done : List Entry) (count line bad : ℕ) (columns columns′ : Columns) (t : List ℕ) (r : EntryLine)
     → KnownEntries first total done count line bad columns → 1 ≤ first
     → (count < 28 → columns′ ≡ putIn columns count total r) → (28 ≤ count → columns′ ≡ columns)
     → EntryRead t r
-    → KnownEntries first total (done ++ (entryOf t r ∷ [])) (count + 1) (line + 1) (firstBad bad (fairLine r) line) columns′
+    → KnownEntries first total (done ++ (entryOf t r ∷ [])) (count + 1) (line + 1) (firstBadAfter bad (fairLine r) line) columns′
 known-entries-more first total done count line bad columns columns′ t r k f put keep e =
     record {
       count-is = omega (arith, k .count-is, longer);
       line-is = omega (arith, k .line-is, longer);
-      verdict = rw (map-more fairEntry done (entryOf t r)) (verdict-more (k .verdict) (fairLine r) (fairEntry (entryOf t r)) line (λ _. refl) (omega (arith, k .line-is, length-map done fairEntry)) (omega (arith, k .line-is)));
+      bad-is = first-bad-more first (entries done) (fairLine r) (fairEntry (entryOf t r)) f (k .bad-is) (omega (arith, k .line-is, length-map done fairEntry)) (λ _. refl) ∙ ap (firstBad first) (sym (map-more fairEntry done (entryOf t r)));
       columns-are = go (leb 28 count) refl;
     }
   where

@@ -1,5 +1,5 @@
 pub mod Table
-pub mod Verdicts
+pub mod FirstBad
 pub mod MovePass
 pub mod EntryPass
 pub mod EntryNames

@@ -1,7 +1,7 @@
 -- What the functions over lines promise: one line, and the passes over the moves and over the entries.
 use Prim.Native.Nat.{ℕ, _+_, _-_, _≤_}
 use mathlib.Core.Path.{_≡_}
-use mathlib.Core.Bool.{Bool, true, cond, _&&_}
+use mathlib.Core.Bool.{Bool, cond, _&&_}
 use mathlib.Core.List.{List, [], _∷_, _++_}
 use lib.ListN.{length, take, drop, getD, set}
 use lib.Dec.{eqb, leb, ltb}
@@ -12,17 +12,12 @@ use Rattle.book_lines.specs.declared.entries.EntryLine.{EntryLine}
 use Rattle.book_lines.specs.declared.entries.Columns.{Columns}
 use Rattle.book_lines.specs.declared.entries.Entries.{Entries}
 use Rattle.book_lines.specs.Lines.{move, Entry, entry}
-use Rattle.book_lines.specs.Questions.{fairMove, stands, moves, entries, allPass, FailsAt}
+use Rattle.book_lines.specs.Questions.{fairMove, stands, moves, entries, firstBad}
 use Rattle.book_lines.specs.Columns.{place, table, column}
 
--- the first line that failed, or 0
-abbrev pub firstBad : ℕ → Bool → ℕ → ℕ
-firstBad bad passes line = cond (eqb bad 0) (cond passes 0 line) bad
-
--- every line passes, or `bad` is one that fails
-pub record LinesVerdict (first : ℕ) (answers : List Bool) (bad : ℕ) : Type 0 where
-  pub passed : bad ≡ 0 → allPass answers ≡ true
-  pub failed : (bad ≡ 0 → ⊥) → FailsAt first answers bad
+-- the first bad line after one line more, which is line `line`: `bad` is that of the lines before it, or 0 (`first-bad-more`, proofs/FirstBad.antt)
+abbrev pub firstBadAfter : ℕ → Bool → ℕ → ℕ
+firstBadAfter bad passes line = cond passes bad (cond (eqb bad 0) line bad)
 
 -- the place of the pair of m in a table
 abbrev pub placeOf : Move → ℕ
@@ -50,7 +45,7 @@ pub record MovesRead (s : List ℕ) (r : Moves) : Type 0 where
   pub within : r .used ≤ length s
   pub few : length list ≤ r .used
   pub line : r .line ≡ 4 + length list
-  pub verdict : LinesVerdict 4 (moves [] list) (r .bad)
+  pub bad : r .bad ≡ firstBad 4 (moves [] list)
   pub ticks : r .ticks ≡ table (λ m. m .ticks + 1) (kept [] list)
   pub costs : r .costs ≡ table (λ m. m .cost) (kept [] list)
 
@@ -98,5 +93,5 @@ pub record EntriesRead (s : List ℕ) (first total : ℕ) (r : Entries) : Type 0
   pub is : many entry s ≡ reads list (drop (r .used) s)
   pub within : r .used ≤ length s
   pub count : r .count ≡ length list
-  pub verdict : LinesVerdict first (entries list) (r .bad)
+  pub bad : r .bad ≡ firstBad first (entries list)
   pub columns : r .columns ≡ columnsOf total (take 28 list)

@@ -1,5 +1,5 @@
 -- Questions 14 and 15. A question that is put to lines has an answer of each of them, in their order.
-use Prim.Native.Nat.{ℕ, _+_}
+use Prim.Native.Nat.{ℕ, _+_, _≤_}
 use mathlib.Core.Path.{_≡_}
 use mathlib.Core.Bool.{Bool, true, false, cond, _&&_}
 use mathlib.Core.Option.{Option, none, some}
@@ -43,7 +43,18 @@ unfoldable pub allPass : List Bool → Bool
 allPass [] = true
 allPass (a ∷ l) = a && allPass l
 
--- "13, 14 and 15 also carry the number of some line that fails": line k is one of those that gave these answers, the first of which is
--- line `first`, and it fails
+-- 02, request 3, "The first bad line": "the lowest line number that fails that question". Of the lines that gave these answers, the first of
+-- which is line `line`; 0 if none fails
+unfoldable pub firstBad : ℕ → List Bool → ℕ
+firstBad line [] = 0
+firstBad line (true ∷ answers) = firstBad (line + 1) answers
+firstBad line (false ∷ answers) = line
+
+-- line k is one of the lines from `first` on that gave these answers, and it fails
 abbrev pub FailsAt : ℕ → List Bool → ℕ → Type 0
 FailsAt first answers k = (n : ℕ) × (k ≡ first + n) × (getD answers n true ≡ false)
+
+-- it is the lowest that fails
+pub record LowestFailing (first : ℕ) (answers : List Bool) (k : ℕ) : Type 0 where
+  pub fails : FailsAt first answers k
+  pub lowest : (j : ℕ) → FailsAt first answers j → k ≤ j

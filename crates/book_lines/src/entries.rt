@@ -27,7 +27,7 @@ pub struct Columns {
     pub lengths: [usize; 28],
 }
 
-// The columns of the first 28 entries; `count` is how many entries there are, and `bad` a line that fails, or 0.
+// The columns of the first 28 entries; `count` is how many entries there are, and `bad` the first line that fails, or 0.
 pub struct Entries {
     pub columns: Columns,
     pub count: usize,

@@ -16,7 +16,7 @@ pub struct Move {
     pub cost: u32,
 }
 
-// The tables of the moves that may stand, and a line that fails, or 0; `line` is the line after the moves.
+// The tables of the moves that may stand, and the first line that fails, or 0; `line` is the line after the moves.
 pub struct Moves {
     pub ticks: [u32; 256],
     pub costs: [u32; 256],

@@ -1,16 +1,16 @@
 // A question that is put to lines: the first line that fails it, or 0.
 ghost use mathlib.Core.Path.{_≡_};
-ghost use Rattle.book_lines.specs.Passes.{firstBad};
+ghost use Rattle.book_lines.specs.Passes.{firstBadAfter};
 
-// `bad` where a line failed before, and else `line` if it does not pass.
+// With one line more: `bad` is the first line that failed before it, or 0.
 pub fn first_bad(bad: u32, passes: bool, line: u32) -> u32
-    ensures { λ r. ⌜ r ≡ firstBad bad passes line ⌝ }
+    ensures { λ r. ⌜ r ≡ firstBadAfter bad passes line ⌝ }
 {
-    if bad != 0 {
+    if passes {
         return bad;
     }
-    if passes {
-        return 0;
+    if bad == 0 {
+        return line;
     }
-    line
+    bad
 }

@@ -4,7 +4,6 @@ use mathlib.Core.Bool.{Bool, true, false}
 use mathlib.Core.List.{List}
 use mathlib.Core.Option.{Option, none, some}
 use Prim.Native.Nat.{ℕ, zero, suc}
-use native.Mathlib.Omega.{arith}
 use lib.IntN.{pos}
 use lib.ListN.{length}
 use Rattle.laws.specs.Tests.{ask}
@@ -28,18 +27,19 @@ use Rattle.way_enumerate.specs.declared.WayEnumerator.{WayEnumerator}
 use Rattle.way_network.proofs.Made.{held}
 use Rattle.call_reply.specs.declared.Reply.{Reply}
 use Rattle.call_way_bytes.specs.declared.AdmittedBook.{AdmittedBook}
-use Rattle.call_reply.specs.Replies.{orElse, sees, codeAlone, HandsItem, countReply, refusedAt}
+use Rattle.call_reply.specs.Replies.{orElse, sees, codeAlone, HandsItem, countReply, countUnless, refusedAt}
 use Rattle.call_reply.specs.ByteLists.{room, listed}
 use Rattle.call_book.specs.BookCalls.{BookCall, bookLent, bookQuestion, countWaysIn}
 use Rattle.call_book.specs.BookEntries.{BookCount}
 use Rattle.way_theory.specs.BookBytes.{waysIn, ways, entryCount, wayCostOrZero, wayCostIn}
-use Rattle.book_form.specs.Told.{Told}
+use Rattle.book_form.specs.LineTold.{lineTold}
 use Rattle.call_book.specs.BookRules.{bookRules}
 use Rattle.call_way_bytes.specs.WaySteps.{AdmitsBook, AdmitsWithRoom}
 use Rattle.call_way_bytes.proofs.Admitting.{Admitted}
-use Rattle.call_reply.proofs.Turns.{noItemWord, first-passed, all-passed, count-line}
+use Rattle.call_reply.proofs.Turns.{noItemWord, first-passed, all-passed}
+use Rattle.call_reply.proofs.Refusing.{refused-count}
 use Rattle.call_reply.proofs.Items.{after-given}
-use Rattle.book_form.proofs.Told.{untold}
+use Rattle.book_form.proofs.LineTold.{untold}
 use Rattle.call_book.proofs.BookRun.{full}
 
 -- past questions 11 to 17
@@ -55,7 +55,7 @@ module _ (s : List ℕ) where
   handed (first l) (some w) r l′ h = rw (h .reply-is) (record { number-is = refl; told-is = refl; cost-is = refl; lists-are = h .list-is })
   handed (next g l) (some w) r l′ h = rw (h .reply-is) (record { number-is = refl; told-is = refl; cost-is = refl; lists-are = h .list-is })
 
-  says : (c : BookCall) (r : Reply) (k t : ℕ) → bookQuestion s c ≡ suc k → r ≡ refusedAt (suc k) t → Told s (suc k) t → Answers (bookRules s) c (sees r (bookLent c))
+  says : (c : BookCall) (r : Reply) (k t : ℕ) → bookQuestion s c ≡ suc k → r ≡ refusedAt (suc k) t → t ≡ lineTold s (suc k) → Answers (bookRules s) c (sees r (bookLent c))
   says c r k t e q h = rw (e, q) (record { number-is = refl; told-is = h; cost-is = refl; lists-are = refl })
 
   -- a call that fails one of questions 11 to 17, or none
@@ -71,9 +71,9 @@ module _ (s : List ℕ) where
     fails c x l n q = go (bookRefusal s) (room (entryCount s) bytes) refl refl (h .number-is)
       where
         go : (k : ℕ) (t : Bool) → bookRefusal s ≡ k → room (entryCount s) bytes ≡ t → r .number ≡ orElse k (ask t 17 0) → Answers (bookRules s) c (sees x (bookLent c))
-        go (suc k) t e f g = says c x k (r .line) (rw e) (q ∙ ap (λ i. refusedAt i (r .line)) g) (subst (λ i. Told s i (r .line)) g (h .told))
+        go (suc k) t e f g = says c x k (r .line) (rw e) (q ∙ ap (λ i. refusedAt i (r .line)) g) (h .line-is ∙ ap (lineTold s) g)
         go zero true e f g = absurd (n g)
-        go zero false e f g = says c x 16 (r .line) (rw (e, l, f)) (q ∙ ap (λ i. refusedAt i (r .line)) g) (subst (λ i. Told s i (r .line)) g (h .told))
+        go zero false e f g = says c x 16 (r .line) (rw (e, l, f)) (q ∙ ap (λ i. refusedAt i (r .line)) g) (h .line-is ∙ ap (lineTold s) g)
 
   -- past them
   module _ (bytes : ℕ) (c : CheckedBook) (h : Past s bytes c) where
@@ -100,7 +100,7 @@ module _ (s : List ℕ) where
       pub fails-given : (g : List ℕ) (r : Reply) → listed g (fullWays (h .admitted .book)) ≡ false → r ≡ codeAlone 18 → Answers (bookRules s) (next g l) (sees r l)
       fails-given g r e q =
           says (next g l) r 17 0 (rw (h .admitted .ok, fits, ap (λ x. listed g (waysIn x)) (h .admitted .is) ∙ e)) q
-          (untold 18 (λ e. omega arith) (λ e. omega arith) (λ e. omega arith) s)
+          (sym (untold s 18 (λ b. refl)))
 
       pub answers-next : (g : List ℕ) (o : Option (List ℕ)) → listed g (fullWays (h .admitted .book)) ≡ true → o ≡ nextWay (h .admitted .book) (words g) → (r : Reply) (l′ : List ℕ)
           → HandsItem (λ w. pos (wayCost (h .admitted .book) w)) o 101 l r l′ → Answers (bookRules s) (next g l) (sees r l′)
@@ -113,19 +113,9 @@ module _ (s : List ℕ) where
 
   -- counting
   pub counts-refused : (r : AdmittedBook) → AdmitsBook s r → (cap : ℕ) (x : Reply) → ¬ (r .number ≡ 0) → x ≡ refusedAt (r .number) (r .line) → BookCount s cap x
-  counts-refused r h cap x n q = go (r .number) refl
-    where
-      go : (k : ℕ) → r .number ≡ k → BookCount s cap x
-      go zero e = absurd (n e)
-      go (suc k) e =
-          let no : bookRefusal s ≡ suc k = sym (h .number-is) ∙ e in
-          record { code-is = rw (no, q) e; value-is = rw (no, q); told = rw q (subst (λ i. Told s i (r .line)) (h .number-is) (h .told)) }
+  counts-refused r h cap x n q =
+      let count = countWaysIn s cap in
+      q ∙ refused-count (r .number) (r .line) count n ∙ ap (λ l. countUnless (r .number) l count) (h .line-is) ∙ ap (λ k. countUnless k (lineTold s k) count) (h .number-is)
 
   pub counts : bookRefusal s ≡ 0 → (b : Book) → parse s ≡ some b → (cap n : ℕ) → counted cap n ≡ countWays b cap → (r : Reply) → r ≡ countReply (counted cap n) → BookCount s cap r
-  counts ok b p cap n is r q =
-      let e : r ≡ countReply (countWaysIn s cap) = q ∙ ap countReply (is ∙ ap (λ x. counted cap (length (waysIn x))) (sym p)) in
-      record {
-        code-is = rw ok (ap (λ (x : Reply). x .code) e);
-        value-is = rw ok (ap (λ (x : Reply). x .value) e);
-        told = rw (ok, e, count-line 0 (countWaysIn s cap)) (untold 0 (λ e. omega arith) (λ e. omega arith) (λ e. omega arith) s);
-      }
+  counts ok b p cap n is r q = rw ok (q ∙ ap countReply (is ∙ ap (λ x. counted cap (length (waysIn x))) (sym p)))

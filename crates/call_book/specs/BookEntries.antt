@@ -8,7 +8,7 @@ use Rattle.laws.specs.Run.{Answers}
 use Rattle.book_form.specs.Questions.{bookRefusal}
 use Rattle.call_reply.specs.declared.Reply.{Reply}
 use Rattle.call_reply.specs.Replies.{sees, countUnless}
-use Rattle.book_form.specs.Told.{Told}
+use Rattle.book_form.specs.LineTold.{lineTold}
 use Rattle.call_book.specs.BookCalls.{countWaysIn}
 use Rattle.call_book.specs.BookRules.{bookRules}
 
@@ -21,7 +21,5 @@ abbrev pub BookNext : (s g l : List ℕ) → Reply → List ℕ → Type 0
 BookNext s g l r l′ = Answers (bookRules s) (next g l) (sees r l′)
 
 -- how many ways there are, up to the cap
-pub record BookCount (s : List ℕ) (cap : ℕ) (r : Reply) : Type 0 where
-  pub code-is : r .code ≡ countUnless (bookRefusal s) (countWaysIn s cap) .code
-  pub value-is : r .value ≡ countUnless (bookRefusal s) (countWaysIn s cap) .value
-  pub told : Told s (bookRefusal s) (r .line)
+abbrev pub BookCount : (s : List ℕ) → ℕ → Reply → Type 0
+BookCount s cap r = r ≡ countUnless (bookRefusal s) (lineTold s (bookRefusal s)) (countWaysIn s cap)

@@ -8,7 +8,7 @@ use Rattle.laws.specs.Equality.{same-list}
 use Rattle.laws.specs.Rules.{Rules}
 use Rattle.bytes_read.specs.Words.{encodeWords}
 use Rattle.book_form.specs.Questions.{bookRefusal}
-use Rattle.book_form.specs.Told.{Told}
+use Rattle.book_form.specs.LineTold.{lineTold}
 use Rattle.way_theory.specs.BookBytes.{ways, entryCount, wayCostIn}
 use Rattle.call_reply.specs.ByteLists.{room}
 use Rattle.call_book.specs.BookCalls.{bookLent, bookQuestion, WroteWay}
@@ -21,8 +21,8 @@ bookRules s = record {
   question = bookQuestion s;
   -- "A book is accepted if it passes 11 to 16"; the lent list passes 17
   Admits = λ c. (bookRefusal s ≡ 0) × (room (entryCount s) (length (bookLent c)) ≡ true);
-  -- "13, 14 and 15 also carry the number of some line that fails"
-  TellsLine = Told s;
+  -- 02, request 3: "Refusals 13, 14 and 15 now carry the lowest line number that fails that question."
+  line-told = lineTold s;
   -- "The cost is fee × openings plus the joins."
   cost = wayCostIn s;
   lent = bookLent;

@@ -1,5 +1,5 @@
 -- From the text that is written to what the functions ensure.
-use mathlib.Core.Path.{_≡_, refl, sym, ap, subst, _∙_}
+use mathlib.Core.Path.{_≡_, refl, sym, ap, _∙_}
 use mathlib.Core.Bool.{Bool, true, false}
 use mathlib.Core.List.{List, [], _∷_}
 use mathlib.Core.Option.{Option, none, some}
@@ -21,10 +21,11 @@ use Rattle.way_theory.specs.Ways.{wayCost}
 use Rattle.way_theory.specs.FullWays.{fullWays, firstWay}
 use Rattle.way_list.specs.WayListing.{listWays, waysText}
 use Rattle.call_reply.specs.declared.Reply.{Reply}
-use Rattle.call_reply.specs.Replies.{refusedAt}
+use Rattle.call_reply.specs.Replies.{refusedAt, valueReply}
 use Rattle.call_reply.proofs.Turns.{first-passed}
-use Rattle.book_form.specs.Told.{Told}
-use Rattle.book_form.proofs.Told.{untold}
+use Rattle.call_reply.proofs.Refusing.{if-not, refused-value}
+use Rattle.book_form.specs.LineTold.{lineTold}
+use Rattle.book_form.proofs.LineTold.{untold}
 use Rattle.call_way_bytes.specs.WaySteps.{AdmitsBook}
 use Rattle.call_way_bytes.specs.declared.AdmittedBook.{AdmittedBook}
 use Rattle.call_listing.specs.declared.Written.{Written}
@@ -38,7 +39,7 @@ ask-few false q r h k = h
 form-few : (o : Option Book) → askForm o < 100
 form-few none = omega arith
 form-few (some b) =
-    ask-few (allPass (header b)) 13 _ (omega arith)
+    ask-few (allPass (header (b .players) (b .fee))) 13 _ (omega arith)
     (ask-few (allPass (moves [] (b .moves))) 14 _ (omega arith)
     (ask-few (allPass (entries (b .entries))) 15 _ (omega arith) (ask-few (leb (length (b .entries)) 28) 16 0 (omega arith) (omega arith))))
 
@@ -54,8 +55,8 @@ some-code [] w e = absurd (none-some w e)
 some-code (v ∷ l) w e = refl
 
 -- an accepted book tells no line
-accepted-untold : (s : List ℕ) → bookRefusal s ≡ 0 → Told s (bookRefusal s) 0
-accepted-untold s ok = rw ok (untold 0 (λ e. omega arith) (λ e. omega arith) (λ e. omega arith) s)
+accepted-untold : (s : List ℕ) → bookRefusal s ≡ 0 → 0 ≡ lineTold s (bookRefusal s)
+accepted-untold s ok = rw ok (sym (untold s 0 (λ b. refl)))
 
 -- what is written
 module _ (s before after : List ℕ) (n : ℕ) where
@@ -67,14 +68,14 @@ module _ (s before after : List ℕ) (n : ℕ) where
       go zero e = absurd (f e)
       go (suc k) e =
           let q : bookRefusal s ≡ suc k = sym (h .number-is) ∙ e in
-          record { text = rw q (rw e at a); code-is = rw q e; told = subst (λ i. Told s i (r .line)) (h .number-is) (h .told) }
+          record { text = rw q (rw e at a); code-is = rw q e; line-is = h .line-is ∙ ap (lineTold s) (h .number-is) }
 
   module _ (ok : bookRefusal s ≡ 0) (b : Book) (is : parse s ≡ some b) where
     pub writes-none : firstWay b ≡ none → Appended before 0 noneLine after n → WritesListing s before (record { len = n; code = 100; line = 0 }) after
-    writes-none e a = let (k, t) = no-text (wayCost b) (fullWays b) e in record { text = rw (ok, is, t) a; code-is = rw (ok, is, k); told = accepted-untold s ok }
+    writes-none e a = let (k, t) = no-text (wayCost b) (fullWays b) e in record { text = rw (ok, is, t) a; code-is = rw (ok, is, k); line-is = accepted-untold s ok }
 
     pub writes-ways : (w : List ℕ) → firstWay b ≡ some w → Appended before 0 (waysText b) after n → WritesListing s before (record { len = n; code = 0; line = 0 }) after
-    writes-ways w e a = record { text = rw (ok, is) a; code-is = rw (ok, is, some-code (fullWays b) w e); told = accepted-untold s ok }
+    writes-ways w e a = record { text = rw (ok, is) a; code-is = rw (ok, is, some-code (fullWays b) w e); line-is = accepted-untold s ok }
 
 -- what is handed over of it
 module _ (s room room′ : List ℕ) (large : 98304 ≡ length room) (w : Written) (h : WritesListing s room w room′) where
@@ -95,19 +96,19 @@ module _ (s room room′ : List ℕ) (large : 98304 ≡ length room) (w : Writte
     prints after e = record { long = long; few = few; text = e ∙ ap (λ v. fit v before) taken }
 
     pub lists-nothing : (r : Reply) → ¬ (w .code ≡ 0) → r ≡ refusedAt (w .code) (w .line) → BookListing s before r before
-    lists-nothing r f q = go (listingCode s) refl
-      where
-        go : (k : ℕ) → listingCode s ≡ k → BookListing s before r before
-        go zero e = absurd (f (h .code-is ∙ e))
-        go (suc k) e = record { code-is = ap (λ (x : Reply). x .code) q ∙ h .code-is; value-is = rw (q, e); told = rw q (h .told); text-is = rw e; few = omega (arith, few, long) }
+    lists-nothing r f q =
+        let k : ¬ (listingCode s ≡ 0) = λ e. f (h .code-is ∙ e) in
+        record {
+          reply-is = q ∙ rw (h .code-is, h .line-is) (refused-value (listingCode s) _ (length (listing s)) k);
+          text-is = sym (if-not (listingCode s) _ before k);
+          few = omega (arith, few, long);
+        }
 
     pub lists : (after : List ℕ) → w .code ≡ 0 → after ≡ fit (take (w .len) room′) before → BookListing s before (record { code = 0; line = 0; value = pos (w .len) }) after
     lists after z e =
         let o : listingCode s ≡ 0 = sym (h .code-is) ∙ z in
         record {
-          code-is = sym o;
-          value-is = rw o (ap pos long);
-          told = accepted-untold s (first-passed (bookRefusal s) _ o);
+          reply-is = rw (o, ← accepted-untold s (first-passed (bookRefusal s) _ o)) (ap (valueReply 0 0) long);
           text-is = rw o (e ∙ ap (λ v. fit v before) taken);
           few = omega (arith, few, long);
         }

@@ -3,7 +3,6 @@ use mathlib.Core.Path.{_≡_}
 use mathlib.Core.List.{List, [], _∷_}
 use Prim.Native.Nat.{ℕ, zero, suc, _≤_}
 use lib.ListN.{length}
-use lib.IntN.{pos}
 use Rattle.book_form.specs.Book.{parse}
 use Rattle.book_form.specs.Questions.{bookRefusal}
 use Rattle.laws.specs.Appended.{Appended}
@@ -12,8 +11,8 @@ use Rattle.text_write.specs.Fit.{fit}
 use Rattle.way_list.specs.WayListing.{listWays}
 use Rattle.way_theory.specs.BookBytes.{ways, wayCostOrZero}
 use Rattle.call_reply.specs.declared.Reply.{Reply}
-use Rattle.call_reply.specs.Replies.{orElse, ifOk}
-use Rattle.book_form.specs.Told.{Told}
+use Rattle.call_reply.specs.Replies.{orElse, ifOk, valueReply}
+use Rattle.book_form.specs.LineTold.{lineTold}
 use Rattle.call_listing.specs.declared.Written.{Written}
 
 -- "for a refusal `(refused R)`"
@@ -41,9 +40,7 @@ listingCode s = orElse (bookRefusal s) (noneCode (ways s))
 
 -- a call of the listing: the reply, and the lent list at exit
 pub record BookListing (s before : List ℕ) (r : Reply) (after : List ℕ) : Type 0 where
-  pub code-is : r .code ≡ listingCode s
-  pub value-is : r .value ≡ pos (ifOk (listingCode s) (length (listing s)) 0)
-  pub told : Told s (bookRefusal s) (r .line)
+  pub reply-is : r ≡ valueReply (listingCode s) (lineTold s (bookRefusal s)) (length (listing s))
   pub text-is : after ≡ ifOk (listingCode s) (fit (listing s) before) before
   pub few : length (listing s) ≤ 98304
 
@@ -51,4 +48,4 @@ pub record BookListing (s before : List ℕ) (r : Reply) (after : List ℕ) : Ty
 pub record WritesListing (s before : List ℕ) (w : Written) (after : List ℕ) : Type 0 where
   pub text : Appended before 0 (listing s) after (w .len)
   pub code-is : w .code ≡ listingCode s
-  pub told : Told s (bookRefusal s) (w .line)
+  pub line-is : w .line ≡ lineTold s (bookRefusal s)

@@ -28,6 +28,7 @@ use Rattle.call_network.specs.NetworkRules.{networkRules}
 use Rattle.call_flow_bytes.specs.NetworkBytes.{net}
 use Rattle.call_flow_bytes.specs.FlowSteps.{StandsFor, AdmitsNetwork, PricesOut}
 use Rattle.call_reply.proofs.Turns.{noItemWord, all-passed}
+use Rattle.call_reply.proofs.Refusing.{refused-count}
 use Rattle.call_reply.proofs.Items.{after-given}
 use Rattle.call_flow_bytes.proofs.FlowItems.{full-flows}
 use Rattle.call_flow_bytes.proofs.Admitting.{room-is}
@@ -103,10 +104,9 @@ module _ (bs xs : List ℕ) where
           (handed (next g fs) o r fs′ none (subst (λ M. HandsItem (costOf M) o 101 fs r fs′) same h) (unpriced (net bs xs) o))
 
 -- counting
-pub counts-refused : (bs xs : List ℕ) (v : Checked) (k : ℕ) (n : Count) (r : Reply) → ChecksNetwork bs xs v → k ≡ numberOf (v .verdict) → ¬ (k ≡ 0) → r ≡ codeAlone k → r ≡ countUnless (networkRefusal bs xs) n
-counts-refused bs xs v zero n r h e z q = absurd (z refl)
-counts-refused bs xs v (suc k) n r h e z q = rw (sym (h .number) ∙ sym e) q
+pub counts-refused : (bs xs : List ℕ) (v : Checked) (k : ℕ) (n : Count) (r : Reply) → ChecksNetwork bs xs v → k ≡ numberOf (v .verdict) → ¬ (k ≡ 0) → r ≡ codeAlone k → r ≡ countUnless (networkRefusal bs xs) 0 n
+counts-refused bs xs v k n r h e z q = q ∙ refused-count k 0 n z ∙ ap (λ i. countUnless i 0 n) (e ∙ h .number)
 
 pub counts : (bs xs : List ℕ) (s : Network) → StandsFor bs xs s → (cap n : ℕ) → counted cap n ≡ countFlows (netIn s) cap
-    → countReply (counted cap n) ≡ countUnless (networkRefusal bs xs) (countFlows (net bs xs) cap)
+    → countReply (counted cap n) ≡ countUnless (networkRefusal bs xs) 0 (countFlows (net bs xs) cap)
 counts bs xs s stands cap n is = rw (stands .ok) (ap countReply (is ∙ ap (λ M. countFlows M cap) (stands .is)))

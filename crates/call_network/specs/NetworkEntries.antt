@@ -28,4 +28,4 @@ NetworkNext bs xs g fs r fs′ = Answers (networkRules bs xs) (next g fs) (sees 
 
 -- how many flows there are, up to the cap
 abbrev pub NetworkCount : (bs xs : List ℕ) → ℕ → Reply → Type 0
-NetworkCount bs xs cap r = r ≡ countUnless (networkRefusal bs xs) (countFlows (net bs xs) cap)
+NetworkCount bs xs cap r = r ≡ countUnless (networkRefusal bs xs) 0 (countFlows (net bs xs) cap)

@@ -13,9 +13,9 @@ use Rattle.net_questions.specs.Questions.{networkRefusal}
 use Rattle.call_flow_bytes.specs.NetworkBytes.{net}
 use Rattle.call_network.specs.NetworkCalls.{Lent, networkLent, roomFor, networkQuestion, WroteFlow}
 
--- "13, 14 and 15 also carry the number of some line that fails": the questions of a network tell none
-abbrev pub NoLine : ℕ → ℕ → Type 0
-NoLine n l = l ≡ 0
+-- 02, request 3: "Refusals 13, 14 and 15 now carry the lowest line number that fails": the questions of a network carry none
+abbrev pub noLine : ℕ → ℕ
+noLine question = 0
 
 abbrev pub networkRules : List ℕ → List ℕ → Rules (List ℕ) Lent (List ℕ) (List ℕ) Lent
 networkRules bs xs = record {
@@ -25,7 +25,7 @@ networkRules bs xs = record {
   question = networkQuestion bs xs;
   -- "A network is accepted if it passes 1 to 6"; the lent lists pass 7
   Admits = λ c. (networkRefusal bs xs ≡ 0) × (roomFor (net bs xs) (networkLent c) ≡ true);
-  TellsLine = NoLine;
+  line-told = noLine;
   -- "Its cost is the sum of c × f."
   cost = costOf (net bs xs);
   lent = networkLent;

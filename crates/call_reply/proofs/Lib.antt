@@ -3,3 +3,4 @@ pub mod Turns
 pub mod Places
 pub mod Room
 pub mod Given
+pub mod Refusing

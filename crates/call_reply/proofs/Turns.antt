@@ -8,11 +8,10 @@ use Prim.Native.Nat.{ℕ, zero, suc}
 use native.Mathlib.Omega.{arith}
 use lib.ListN.{getElem?}
 use Rattle.laws.specs.Tests.{ask}
-use Rattle.laws.specs.Count.{Count, exactly, more}
 use Rattle.bytes_read.specs.Words.{encodeWords}
 use Rattle.laws.specs.Rules.{Call, first, next}
 use Rattle.laws.specs.Seen.{Reading, nothing, end}
-use Rattle.call_reply.specs.Replies.{orElse, countUnless}
+use Rattle.call_reply.specs.Replies.{orElse}
 use Rattle.call_reply.specs.ByteLists.{listed}
 use Rattle.call_reply.proofs.Items.{not-listed}
 
@@ -33,12 +32,6 @@ all-passed (suc n) q b e = absurd (omega arith)
 pub fails-first : (n k r : ℕ) → r ≡ n → ¬ (r ≡ 0) → r ≡ orElse n k
 fails-first zero k r e h = absurd (h e)
 fails-first (suc n) k r e h = e
-
--- a count tells no line
-pub count-line : (n : ℕ) (k : Count) → countUnless n k .line ≡ 0
-count-line zero (exactly m) = refl
-count-line zero more = refl
-count-line (suc n) k = refl
 
 -- the word where there is no item
 abbrev pub noItemWord : {F G N : Type 0} → Call F G N → Reading (List ℕ)

@@ -31,7 +31,7 @@ sees r l = record { number = r .code; told = r .line; cost = r .value; lists = l
 abbrev pub codeAlone : ℕ → Reply
 codeAlone k = record { code = k; line = 0; value = pos 0 }
 
--- the same, but for the line of a book that fails
+-- the same, but for the line told
 abbrev pub refusedAt : ℕ → ℕ → Reply
 refusedAt k l = record { code = k; line = l; value = pos 0 }
 
@@ -61,7 +61,11 @@ abbrev pub countReply : Count → Reply
 countReply (exactly n) = record { code = 0; line = 0; value = pos n }
 countReply more = codeAlone 102
 
--- the reply of counting: k is the number of the question failed, or 0
-abbrev pub countUnless : ℕ → Count → Reply
-countUnless zero n = countReply n
-countUnless (suc k) n = codeAlone (suc k)
+-- the reply of counting: k is the number of the question failed, or 0, and l the line told with it
+abbrev pub countUnless : ℕ → ℕ → Count → Reply
+countUnless zero l n = countReply n
+countUnless (suc k) l n = refusedAt (suc k) l
+
+-- the reply with the code k and the line l: the value is n with the code 0
+abbrev pub valueReply : ℕ → ℕ → ℕ → Reply
+valueReply k l n = record { code = k; line = l; value = pos (ifOk k n 0) }

@@ -9,7 +9,7 @@ ghost use Rattle.call_reply.specs.ByteLists.{room};
 use flow_enumerate::Place;
 
 // code: 0 with an item or a count, 100 "none", 101 "end", 102 "more", any other the number of the question failed.
-// line: the line of a book that fails the question. value: the cost or the count.
+// line: the first line of a book that fails the question, with 13, 14 and 15. value: the cost or the count.
 #[repr(C)]
 pub struct Reply {
     pub code: u32,

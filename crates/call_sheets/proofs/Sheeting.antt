@@ -1,8 +1,8 @@
 -- From the steps of the calls of the part sheets to what they ensure.
 use mathlib.Core.Path.{_≡_, refl, sym, ap, subst, _∙_}
 use mathlib.Core.Bool.{true, false}
-use mathlib.Core.List.{List}
-use Prim.Native.Nat.{ℕ, zero, suc, _*_, _≤_, _<_}
+use mathlib.Core.List.{List, []}
+use Prim.Native.Nat.{ℕ, suc, _*_, _≤_, _<_}
 use native.Mathlib.Omega.{arith}
 use lib.IntN.{pos}
 use lib.ListN.{length, take}
@@ -11,11 +11,12 @@ use borrow.Author.Tests.{le-leb, lt-leb}
 use Rattle.laws.specs.Tests.{ask}
 use Rattle.laws.specs.Padded.{padded}
 use Rattle.bytes_read.specs.Words.{words, over}
+use Rattle.book_form.specs.Book.{Book}
 use Rattle.book_form.specs.Questions.{bookRefusal}
 use Rattle.book_form.specs.Checked.{checkedOf, entriesOf}
-use Rattle.book_form.specs.Told.{Told}
+use Rattle.book_form.specs.LineTold.{linesAsked, lineTold}
 use Rattle.book_form.specs.declared.CheckedBook.{CheckedBook}
-use Rattle.book_form.proofs.Told.{untold}
+use Rattle.book_form.proofs.LineTold.{untold}
 use Rattle.way_theory.specs.Follow.{size}
 use Rattle.way_theory.specs.Ways.{LeastCostWay}
 use Rattle.way_theory.specs.FullWays.{fullWays}
@@ -25,8 +26,10 @@ use Rattle.way_sheets.specs.Sheets.{sheets}
 use Rattle.way_sheets.specs.Writing.{HasSheets, WritesSheets}
 use Rattle.way_sheets.proofs.Sizes.{sheets-size}
 use Rattle.call_reply.specs.declared.Reply.{Reply}
-use Rattle.call_reply.specs.Replies.{codeAlone, refusedAt}
+use Rattle.call_reply.specs.Replies.{codeAlone, refusedAt, valueReply}
 use Rattle.call_reply.specs.ByteLists.{listed}
+use Rattle.call_reply.proofs.Turns.{fails-first}
+use Rattle.call_reply.proofs.Refusing.{if-not, refused-value}
 use Rattle.call_way_bytes.specs.WaySteps.{AdmitsBook}
 use Rattle.call_way_bytes.specs.declared.AdmittedBook.{AdmittedBook}
 use Rattle.call_way_bytes.proofs.Admitting.{Admitted, admitted}
@@ -36,27 +39,21 @@ use Rattle.call_sheets.specs.SheetCalls.{roomOf, BookSheetsRoom, sheetsQ
 
 -- a call that fails one of questions 11 to 16
 module _ (s : List ℕ) (r : AdmittedBook) (h : AdmitsBook s r) (n : ¬ (r .number ≡ 0)) (x : Reply) (q : x ≡ refusedAt (r .number) (r .line)) where
-  told-line : Told s (x .code) (x .line)
-  told-line = rw q (h .told)
+  -- whatever questions are put after them, and whatever the value would be
+  refused-with : (k v : ℕ) → r .number ≡ k → x ≡ valueReply k (lineTold s k) v
+  refused-with k v e = q ∙ refused-value (r .number) (r .line) v n ∙ ap (λ l. valueReply (r .number) l v) (h .line-is) ∙ ap (λ i. valueReply i (lineTold s i) v) e
 
   pub room-refused : BookSheetsRoom s x
-  room-refused = go (r .number) refl
-    where
-      go : (k : ℕ) → r .number ≡ k → BookSheetsRoom s x
-      go zero e = absurd (n e)
-      go (suc k) e =
-          let no : bookRefusal s ≡ suc k = sym (h .number-is) ∙ e in
-          record { code-is = ap (λ (y : Reply). y .code) q ∙ h .number-is; value-is = rw (no, q); told = rw q (subst (λ i. Told s i (r .line)) (h .number-is) (h .told)) }
+  room-refused = refused-with (bookRefusal s) _ (h .number-is)
 
   pub sheets-refused : (g l : List ℕ) → BookSheets s g l x l
-  sheets-refused g l = go (r .number) refl
-    where
-      go : (k : ℕ) → r .number ≡ k → BookSheets s g l x l
-      go zero e = absurd (n e)
-      go (suc k) e =
-          let no : bookRefusal s ≡ suc k = sym (h .number-is) ∙ e in
-          let code : x .code ≡ suc k = ap (λ (y : Reply). y .code) q ∙ e in
-          record { code-is = rw no code; value-is = rw (code, ap (λ (y : Reply). y .value) q); told = told-line; text-is = rw code }
+  sheets-refused g l =
+      let e : r .number ≡ sheetsQuestion s g (length l) = fails-first (bookRefusal s) _ (r .number) (h .number-is) n in
+      record { reply-is = refused-with (sheetsQuestion s g (length l)) _ e; text-is = sym (if-not (sheetsQuestion s g (length l)) _ l (λ z. n (e ∙ z))) }
+
+-- a call that fails a question after them, which tells no line
+fails-later : (s g l : List ℕ) (k : ℕ) → sheetsQuestion s g (length l) ≡ suc k → ((b : Book) → linesAsked b (suc k) .1 ≡ []) → (x : Reply) → x ≡ codeAlone (suc k) → BookSheets s g l x l
+fails-later s g l k e unasked x q = record { reply-is = q ∙ rw (e, untold s (suc k) unasked) refl; text-is = rw e }
 
 -- past them
 module _ (s : List ℕ) (r : AdmittedBook) (h : AdmitsBook s r) (z : r .number ≡ 0) where
@@ -80,19 +77,13 @@ module _ (s : List ℕ) (r : AdmittedBook) (h : AdmitsBook s r) (z : r .number �
 
   pub room-told : (n : ℕ) → n ≡ roomOf (r .book .count) → BookSheetsRoom s (record { code = 0; line = 0; value = pos n })
   room-told n e =
-      let ok = gone .ok in
-      record { code-is = sym ok; value-is = rw ok (ap pos (room-is n e)); told = rw ok (untold 0 (λ e. omega arith) (λ e. omega arith) (λ e. omega arith) s) }
+      rw (gone .ok, untold s 0 (λ b. refl)) (ap (valueReply 0 0) (room-is n e))
 
   module _ (g l : List ℕ) where
     pub strange : listed g (fullWays (gone .book)) ≡ false → (x : Reply) → x ≡ codeAlone 18 → BookSheets s g l x l
     strange off x q =
         let no : listed g (ways s) ≡ false = ap (λ o. listed g (waysIn o)) (gone .is) ∙ off in
-        rw q (record {
-          code-is = rw (gone .ok, no) refl;
-          value-is = refl;
-          told = untold 18 (λ e. omega arith) (λ e. omega arith) (λ e. omega arith) s;
-          text-is = refl;
-        })
+        fails-later s g l 17 (rw (gone .ok, no) refl) (λ b. refl) x q
 
     module _ (on : listed g (fullWays (gone .book)) ≡ true) (n : ℕ) (e : n ≡ roomOf (r .book .count)) where
       given : listed g (ways s) ≡ true
@@ -105,12 +96,7 @@ module _ (s : List ℕ) (r : AdmittedBook) (h : AdmitsBook s r) (z : r .number �
       pub too-short : length l < n → (x : Reply) → x ≡ codeAlone 21 → BookSheets s g l x l
       too-short k x q =
           let no = lt-leb (roomOf (entryCount s)) (length l) (omega (arith, k, room-is n e)) in
-          rw q (record {
-            code-is = sym (past-18 ∙ ap (λ t. ask t 21 0) no);
-            value-is = refl;
-            told = untold 21 (λ e. omega arith) (λ e. omega arith) (λ e. omega arith) s;
-            text-is = refl;
-          })
+          fails-later s g l 20 (past-18 ∙ ap (λ t. ask t 21 0) no) (λ b. refl) x q
 
       least : LeastCostWay (gone .book) (words g)
       least = listed-way (gone .book) (gone .holds .limits) g on .1
@@ -139,9 +125,8 @@ module _ (s : List ℕ) (r : AdmittedBook) (h : AdmitsBook s r) (z : r .number �
           written =
               let text : sheetsText s g ≡ sheets (gone .book) w = rw (gone .is) (ap (sheets (gone .book)) (sym same)) in
               let yes = le-leb (roomOf (entryCount s)) (length l) (omega (arith, k, room-is n e)) in
+              let passed : sheetsQuestion s g (length l) ≡ 0 = past-18 ∙ ap (λ t. ask t 21 0) yes in
               record {
-                code-is = sym (past-18 ∙ ap (λ t. ask t 21 0) yes);
-                value-is = ap pos (long ∙ ap length (sym text));
-                told = untold 0 (λ e. omega arith) (λ e. omega arith) (λ e. omega arith) s;
-                text-is = wrote .each (gone .book) (gone .is) .is ∙ rw long (ap (λ t. over t l) (sym text));
+                reply-is = rw (passed, untold s 0 (λ b. refl)) (ap (valueReply 0 0) (long ∙ ap length (sym text)));
+                text-is = rw passed (wrote .each (gone .book) (gone .is) .is ∙ rw long (ap (λ t. over t l) (sym text)));
               }

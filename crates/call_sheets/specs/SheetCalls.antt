@@ -4,17 +4,16 @@ use mathlib.Core.List.{List, []}
 use mathlib.Core.Option.{Option, none, some}
 use Prim.Native.Nat.{ℕ, _*_}
 use lib.Dec.{leb}
-use lib.IntN.{pos}
 use lib.ListN.{length}
 use Rattle.laws.specs.Tests.{ask}
 use Rattle.bytes_read.specs.Words.{words, over}
 use Rattle.book_form.specs.Book.{Book, parse}
 use Rattle.book_form.specs.Questions.{bookRefusal}
-use Rattle.book_form.specs.Told.{Told}
+use Rattle.book_form.specs.LineTold.{lineTold}
 use Rattle.way_theory.specs.BookBytes.{ways, entryCount}
 use Rattle.way_sheets.specs.Sheets.{sheets}
 use Rattle.call_reply.specs.declared.Reply.{Reply}
-use Rattle.call_reply.specs.Replies.{orElse, ifOk}
+use Rattle.call_reply.specs.Replies.{orElse, ifOk, valueReply}
 use Rattle.call_reply.specs.ByteLists.{listed}
 
 -- "71 × E bytes"
@@ -22,10 +21,8 @@ abbrev pub roomOf : ℕ → ℕ
 roomOf entries = 71 * entries
 
 -- "Before writing, a call works out the room from the book alone .. The room call meets 11 to 16 only"
-pub record BookSheetsRoom (s : List ℕ) (r : Reply) : Type 0 where
-  pub code-is : r .code ≡ bookRefusal s
-  pub value-is : r .value ≡ pos (ifOk (bookRefusal s) (roomOf (entryCount s)) 0)
-  pub told : Told s (bookRefusal s) (r .line)
+abbrev pub BookSheetsRoom : List ℕ → Reply → Type 0
+BookSheetsRoom s r = r ≡ valueReply (bookRefusal s) (lineTold s (bookRefusal s)) (roomOf (entryCount s))
 
 -- "writing meets 11 to 16, then 18, as no list of numbers is lent. Errors: 21, after 18, if the lent list holds fewer than 71 × E bytes."
 abbrev pub sheetsQuestion : List ℕ → List ℕ → ℕ → ℕ
@@ -45,7 +42,5 @@ sheetsText s g = sheetsIn (parse s) (words g)
 
 -- "The call gives how many bytes it wrote; bytes after the sheets stay untouched."
 pub record BookSheets (s g before : List ℕ) (r : Reply) (after : List ℕ) : Type 0 where
-  pub code-is : r .code ≡ sheetsQuestion s g (length before)
-  pub value-is : r .value ≡ pos (ifOk (r .code) (length (sheetsText s g)) 0)
-  pub told : Told s (r .code) (r .line)
-  pub text-is : after ≡ ifOk (r .code) (over (sheetsText s g) before) before
+  pub reply-is : r ≡ (let q = sheetsQuestion s g (length before) in valueReply q (lineTold s q) (length (sheetsText s g)))
+  pub text-is : after ≡ ifOk (sheetsQuestion s g (length before)) (over (sheetsText s g) before) before

@@ -4,13 +4,12 @@ use mathlib.Core.Bool.{true, false}
 use mathlib.Core.List.{List}
 use mathlib.Core.Option.{some}
 use Prim.Native.Nat.{ℕ}
-use native.Mathlib.Omega.{arith}
 use lib.ListN.{length}
 use Rattle.book_form.specs.Book.{Book, parse}
 use Rattle.book_form.specs.Questions.{bookRefusal}
 use Rattle.book_form.specs.Checked.{entriesOf}
 use Rattle.book_form.specs.declared.CheckedBook.{CheckedBook}
-use Rattle.book_form.proofs.Told.{untold}
+use Rattle.book_form.proofs.LineTold.{untold}
 use Rattle.way_theory.specs.BookBytes.{entryCount}
 use Rattle.way_network.specs.Held.{Holds}
 use Rattle.way_network.proofs.Made.{held}
@@ -36,7 +35,7 @@ module _ (s : List ℕ) (r : AdmittedBook) (h : AdmitsBook s r) where
   -- questions 11 to 17 with a list of so many bytes for the way: what `admit_with_room` hands back
   module _ (bytes : ℕ) where
     pub still-refused : ¬ (r .number ≡ 0) → AdmitsWithRoom s bytes r
-    still-refused n = record { number-is = fails-first (bookRefusal s) _ (r .number) (h .number-is) n; told = h .told; book-is = h .book-is }
+    still-refused n = record { number-is = fails-first (bookRefusal s) _ (r .number) (h .number-is) n; line-is = h .line-is; book-is = h .book-is }
 
     module _ (z : r .number ≡ 0) where
       fits-same : room (r .book .count) bytes ≡ room (entryCount s) bytes
@@ -48,10 +47,10 @@ module _ (s : List ℕ) (r : AdmittedBook) (h : AdmitsBook s r) where
       has-room-too e =
           let fits = sym fits-same ∙ e in
           let ok = admitted z .ok in
-          record { number-is = z ∙ sym (rw (ok, fits) refl); told = h .told; book-is = h .book-is }
+          record { number-is = z ∙ sym (rw (ok, fits) refl); line-is = h .line-is; book-is = h .book-is }
 
       pub too-short : room (r .book .count) bytes ≡ false → AdmitsWithRoom s bytes (record { number = 17; line = 0; book = r .book })
       too-short e =
           let fits = sym fits-same ∙ e in
           let ok = admitted z .ok in
-          record { number-is = sym (rw (ok, fits) refl); told = untold 17 (λ e. omega arith) (λ e. omega arith) (λ e. omega arith) s; book-is = h .book-is }
+          record { number-is = sym (rw (ok, fits) refl); line-is = sym (untold s 17 (λ b. refl)); book-is = h .book-is }

@@ -9,7 +9,7 @@ use Rattle.laws.specs.Tests.{ask}
 use Rattle.bytes_read.specs.Words.{words}
 use Rattle.book_form.specs.Book.{Book}
 use Rattle.book_form.specs.Questions.{bookRefusal}
-use Rattle.book_form.specs.Told.{Told}
+use Rattle.book_form.specs.LineTold.{lineTold}
 use Rattle.book_form.specs.Checked.{checkedBook}
 use Rattle.book_form.specs.declared.CheckedBook.{CheckedBook}
 use Rattle.way_theory.specs.Ways.{wayCost}
@@ -27,13 +27,13 @@ use Rattle.way_theory.specs.BookBytes.{entryCount}
 -- questions 11 to 16
 pub record AdmitsBook (s : List ℕ) (r : AdmittedBook) : Type 0 where
   pub number-is : r .number ≡ bookRefusal s
-  pub told : Told s (r .number) (r .line)
+  pub line-is : r .line ≡ lineTold s (r .number)
   pub book-is : r .book ≡ checkedBook s
 
 -- questions 11 to 17, with a list of so many bytes lent for the way
 pub record AdmitsWithRoom (s : List ℕ) (bytes : ℕ) (r : AdmittedBook) : Type 0 where
   pub number-is : r .number ≡ orElse (bookRefusal s) (ask (room (entryCount s) bytes) 17 0)
-  pub told : Told s (r .number) (r .line)
+  pub line-is : r .line ≡ lineTold s (r .number)
   pub book-is : r .book ≡ checkedBook s
 
 -- question 18: an enumerator on the item that the given bytes are; if they are none, one that has not begun

@@ -1,9 +1,7 @@
 -- Demands 2 and 3 of each call, from what the entries promise.
-use mathlib.Core.Path.{_≡_, refl, sym, ap, _∙_}
+use mathlib.Core.Path.{_≡_, sym, ap, _∙_}
 use mathlib.Core.List.{List, [], _∷_, _++_}
-use mathlib.Core.Option.{Option, none, some}
 use Prim.Native.Nat.{ℕ}
-use native.Mathlib.Omega.{arith}
 use Rattle.laws.specs.Rules.{Call, first, next, Rules}
 use Rattle.laws.specs.Seen.{Seen}
 use Rattle.laws.specs.Run.{Answers, Run, Kept, Readable, run-is-read}
@@ -13,16 +11,14 @@ use Rattle.net_model.specs.FullList.{countFlows}
 use Rattle.net_questions.specs.Questions.{networkRefusal}
 use Rattle.call_reply.specs.declared.Reply.{Reply}
 use Rattle.call_reply.specs.Replies.{countReply, countUnless}
-use Rattle.call_reply.proofs.Turns.{count-line}
 use Rattle.call_flow_bytes.specs.NetworkBytes.{net}
 use Rattle.call_network.specs.NetworkCalls.{Lent}
-use Rattle.call_network.specs.NetworkRules.{NoLine, networkRules}
+use Rattle.call_network.specs.NetworkRules.{noLine, networkRules}
 use Rattle.call_network.specs.NetworkEntries.{NetworkCount}
 use Rattle.call_network.proofs.NetworkRun.{flows-apart, network-readable}
 use Rattle.call_network.proofs.FirstFlow.{first-finds}
 use Rattle.book_form.specs.Questions.{bookRefusal}
-use Rattle.book_form.specs.Book.{Book, parse}
-use Rattle.book_form.specs.Told.{ToldIn, Told}
+use Rattle.book_form.specs.LineTold.{lineTold}
 use Rattle.call_book.specs.BookCalls.{countWaysIn}
 use Rattle.call_book.specs.BookRules.{bookRules}
 use Rattle.call_book.specs.BookEntries.{BookCount}
@@ -44,10 +40,6 @@ module _ {Item F G N Lists : Type 0} (R : Rules Item F G N Lists) (e : Call F G 
     lists = λ r k w. complete-shows-all R readable (r ++ (e ∷ [])) w (one-more r k);
   }
 
--- a reply is what its fields are
-reply-is : (r q : Reply) → r .code ≡ q .code → r .line ≡ q .line → r .value ≡ q .value → r ≡ q
-reply-is r q c l v = rw (← c, ← l, ← v) refl
-
 module _ (bs xs : List ℕ) where
   pub first-flow-demands : (l : Lent) (s : Seen Lent) → Answers (networkRules bs xs) (first l) s → FirstFlowDemands bs xs l s
   first-flow-demands l s h = record {
@@ -65,18 +57,12 @@ module _ (bs xs : List ℕ) where
   pub count-flows-demands : (cap : ℕ) (r : Reply) → NetworkCount bs xs cap r → CountFlowsDemands bs xs cap r
   count-flows-demands cap r h =
       let k = countFlows (net bs xs) cap in
-      let line-is : r .line ≡ 0 = ap (λ (x : Reply). x .line) h ∙ count-line (networkRefusal bs xs) k in
-      let passed : networkRefusal bs xs ≡ 0 → r ≡ countReply k = λ ok. h ∙ ap (λ n. countUnless n k) ok in
+      let passed : networkRefusal bs xs ≡ 0 → r ≡ countReply k = λ ok. h ∙ ap (λ n. countUnless n 0 k) ok in
       record {
-        demand1 = count-1 NoLine r (networkRefusal bs xs) k (ap (λ (x : Reply). x .code) h) (ap (λ (x : Reply). x .value) h) line-is (λ _. line-is);
+        demand1 = count-1 noLine r (networkRefusal bs xs) k h;
         exact = passed;
         handed-out = λ ok. passed ok ∙ ap countReply (sym (count-is (networkRules bs xs) (flows-apart bs xs ok) cap));
       }
-
--- no question failed, no line told
-pub no-line-told : (o : Option Book) (l : ℕ) → ToldIn o 0 l → l ≡ 0
-no-line-told none l h = h
-no-line-told (some b) l h = h .of-other (λ e. omega arith) (λ e. omega arith) (λ e. omega arith)
 
 module _ (s : List ℕ) where
   pub first-way-demands : (l : List ℕ) (t : Seen (List ℕ)) → Answers (bookRules s) (first l) t → FirstWayDemands s l t
@@ -95,11 +81,9 @@ module _ (s : List ℕ) where
   pub count-ways-demands : (cap : ℕ) (r : Reply) → BookCount s cap r → CountWaysDemands s cap r
   count-ways-demands cap r h =
       let k = countWaysIn s cap in
-      let line-is : bookRefusal s ≡ 0 → r .line ≡ 0 = λ ok. no-line-told (parse s) (r .line) (rw ok at (h .told)) in
-      let passed : bookRefusal s ≡ 0 → r ≡ countReply k =
-      λ ok. reply-is r (countReply k) (h .code-is ∙ ap (λ n. countUnless n k .code) ok) (line-is ok ∙ sym (count-line 0 k)) (h .value-is ∙ ap (λ n. countUnless n k .value) ok) in
+      let passed : bookRefusal s ≡ 0 → r ≡ countReply k = λ ok. h ∙ ap (λ n. countUnless n (lineTold s n) k) ok in
       record {
-        demand1 = count-1 (Told s) r (bookRefusal s) k (h .code-is) (h .value-is) (h .told) line-is;
+        demand1 = count-1 (lineTold s) r (bookRefusal s) k h;
         exact = passed;
         handed-out = λ ok. passed ok ∙ ap countReply (sym (count-is (bookRules s) (ways-apart s ok) cap));
       }

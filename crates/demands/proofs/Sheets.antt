@@ -1,5 +1,5 @@
 -- What is asked of the part sheets, from what their entries promise.
-use mathlib.Core.Path.{_≡_, refl, sym, ap, subst, _∙_}
+use mathlib.Core.Path.{_≡_, refl, sym, ap, _∙_}
 use mathlib.Core.Bool.{Bool, true, false}
 use mathlib.Core.List.{List}
 use mathlib.Core.Logic.{inl}
@@ -14,7 +14,8 @@ use Rattle.bytes_read.specs.Words.{words, over}
 use Rattle.book_form.specs.Book.{Book, parse}
 use Rattle.book_form.specs.Questions.{bookRefusal}
 use Rattle.book_form.specs.Checked.{entriesOf}
-use Rattle.book_form.specs.Told.{Told}
+use Rattle.book_form.specs.LineTold.{lineTold}
+use Rattle.book_form.proofs.LineTold.{untold}
 use Rattle.book_form.proofs.WithinLimits.{within-limits}
 use Rattle.way_theory.specs.Ways.{IsWay}
 use Rattle.way_theory.specs.BookBytes.{waysIn, ways, entryCount}
@@ -23,31 +24,20 @@ use Rattle.way_parts.proofs.Theorems.{stands-once, ticks-summed}
 use Rattle.way_sheets.specs.Sheets.{sheets}
 use Rattle.way_sheets.proofs.Sizes.{sheets-size}
 use Rattle.call_reply.specs.declared.Reply.{Reply}
-use Rattle.call_reply.specs.Replies.{orElse, ifOk}
+use Rattle.call_reply.specs.Replies.{orElse}
+use Rattle.call_reply.proofs.Refusing.{if-ok}
 use Rattle.call_reply.specs.ByteLists.{listed}
 use Rattle.call_reply.proofs.Turns.{first-passed}
 use Rattle.call_way_bytes.proofs.WayItems.{listed-way}
 use Rattle.call_sheets.specs.SheetCalls.{roomOf, BookSheetsRoom, sheetsQuestion, sheetsIn, sheetsText, BookSheets}
 use Rattle.demands.specs.Demands.{SheetsRoomDemands, SheetsWritten, SheetsDemands}
-use Rattle.demands.proofs.Runs.{no-line-told}
-
-if-ok : {A : Type 0} (k : ℕ) (x y : A) → k ≡ 0 → ifOk k x y ≡ x
-if-ok zero x y z = refl
-if-ok (suc k) x y z = absurd (omega arith)
-
-if-not : {A : Type 0} (k : ℕ) (x y : A) → ¬ (k ≡ 0) → ifOk k x y ≡ y
-if-not zero x y z = absurd (z refl)
-if-not (suc k) x y z = refl
+use Rattle.demands.proofs.Refusals.{value-1}
 
 module _ (s : List ℕ) (r : Reply) (h : BookSheetsRoom s r) where
   pub room-demands : SheetsRoomDemands s r
   room-demands = record {
-    demand1 = record {
-      number-told = λ z. (h .code-is, h .told);
-      nothing-else = λ ok. (inl (h .code-is ∙ ok), no-line-told (parse s) (r .line) (rw ok at (h .told)));
-      changes-nothing = λ z. (h .value-is ∙ ap pos (if-not (bookRefusal s) _ 0 (λ e. z (h .code-is ∙ e))), refl);
-    };
-    room = λ ok. h .value-is ∙ ap pos (if-ok (bookRefusal s) _ 0 ok);
+    demand1 = value-1 (lineTold s) (untold s 0 (λ b. refl)) (bookRefusal s) (bookRefusal s) (roomOf (entryCount s)) (λ _. refl) inl r h tt tt tt refl;
+    room = λ ok. ap (λ (x : Reply). x .value) h ∙ ap pos (if-ok (bookRefusal s) _ 0 ok);
     enough = enough;
   }
     where
@@ -63,17 +53,13 @@ passes-18 (suc n) t u e = absurd (omega arith)
 module _ (s g l : List ℕ) (r : Reply) (l′ : List ℕ) (h : BookSheets s g l r l′) where
   pub sheets-demands : SheetsDemands s g l r l′
   sheets-demands = record {
-    demand1 = record {
-      number-told = λ z. (h .code-is, subst (λ k. Told s k (r .line)) (h .code-is) (h .told));
-      nothing-else = λ z. (inl (h .code-is ∙ z), no-line-told (parse s) (r .line) (rw (h .code-is ∙ z) at (h .told)));
-      changes-nothing = λ z. (h .value-is ∙ ap pos (if-not (r .code) _ 0 z), h .text-is ∙ if-not (r .code) _ l z);
-    };
+    demand1 = value-1 (lineTold s) (untold s 0 (λ b. refl)) (sheetsQuestion s g (length l)) _ (length (sheetsText s g)) (λ _. refl) inl r (h .reply-is) l _ l′ (h .text-is);
     written = written;
   }
     where
       written : r .code ≡ 0 → SheetsWritten s g l r l′
       written z =
-          let q : sheetsQuestion s g (length l) ≡ 0 = sym (h .code-is) ∙ z in
+          let q : sheetsQuestion s g (length l) ≡ 0 = sym (ap (λ (x : Reply). x .code) (h .reply-is)) ∙ z in
           let ok = first-passed (bookRefusal s) _ q in
           let (b, p, k) = held s ok in
           let limits = k .limits in
@@ -84,8 +70,8 @@ module _ (s g l : List ℕ) (r : Reply) (l′ : List ℕ) (h : BookSheets s g l 
             book = b;
             holds = p;
             least-cost = least;
-            value-is = h .value-is ∙ ap pos (if-ok (r .code) _ 0 z ∙ ap length text);
-            text-is = h .text-is ∙ if-ok (r .code) _ l z ∙ ap (λ t. over t l) text;
+            value-is = ap (λ (x : Reply). x .value) (h .reply-is) ∙ ap pos (if-ok (sheetsQuestion s g (length l)) _ 0 q ∙ ap length text);
+            text-is = h .text-is ∙ if-ok (sheetsQuestion s g (length l)) _ l q ∙ ap (λ t. over t l) text;
             each-once = stands-once b limits (words g) (least .way);
             ticks = ticks-summed b limits (words g) (least .way);
           }

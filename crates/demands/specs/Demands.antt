@@ -23,7 +23,7 @@ use Rattle.call_reply.specs.declared.Reply.{Reply}
 use Rattle.call_reply.specs.Replies.{sees, countReply}
 use Rattle.call_flow_bytes.specs.NetworkBytes.{net}
 use Rattle.call_network.specs.NetworkCalls.{Lent, lends, networkQuestion}
-use Rattle.call_network.specs.NetworkRules.{NoLine, networkRules}
+use Rattle.call_network.specs.NetworkRules.{noLine, networkRules}
 use Rattle.call_network.specs.FirstFlow.{FindsFlow, FindsNoFlow}
 use Rattle.book_lines.specs.Columns.{nobody}
 use Rattle.book_form.specs.Book.{Book, parse}
@@ -32,7 +32,7 @@ use Rattle.book_form.specs.Checked.{entriesOf}
 use Rattle.book_names.specs.declared.Span.{Span}
 use Rattle.book_names.specs.Name.{nameRefusal}
 use Rattle.book_names.specs.BookNames.{spanned, nameStart}
-use Rattle.book_form.specs.Told.{Told}
+use Rattle.book_form.specs.LineTold.{lineTold}
 use Rattle.way_theory.specs.Follow.{size}
 use Rattle.way_theory.specs.Ways.{times, IsWay, LeastCostWay}
 use Rattle.way_theory.specs.FullWays.{numbers}
@@ -51,9 +51,10 @@ use Rattle.way_sheets.specs.Sheets.{sheets}
 use Rattle.call_sheets.specs.SheetCalls.{sheetsQuestion}
 
 -- Demand 1. That every call ends and keeps to the memory lent to it is what the prover shows of every function. It "answers each bad book or network
--- with the number of the first question it fails and changes nothing, and refuses nothing else". s is what is seen of a call that is lent l.
-pub record Demand1 {Lists : Type 0} (TellsLine : ℕ → ℕ → Type 0) (n : ℕ) (l : Lists) (s : Seen Lists) : Type 0 where
-  pub number-told : ¬ (n ≡ 0) → (s .number ≡ n) × TellsLine n (s .told)
+-- with the number of the first question it fails and changes nothing, and refuses nothing else". s is what is seen of a call that is lent l; with each question goes
+-- the line that is told (`line-told`).
+pub record Demand1 {Lists : Type 0} (line-told : ℕ → ℕ) (n : ℕ) (l : Lists) (s : Seen Lists) : Type 0 where
+  pub number-told : ¬ (n ≡ 0) → (s .number ≡ n) × (s .told ≡ line-told n)
   -- numbers from 100 on are words, "none", "end" and "more", and no question's
   pub nothing-else : n ≡ 0 → ((s .number ≡ 0) ⊎ (100 ≤ s .number)) × (s .told ≡ 0)
   -- "'None' and 'end' are no refusals; they too write nothing."
@@ -70,17 +71,17 @@ pub record Demand3 {Item F G N Lists : Type 0} (R : Rules Item F G N Lists) (e :
 module _ (bs xs : List ℕ) where
   -- `first`, with or without prices. Demand 2: a least-cost flow before which none comes, or there is no flow.
   pub record FirstFlowDemands (l : Lent) (s : Seen Lent) : Type 0 where
-    pub demand1 : Demand1 NoLine (networkQuestion bs xs (first l)) l s
+    pub demand1 : Demand1 noLine (networkQuestion bs xs (first l)) l s
     pub demand2 : networkQuestion bs xs (first l) ≡ 0 → FindsFlow bs xs l s ⊎ FindsNoFlow bs xs l s
     pub demand3 : Demand3 (networkRules bs xs) (first l, s)
 
   pub record NextFlowDemands (g fs : List ℕ) (s : Seen Lent) : Type 0 where
-    pub demand1 : Demand1 NoLine (networkQuestion bs xs (next g fs)) (lends fs none) s
+    pub demand1 : Demand1 noLine (networkQuestion bs xs (next g fs)) (lends fs none) s
     pub demand3 : Demand3 (networkRules bs xs) (next g fs, s)
 
   -- Counts are exact up to the cap, and those of handing out items until the list ends or one beyond the cap is met.
   pub record CountFlowsDemands (cap : ℕ) (r : Reply) : Type 0 where
-    pub demand1 : Demand1 {Lists = Unit {0}} NoLine (networkRefusal bs xs) tt (sees r tt)
+    pub demand1 : Demand1 {Lists = Unit {0}} noLine (networkRefusal bs xs) tt (sees r tt)
     pub exact : networkRefusal bs xs ≡ 0 → r ≡ countReply (counted cap (length (fullList (net bs xs))))
     pub handed-out : networkRefusal bs xs ≡ 0 → r ≡ countReply (count (networkRules bs xs) cap)
 
@@ -91,16 +92,16 @@ module _ (bs xs : List ℕ) where
 -- ---- books, by their bytes
 module _ (s : List ℕ) where
   pub record FirstWayDemands (l : List ℕ) (t : Seen (List ℕ)) : Type 0 where
-    pub demand1 : Demand1 (Told s) (bookQuestion s (first l)) l t
+    pub demand1 : Demand1 (lineTold s) (bookQuestion s (first l)) l t
     pub demand2 : bookQuestion s (first l) ≡ 0 → FindsWay s l t ⊎ FindsNoWay s l t
     pub demand3 : Demand3 (bookRules s) (first l, t)
 
   pub record NextWayDemands (g l : List ℕ) (t : Seen (List ℕ)) : Type 0 where
-    pub demand1 : Demand1 (Told s) (bookQuestion s (next g l)) l t
+    pub demand1 : Demand1 (lineTold s) (bookQuestion s (next g l)) l t
     pub demand3 : Demand3 (bookRules s) (next g l, t)
 
   pub record CountWaysDemands (cap : ℕ) (r : Reply) : Type 0 where
-    pub demand1 : Demand1 {Lists = Unit {0}} (Told s) (bookRefusal s) tt (sees r tt)
+    pub demand1 : Demand1 {Lists = Unit {0}} (lineTold s) (bookRefusal s) tt (sees r tt)
     pub exact : bookRefusal s ≡ 0 → r ≡ countReply (counted cap (length (ways s)))
     pub handed-out : bookRefusal s ≡ 0 → r ≡ countReply (count (bookRules s) cap)
 
@@ -119,14 +120,14 @@ module _ (s : List ℕ) where
 
   -- The listing: "none" exactly without a way, and otherwise the text of the full list of ways, where the lent list has room for it.
   pub record ListWaysDemands (l : List ℕ) (r : Reply) (l′ : List ℕ) : Type 0 where
-    pub demand1 : Demand1 (Told s) (bookRefusal s) l (sees r l′)
+    pub demand1 : Demand1 (lineTold s) (bookRefusal s) l (sees r l′)
     pub none-exactly : bookRefusal s ≡ 0 → (r .code ≡ 100) ↔ (ways s ≡ [])
     pub listed : r .code ≡ 0 → (r .value ≡ pos (length (listing s))) × (l′ ≡ fit (listing s) l)
     pub text-is : bookRefusal s ≡ 0 → listing s ≡ listWays (wayCostOrZero (parse s)) (ways s)
 
   -- The room of the sheets. "71 × E bytes, and the sheets of any of its ways take at most 71 bytes for each entry."
   pub record SheetsRoomDemands (r : Reply) : Type 0 where
-    pub demand1 : Demand1 {Lists = Unit {0}} (Told s) (bookRefusal s) tt (sees r tt)
+    pub demand1 : Demand1 {Lists = Unit {0}} (lineTold s) (bookRefusal s) tt (sees r tt)
     pub room : bookRefusal s ≡ 0 → r .value ≡ pos (71 * entryCount s)
     pub enough : bookRefusal s ≡ 0 → (b : Book) → parse s ≡ some b → (w : List ℕ) → IsWay b w → length (sheets b w) ≤ 71 * entryCount s
 
@@ -142,7 +143,7 @@ module _ (s : List ℕ) where
     pub ticks : total (map (λ p. totalOf (ticksOf book) p) (parts (words g))) ≡ totalOf (ticksOf book) (numbers book)
 
   pub record SheetsDemands (g l : List ℕ) (r : Reply) (l′ : List ℕ) : Type 0 where
-    pub demand1 : Demand1 (Told s) (sheetsQuestion s g (length l)) l (sees r l′)
+    pub demand1 : Demand1 (lineTold s) (sheetsQuestion s g (length l)) l (sees r l′)
     pub written : r .code ≡ 0 → SheetsWritten g l r l′
 
   -- The name of entry j, by two calls, p the part and n the number. "The name of an entry is given back as the part of the book that holds it. A refused

@@ -16,8 +16,8 @@ pub record Rules (Item F G N Lent : Type 0) : Type 1 where
   pub question : Call F G N → ℕ
   -- the questions put before the one about the given list are passed
   pub Admits : Call F G N → Type 0
-  -- with the number of a refusal, the line of the book's text that may be told
-  pub TellsLine : ℕ → ℕ → Type 0
+  -- with the number of a refusal, the line of the book's text that is told, or 0
+  pub line-told : ℕ → ℕ
   -- "that line and its cost"
   pub cost : Item → ℤ
   -- the lent lists as they come

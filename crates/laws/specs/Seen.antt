@@ -27,11 +27,11 @@ codeOf (item v) = 0
 
 module _ {Item F G N Lent : Type 0} (R : Rules Item F G N Lent) where
   -- a line of the text is told with a refusal alone
-  abbrev pub ToldWith : Reading Item → ℕ → Type 0
-  ToldWith (refused n) l = R .TellsLine n l
-  ToldWith nothing l = l ≡ 0
-  ToldWith end l = l ≡ 0
-  ToldWith (item v) l = l ≡ 0
+  abbrev pub lineSeen : Reading Item → ℕ
+  lineSeen (refused n) = R .line-told n
+  lineSeen nothing = 0
+  lineSeen end = 0
+  lineSeen (item v) = 0
 
   -- "cost 0" with a refusal, "none" and "end"
   abbrev pub costSeen : Reading Item → ℤ
@@ -50,6 +50,6 @@ module _ {Item F G N Lent : Type 0} (R : Rules Item F G N Lent) where
   -- what is seen of the call c, s, is the reading a
   pub record Shows (c : Call F G N) (a : Reading Item) (s : Seen Lent) : Type 0 where
     pub number-is : s .number ≡ codeOf a
-    pub told-is : ToldWith a (s .told)
+    pub told-is : s .told ≡ lineSeen a
     pub cost-is : s .cost ≡ costSeen a
     pub lists-are : ListsAfter a (R .lent c) (s .lists)

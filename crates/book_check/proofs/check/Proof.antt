@@ -100,11 +100,11 @@ returns-4 c =
       move-list = m .list;
       entry-list = e .list;
       parsed = parse-closed _ _ _ _ (listed after-read-entries) (closed (c .before .before)) (not-false _ (c .before .if3 .left));
-      moves-judged = m .verdict;
+      moves-bad = m .bad;
       ticks = m .ticks;
       costs = m .costs;
       count = e .count;
-      entries-judged = rw (m .line) at (e .verdict);
+      entries-bad = rw (m .line) at (e .bad);
       columns = e .columns;
     } in
     rw (c .judge .ensures) (judged-right s o _ _ found (else1 .if1 .left))

@@ -1,6 +1,13 @@
 -- `book_form::judge` meets its contract.
-use mathlib.Core.Path.{_≡_, sym, ap, _∙_}
+use mathlib.Core.Path.{_≡_, refl, sym, ap, _∙_}
+use mathlib.Core.Bool.{_&&_}
+use mathlib.Core.List.{[], _∷_}
+use native.Mathlib.Omega.{arith}
+use lib.Dec.{leb}
 use borrow.Author.Needs.{needs}
+use Rattle.book_lines.specs.Questions.{firstBad}
+use Rattle.book_lines.specs.Passes.{firstBadAfter}
+use Rattle.book_lines.proofs.FirstBad.{first-bad-more}
 use Rattle.book_form.specs.declared.Answer.{Answer}
 use Rattle.book_form.specs.Steps.{answerOf, headerBad, judgedOf}
 use Rattle.book_form.proofs.Judging.{judged-refused, judged-held}
@@ -12,7 +19,18 @@ answered : (c : tie.After-answer-of)
     → let after-first-bad = c .before .before .before in
     let start = after-first-bad .before .before .before in
     c .answer-of .result ≡ answerOf (headerBad (start .args .o)) (start .args .m .bad) (start .args .e .bad) (start .args .e .count)
-answered c = c .answer-of .ensures ∙ rw (c .before .first-bad2 .ensures, c .before .before .before .first-bad .ensures)
+unfolding firstBad
+answered c =
+    let start : tie.Start = search in
+    let players : tie.After-first-bad = search in
+    let header : tie.After-first-bad2 = search in
+    let o = start .args .o in
+    let fair = leb 1 (o .players) && leb (o .players) 8 in
+    let one : players .first-bad .result ≡ firstBadAfter 0 fair 2 = players .first-bad .ensures in
+    let p = one ∙ first-bad-more 2 [] fair fair (omega arith) refl refl (λ _. refl) in
+    let low = leb (o .fee) 1000000 in
+    let h : header .first-bad2 .result ≡ headerBad o = header .first-bad2 .ensures ∙ first-bad-more 2 (fair ∷ []) low low (omega arith) p refl (λ _. refl) in
+    c .answer-of .ensures ∙ rw h
 
 returns : tie.Need-returns
 returns c =

@@ -1,7 +1,6 @@
-use mathlib.Core.Path.{sym, subst, _∙_}
+use mathlib.Core.Path.{sym, ap, _∙_}
 use borrow.Author.Needs.{needs}
-use Rattle.book_form.specs.Questions.{questionOf}
-use Rattle.book_form.specs.Told.{Told}
+use Rattle.book_form.specs.LineTold.{lineTold}
 use Rattle.call_way_bytes.proofs.admit_book.Statement.{statement}
 use Rattle.call_way_bytes.proofs.admit_book.Tie as tie
 
@@ -16,7 +15,7 @@ returns c =
     let s = start .args .book .now in
     record {
       number-is = n ∙ k .question;
-      told = subst (λ i. Told s i (lined .line .result)) (sym n) (subst (λ l. Told s (questionOf (checked .check .result .answer)) l) (sym (lined .line .ensures)) (k .line));
+      line-is = lined .line .ensures ∙ k .line ∙ ap (lineTold s) (sym (n ∙ k .question));
       book-is = k .book;
     }
 

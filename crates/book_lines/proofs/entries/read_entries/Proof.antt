@@ -33,7 +33,7 @@ returns c =
       is = lines-all (v .1) (c .before .read-entry .ensures .right) (c .if1 .taken);
       within = omega arith;
       count = v .2 .count-is;
-      verdict = v .2 .verdict;
+      bad = v .2 .bad-is;
       columns = v .2 .columns-are;
     }
 

@@ -40,7 +40,7 @@ returns c =
       within = omega arith;
       few = omega (arith, v .1 .shorter);
       line = v .2 .line-is;
-      verdict = v .2 .verdict;
+      bad = v .2 .bad-is;
       ticks = v .2 .ticks-are;
       costs = v .2 .costs-are;
     }
