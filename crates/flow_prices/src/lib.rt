@@ -2,12 +2,12 @@
 // every label is at every moment the cost of a residual walk: within 63,000,000 either way, and each sum within 64,000,000. So 32 bits hold all of
 // its numbers (request 4).
 ghost use mathlib.Core.Path.{_≡_};
-ghost use mathlib.Core.Bool.{_&&_};
+ghost use mathlib.Core.Bool.{cond, _&&_};
 ghost use mathlib.Core.List.{[]};
 ghost use Prim.Native.Nat.{ℕ, suc, _+_, _<_};
-ghost use lib.ListN.{length, getD};
+ghost use lib.ListN.{length};
 ghost use lib.IntN.{pos, _+ℤ_};
-ghost use lib.Signed.{ltZ};
+ghost use lib.Signed.{ltZ, _≤ℤ_};
 ghost use mir.Syntax.{w32};
 ghost use mir.Val.{SFits};
 ghost use Rattle.net_model.specs.Residual.{codes};
@@ -16,19 +16,24 @@ ghost use Rattle.flow_relax.specs.Labels.{Relaxable, state, label, setIf, relax
 ghost use Rattle.flow_relax.specs.Potentials.{HasPotential};
 ghost use Rattle.flow_prices.specs.Prices.{WalkLabels, PriceLabels};
 
+// What a residual arc offers: x where it is on, and else 0, the cost of the walk without arcs, which lowers no label. It compiles to a conditional
+// move: whether arcs are on follows no pattern, and a branch on it would be mispredicted.
+fn offer_if(on: bool, x: i32) -> i32
+    ensures { λ r. ⌜ r ≡ cond on x (pos 0) ⌝ }
+{
+    if on { x } else { 0 }
+}
+
 // The residual arc from u to v, if it is on: a better label for v, or nothing. The node whose label fell last. No predecessors are kept: what is
 // promised holds whatever the code.
 fn relax(labels: &mut [i32], on: bool, u: u8, v: u8, c: i32, last: u32) -> u32
-    requires { ⌜ (u < length (now labels)) × (v < length (now labels)) × SFits w32 (getD (now labels) u (pos 0) +ℤ c) ⌝ }
+    requires { let s = state (now labels) [] last in ⌜ (u < length (now labels)) × (v < length (now labels)) × SFits w32 (label s u +ℤ c) × (label s v ≤ℤ pos 0) ⌝ }
     ensures { λ r. let s = state (now (labels .entry)) [] last in let x = label s u +ℤ c in
         ⌜ ((code : ℕ) → state (now (labels .exit)) [] r ≡ setIf (on && ltZ x (label s v)) v x code s) ⌝ }
 {
-    if !on {
-        return last;
-    }
     let a = labels[u as usize];
     let b = labels[v as usize];
-    let x = a + c;
+    let x = offer_if(on, a + c);
     if x < b {
         labels[v as usize] = x;
         return v as u32;
@@ -101,7 +106,7 @@ pub fn prices(
         ⌜ PriceLabels N (now (flow .entry)) r ⌝ }
 {
     let mut least = [0i32; 64];
-    for _k in 0..64usize {
+    for _k in 0..64u32 {
         let last = round(tails, heads, lows, ups, costs, flow, &mut least);
         if last == 64 {
             return least;

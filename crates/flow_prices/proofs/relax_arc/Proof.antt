@@ -88,7 +88,7 @@ relax-requires c κs =
     let w : tie.After-c = c .before .before .before in
     let s = begin w in
     let W = s .pre .2 in
-    (omega (arith, limits s .tail-in, W .len), omega (arith, limits s .head-in, W .len), rw (cost-read w) (small-sum w32 (label-small s _ W _ (limits s .tail-in)) (limits s .cost-small) (omega arith)))
+    (omega (arith, limits s .tail-in, W .len), omega (arith, limits s .head-in, W .len), rw (cost-read w) (small-sum w32 (label-small s _ W _ (limits s .tail-in)) (limits s .cost-small) (omega arith)), W .at-most-0 _)
 
 sub-relax : tie.Need-sub-relax
 sub-relax c = let w = cost-at (first-call c) in negative-fits w32 1000000 (omega arith) (cost w) (cost w) (cost-read w) (limits (begin w) .cost-small)
@@ -98,7 +98,7 @@ relax-requires-2 c κs =
     let r = first-call c in
     let s = entry r in
     let W = walks r in
-    (omega (arith, limits s .head-in, W .len), omega (arith, limits s .tail-in, W .len), rw (minus-is (cost-at r)) (small-sum w32 (label-small s _ W _ (limits s .head-in)) (bounded-neg (limits s .cost-small)) (omega arith)))
+    (omega (arith, limits s .head-in, W .len), omega (arith, limits s .tail-in, W .len), rw (minus-is (cost-at r)) (small-sum w32 (label-small s _ W _ (limits s .head-in)) (bounded-neg (limits s .cost-small)) (omega arith)), W .at-most-0 _)
 
 returns : tie.Need-returns
 returns c =

@@ -27,13 +27,13 @@ returns-2 : tie.Need-returns-2
 returns-2 c =
     let q = c .before in
     let s = start q in
-    better-offer (s .args .labels .now) (s .args .preds .now) (s .args .last) (s .args .u) (s .args .v) (s .args .code) (s .args .c) (s .args .on) w64 (is-on q) (record { sfits = q .before .a .given }) (record { sfits = q .b .given }) (s .fits .c) (s .pre .3) (c .if2 .taken)
+    better-offer (s .args .labels .now) (s .args .preds .now) (s .args .last) (s .args .u) (s .args .v) (s .args .code) (s .args .c) w64 (record { sfits = q .before .a .given }) (record { sfits = q .b .given }) (s .fits .c) (s .pre .3) (s .args .on) (is-on q) (c .if2 .taken)
 
 returns-3 : tie.Need-returns-3
 returns-3 c =
     let q = c .before in
     let s = start q in
-    no-better-offer (s .args .labels .now) (s .args .preds .now) (s .args .last) (s .args .u) (s .args .v) (s .args .code) (s .args .c) (s .args .on) w64 (is-on q) (record { sfits = q .before .a .given }) (record { sfits = q .b .given }) (s .fits .c) (s .pre .3) (c .if2 .left)
+    no-better-offer (s .args .labels .now) (s .args .preds .now) (s .args .last) (s .args .u) (s .args .v) (s .args .code) (s .args .c) w64 (record { sfits = q .before .a .given }) (record { sfits = q .b .given }) (s .fits .c) (s .pre .3) (s .args .on) (is-on q) (c .if2 .left)
 
 pub relax-spec : {M : Type 1} → statement M
 relax-spec =
