@@ -11,7 +11,7 @@
 #define DESK_H
 
 /* The version of the library and of the program ways. */
-#define DESK_VERSION "2.3.0"
+#define DESK_VERSION "2.3.1"
 
 #include <stddef.h>
 #include <stdint.h>

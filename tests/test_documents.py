@@ -1,4 +1,4 @@
-"""The documents, .editorconfig and the tools of the edit loop: links, the book and listing that the documents show, the limits and questions of docs/RULE.md,
+"""The documents, .editorconfig and the tools of the edit loop: links, the book and listing that the documents show, the limits, questions and widths of docs/RULE.md,
 the layout of every text, tools/seconds and tools/dev on what rt prints."""
 import fnmatch
 import importlib.machinery
@@ -82,6 +82,16 @@ class Documents(unittest.TestCase):
             for name in re.findall(r"`([\w<>?-]+)`", line) if paths else ():
                 if not re.search(rf"^ *(?:(?:abbrev|unfoldable) )?(?:pub )?(?:record |data )?{re.escape(name)} ", sources, re.M): missing.append((name, paths))
         self.assertEqual(missing, [])
+
+    def test_widths(self):
+        """As the rule says, the sums of the price search are no wider than 32 bits, those of the search for a negative cycle 64. Of the price search
+        nothing is wider but an index: of an arc, or of a label where it is read or written."""
+        self.assertIn("sums of costs are signed 64-bit, but those of the price search signed 32-bit", (ROOT / "docs/RULE.md").read_text())
+        prices, relax = [(ROOT / "crates" / crate / "src/lib.rt").read_text() for crate in ("flow_prices", "flow_relax")]
+        indices = re.compile(r"\ba: usize\b|\blabels\[[uv] as usize\]")
+        wide = re.compile(r"[iu](?:64|128|size)\b")
+        self.assertEqual(wide.findall(indices.sub("", prices)), [])
+        self.assertIn("i64", wide.findall(relax))
 
     def test_layout(self):
         """Every text is as .editorconfig says."""

@@ -241,6 +241,22 @@ class NetworkCalls(unittest.TestCase):
         self.expect([most] + [0] * 62 + [-most], chain(-most), (OK, -63 * most * most), [most] * 63, [0] * 64)
         self.expect([-most] + [0] * 62 + [most], chain(most), (NONE, 0))
 
+    def test_prices_at_the_limits(self):
+        """Chains of 64 nodes with costs at the limit: the lowest price is -63,000,000. In rising order of the arcs one round finds the prices, in
+        falling order it takes 63. Walked along empty arcs, or back along full ones; each arc once, or eight times, or beside seven that undo it."""
+        rng, most = random.Random(11), 10**6
+        for full in (False, True):
+            chain = [(v, v + 1, 0, 1, most if full else -most) for v in range(63)]
+            for more in ([], 7 * chain, [(h, t, 0, 1, -c) for t, h, l, u, c in 7 * chain]):
+                rising = sorted(chain + more)
+                for arcs in (rising, rising[::-1], rng.sample(rising, len(rising))):
+                    flow = [int(full and t < h) for t, h, l, u, c in arcs]
+                    out = sum(flow) // 63
+                    balances, prices = [out] + [0] * 62 + [-out], [-most * (63 - v if full else v) for v in range(64)]
+                    self.assertTrue(trial.is_first(balances, arcs, flow))
+                    self.assertEqual(trial.prices(balances, arcs, flow), prices)
+                    self.expect(balances, arcs, (OK, 63 * out * most), flow, prices)
+
     def test_balances_at_the_limits(self):
         most = 10**9
         for balances in ([most, -most], [-most, most], [most] * 64, [-most] * 64, [most, -most] * 32, [most] * 32 + [-most] * 32,

@@ -2,10 +2,8 @@
 // for the whole list: an arc without a mark has one number in all items.
 ghost use mathlib.Core.Path.{_≡_};
 ghost use mathlib.Core.Bool.{false};
-ghost use Prim.Native.Nat.{ℕ, _+_, _≤_, _<_};
-ghost use lib.ListN.{getD, take, replicate};
-ghost use lib.IntN.{pos};
-ghost use Rattle.laws.specs.Range.{Bounded};
+ghost use Prim.Native.Nat.{_+_, _≤_};
+ghost use lib.ListN.{take, replicate};
 ghost use Rattle.laws.specs.Count.{counted};
 ghost use Rattle.net_model.specs.FullList.{firstFlow, nextFlow, countFlows};
 ghost use Rattle.net_model.specs.Struct.{netIn, Sound};
@@ -100,19 +98,6 @@ pub fn is_item(net: net_model::Network, flow: [u32; 512]) -> bool
         &balances[..n],
         &flow[..m],
     )
-}
-
-// Prices in 32 bits.
-fn narrow(prices: [i64; 64]) -> [i32; 64]
-    requires { ⌜ ((v : ℕ) → v < 64 → Bounded 64000000 (getD prices v (pos 0))) ⌝ }
-    ensures { λ r. ⌜ r ≡ prices ⌝ }
-{
-    let mut r = [0i32; 64];
-    for v in 0..64usize {
-        let x = prices[v];
-        r[v] = x as i32;
-    }
-    r
 }
 
 impl Enumerator {
@@ -224,14 +209,14 @@ impl Enumerator {
         let ups = net.ups;
         let costs = net.costs;
         let flow = self.flow;
-        narrow(flow_prices::prices(
+        flow_prices::prices(
             &tails[..m],
             &heads[..m],
             &lows[..m],
             &ups[..m],
             &costs[..m],
             &flow[..m],
-        ))
+        )
     }
 
     // How many items there are; one more than the cap if there are more than the cap.

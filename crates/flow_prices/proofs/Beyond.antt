@@ -21,5 +21,5 @@ module _ (N : Net) (f : List ℕ) (ok : WellFormed N) (d : List ℤ) (P : PriceL
       empty x (a ∷ cs) w e = absurd (omega (arith, dst-below (nodes N) (costed N) (ok .tail-in) (ok .head-in) a (w .0), w .2))
 
       go : Dec (v < 64) → getD d v (pos 0) ≡ pos 0
-      go (yes n) = let (x, cs, w, e) = P .walked v n in empty x cs w e
-      go (no n) = List·getD-eq-default d (pos 0) {n = v} (omega (arith, P .len))
+      go (yes n) = let (x, cs, w, e) = P .labels .walked v n in empty x cs w e
+      go (no n) = List·getD-eq-default d (pos 0) {n = v} (omega (arith, P .labels .len))

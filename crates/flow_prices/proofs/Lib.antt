@@ -1,4 +1,4 @@
 mod Shorten
+mod LabelBounds
 pub mod Pricing
-pub mod Potentials
 pub mod Beyond

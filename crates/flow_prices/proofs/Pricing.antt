@@ -2,7 +2,7 @@
 use mathlib.Core.Path.{_≡_, refl, sym, subst, _∙_}
 use mathlib.Core.Bool.{Bool, true, false, cond}
 use mathlib.Core.List.{List, [], _∷_}
-use Prim.Native.Nat.{ℕ, zero, suc, _+_, _*_, _≤_, _<_}
+use Prim.Native.Nat.{ℕ, zero, suc, _+_, _≤_, _<_}
 use native.Mathlib.Omega.{arith}
 use native.Mathlib.Numerals.{add-one}
 use lib.ListN.{length, getD, set}
@@ -12,82 +12,78 @@ use Rattle.laws.specs.Linear.{lin, given, given2}
 use Rattle.laws.specs.Tests.{and-true}
 use Rattle.laws.specs.Store.{set-cases}
 use Rattle.net_model.specs.Network.{Net, WellFormed, nodes}
-use Rattle.net_model.specs.Residual.{codes, src, dst, Walk, walkCost, Price, CodeWalk}
+use Rattle.net_model.specs.Residual.{codes, src, dst, Walk, walkCost, Price}
 use Rattle.net_model.proofs.Rises.{rise}
 use Rattle.net_theory.specs.Graph.{costed}
 use Rattle.net_theory.specs.ResidualCapacity.{hasCapacity}
 use Rattle.net_theory.proofs.Codes.{src-below, src-in, dst-in}
-use Rattle.net_theory.proofs.ResidualCapacity.{hasCapacity-walk, walk-hasCapacity}
-use Rattle.flow_relax.specs.Labels.{Relaxable, State, state, label, offer, better, relaxed, relaxedAll, Sized}
+use Rattle.net_theory.proofs.ResidualCapacity.{hasCapacity-usable, walk-hasCapacity}
+use Rattle.flow_relax.specs.Labels.{Relaxable, State, state, label, offer, better, relaxed, relaxedAll}
 use Rattle.flow_relax.specs.Potentials.{HasPotential}
 use Rattle.flow_relax.proofs.Balances.{cost-whole}
-use Rattle.flow_relax.proofs.Rounds.{AtMost, all-length, zeros-at-most, zeros-sized, left-at-most, left-sized, left-unchanged}
-use Rattle.flow_prices.specs.Prices.{PriceLabels}
+use Rattle.flow_relax.proofs.Rounds.{AtMost, one-falls, one-length, zeros-at-most, left-at-most, left-unchanged}
+use Rattle.flow_prices.specs.Prices.{WalkLabels, PriceLabels}
 use Rattle.flow_prices.proofs.Shorten.{shorten}
 
--- each label is the cost of a walk
-abbrev Walked : Net → List ℕ → List ℤ → Type 0
-Walked N f d = (v : ℕ) → v < 64 → (u : ℕ) × (cs : List ℕ) × CodeWalk N (hasCapacity N f 1) u v cs × (walkCost N cs ≡ getD d v (pos 0))
-
-pub record Pricing (N : Net) (f : List ℕ) (d : List ℤ) (p : List ℕ) (k : ℕ) : Type 0 where
+pub record Pricing (N : Net) (f : List ℕ) (d : List ℤ) (k : ℕ) : Type 0 where
   pub upto : k ≤ 64
-  pub sized : Sized (1024000000 * k) d p
   pub at-most : AtMost N f 1 k d
-  pub walked : Walked N f d
+  pub labels : WalkLabels N f d
 
 module _ (N : Net) (f : List ℕ) (ok : Relaxable N f) where
-  one-walked : (s : State) (c : ℕ) → c < codes N → length (s .labels) ≡ 64 → Walked N f (s .labels) → Walked N f (relaxed N f 1 c s .labels)
-  one-walked s c h len w = go (better N f 1 c s) refl
+  -- a code offers the cost of a walk one arc longer
+  offered : (s : State) (c : ℕ) → c < codes N → hasCapacity N f 1 c ≡ true → (u : ℕ) × (cs : List ℕ) × Walk N f u (src N c) cs × (walkCost N cs ≡ label s (src N c))
+      → (u : ℕ) × (cs : List ℕ) × Walk N f u (dst N c) cs × (walkCost N cs ≡ offer N c s)
+  offered s c h r (u, cs, w, e) = (u, c ∷ cs, (h, hasCapacity-usable N f 1 c (omega arith) r, refl, w), given e (simp lin (omega arith)))
+
+  -- one code keeps labels the costs of walks, and so do the first r
+  pub one-walks : (s : State) (c : ℕ) → c < codes N → WalkLabels N f (s .labels) → WalkLabels N f (relaxed N f 1 c s .labels)
+  one-walks s c h W = record {
+    len = one-length N f ok 1 s c h (W .len);
+    at-most-0 = λ v. given2 (one-falls N f ok 1 s c h (W .len) v) (W .at-most-0 v) (simp lin (omega arith));
+    walked = go (better N f 1 c s) refl;
+  }
     where
-      offered : hasCapacity N f 1 c ≡ true → (u : ℕ) × (cs : List ℕ) × CodeWalk N (hasCapacity N f 1) u (src N c) cs × (walkCost N cs ≡ label s (src N c))
-          → (u : ℕ) × (cs : List ℕ) × CodeWalk N (hasCapacity N f 1) u (dst N c) cs × (walkCost N cs ≡ offer N c s)
-      offered r (u, cs, t, e) = (u, c ∷ cs, (h, r, refl, t), given e (simp lin (omega arith)))
-
-      go : (t : Bool) → better N f 1 c s ≡ t → Walked N f (cond t (set (s .labels) (dst N c) (offer N c s)) (s .labels))
+      go : (t : Bool) → better N f 1 c s ≡ t → (v : ℕ) → v < 64 → (u : ℕ) × (cs : List ℕ) × Walk N f u v cs × (walkCost N cs ≡ getD (cond t (set (s .labels) (dst N c) (offer N c s)) (s .labels)) v (pos 0))
       go true e =
-          set-cases (λ j z. j < 64 → (u : ℕ) × (cs : List ℕ) × CodeWalk N (hasCapacity N f 1) u j cs × (walkCost N cs ≡ z)) (s .labels) (dst N c) (offer N c s) (pos 0) (omega (arith, dst-in N (ok .ends) c h))
-          (λ _. offered (and-true (hasCapacity N f 1 c) _ e .0) (w (src N c) (src-in N (ok .ends) c h))) (λ j q l. w j l)
-      go false e = w
+          set-cases (λ j z. j < 64 → (u : ℕ) × (cs : List ℕ) × Walk N f u j cs × (walkCost N cs ≡ z)) (s .labels) (dst N c) (offer N c s) (pos 0) (omega (arith, dst-in N (ok .ends) c h, W .len))
+          (λ _. offered s c h (and-true (hasCapacity N f 1 c) _ e .0) (W .walked (src N c) (src-in N (ok .ends) c h))) (λ j q l. W .walked j l)
+      go false e = W .walked
 
-  all-walked : (s : State) → length (s .labels) ≡ 64 → Walked N f (s .labels) → (r : ℕ) → r ≤ codes N → Walked N f (relaxedAll N f 1 r s .labels)
+  pub all-walks : (s : State) → WalkLabels N f (s .labels) → (r : ℕ) → r ≤ codes N → WalkLabels N f (relaxedAll N f 1 r s .labels)
   unfolding relaxedAll
-  all-walked s len w zero h = w
-  all-walked s len w (suc r) h = one-walked (relaxedAll N f 1 r s) r h (all-length N f ok 1 s len r (omega arith)) (all-walked s len w r (omega arith))
+  all-walks s W zero h = W
+  all-walks s W (suc r) h = one-walks (relaxedAll N f 1 r s) r h (all-walks s W r (omega arith))
 
-  pub pricing-start : (d : List ℤ) (p : List ℕ) → length d ≡ 64 → length p ≡ 64 → ((v : ℕ) → getD d v (pos 0) ≡ pos 0) → Pricing N f d p 0
-  pricing-start d p dl pl zeros = record {
+  pub pricing-start : (d : List ℤ) → length d ≡ 64 → ((v : ℕ) → getD d v (pos 0) ≡ pos 0) → Pricing N f d 0
+  pricing-start d dl zeros = record {
     upto = omega arith;
-    sized = zeros-sized d zeros p dl pl;
     at-most = zeros-at-most d zeros N f 1;
-    walked = λ v h. (v, [], refl, sym (zeros v));
+    labels = record { len = dl; at-most-0 = λ v. rw (zeros v) (simp lin (omega arith)); walked = λ v h. (v, [], refl, sym (zeros v)) };
   }
 
-  module _ (d : List ℤ) (p : List ℕ) (k : ℕ) (S : Pricing N f d p k) (d′ : List ℤ) (p′ : List ℕ) (last : ℕ)
-      (e : state d′ p′ last ≡ relaxedAll N f 1 (codes N) (state d p 64)) where
-    pub pricing-more : k < 64 → Pricing N f d′ p′ (k + 1)
+  module _ (d : List ℤ) (k : ℕ) (S : Pricing N f d k) (d′ : List ℤ) (last : ℕ) (e : state d′ [] last ≡ relaxedAll N f 1 (codes N) (state d [] 64)) where
+    pub pricing-more : k < 64 → Pricing N f d′ (k + 1)
     pricing-more h = rw add-one (record {
       upto = h;
-      sized = left-sized N f ok 1 d p (S .sized .labels-len) d′ p′ last e k (S .sized);
-      at-most = left-at-most N f ok 1 d p (S .sized .labels-len) d′ p′ last e k (S .at-most);
-      walked = subst (λ (s : State). Walked N f (s .labels)) (sym e) (all-walked (state d p 64) (S .sized .labels-len) (S .walked) (codes N) (omega arith));
+      at-most = left-at-most N f ok 1 d [] (S .labels .len) d′ [] last e k (S .at-most);
+      labels = subst (λ (s : State). WalkLabels N f (s .labels)) (sym e) (all-walks (state d [] 64) (S .labels) (codes N) (omega arith));
     })
 
     -- a round that changed nothing: no walk costs less
     pub prices-unchanged : last ≡ 64 → PriceLabels N f d′
     prices-unchanged q =
-        let (b, c) = left-unchanged N f ok 1 d p (S .sized .labels-len) d′ p′ last e q in
+        let (b, c) = left-unchanged N f ok 1 d [] (S .labels .len) d′ [] last e q in
         subst (PriceLabels N f) (sym b) (record {
-          len = S .sized .labels-len;
-          walked = λ v h. (let (u, cs, t, e) = S .walked v h in (u, cs, hasCapacity-walk N f 1 (omega arith) u v cs t, e));
+          labels = S .labels;
           least = λ u v cs h w.
               given2 (rise N (hasCapacity N f 1) (λ v. getD d v (pos 0)) c u v cs (walk-hasCapacity N f u v cs w)) (S .at-most u u [] (omega arith) refl) (simp lin (omega arith));
         })
 
   -- after 64 rounds no walk costs less, however long
-  pub prices-all : (d : List ℤ) (p : List ℕ) → Pricing N f d p 64 → HasPotential N f 1 → PriceLabels N f d
-  prices-all d p S q = record {
-    len = S .sized .labels-len;
-    walked = λ v h. (let (u, cs, t, e) = S .walked v h in (u, cs, hasCapacity-walk N f 1 (omega arith) u v cs t, e));
+  pub prices-all : (d : List ℤ) → Pricing N f d 64 → HasPotential N f 1 → PriceLabels N f d
+  prices-all d S q = record {
+    labels = S .labels;
     least = λ u v cs h w. (let r = shorten N f 1 (ok .ends) (q .potential) (q .feasible) u v cs h (walk-hasCapacity N f u v cs w) in
         given2 (S .at-most u v (r .walk) (omega (arith, r .few)) (r .leads)) (r .costs) (simp lin (omega arith)));
   }
@@ -101,7 +97,7 @@ module _ (N : Net) (f : List ℕ) (ok : WellFormed N) where
 
   pub labels-price : nodes N ≤ 64 → (d : List ℤ) → PriceLabels (costed N) f d → (v : ℕ) → v < nodes N → Price N f v (getD d v (pos 0))
   labels-price few d P v k =
-      let (x, cs, w, e) = P .walked v (omega arith) in
+      let (x, cs, w, e) = P .labels .walked v (omega arith) in
       record {
         from = x;
         walk = cs;

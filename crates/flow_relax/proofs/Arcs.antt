@@ -1,6 +1,6 @@
 -- Both codes of an arc relaxed, as the code reads them off the arc.
 use mathlib.Core.Path.{_≡_}
-use mathlib.Core.Bool.{_&&_}
+use mathlib.Core.Bool.{Bool, _&&_}
 use mathlib.Core.List.{List}
 use Prim.Native.Nat.{ℕ, suc, _+_}
 use lib.Dec.{leb}
@@ -12,10 +12,10 @@ use Rattle.net_model.specs.Network.{Net, tail, head, low, up, cost}
 use Rattle.flow_relax.specs.Labels.{State, label, setIf, relaxed}
 
 module _ (N : Net) (f : List ℕ) (δ a : ℕ) (s : State) where
-  pub forward : (x : ℤ) → x ≡ cost N a
-      → setIf (leb (getD f a 0 + δ) (up N a) && ltZ (label s (tail N a) +ℤ x) (label s (head N a))) (head N a) (label s (tail N a) +ℤ x) (a + a) s ≡ relaxed N f δ (a + a) s
-  forward x e = rw (e, even-code a, even-arc a)
+  pub forward : (on : Bool) (x : ℤ) → on ≡ leb (getD f a 0 + δ) (up N a) → x ≡ cost N a
+      → setIf (on && ltZ (label s (tail N a) +ℤ x) (label s (head N a))) (head N a) (label s (tail N a) +ℤ x) (a + a) s ≡ relaxed N f δ (a + a) s
+  forward on x t e = rw (t, e, even-code a, even-arc a)
 
-  pub backward : (x : ℤ) (k : ℕ) → x ≡ negℤ (cost N a) → k ≡ suc (a + a)
-      → setIf (leb (low N a + δ) (getD f a 0) && ltZ (label s (head N a) +ℤ x) (label s (tail N a))) (tail N a) (label s (head N a) +ℤ x) k s ≡ relaxed N f δ (suc (a + a)) s
-  backward x k e q = rw (e, q, odd-code a, odd-arc a)
+  pub backward : (on : Bool) (x : ℤ) (k : ℕ) → on ≡ leb (low N a + δ) (getD f a 0) → x ≡ negℤ (cost N a) → k ≡ suc (a + a)
+      → setIf (on && ltZ (label s (head N a) +ℤ x) (label s (tail N a))) (tail N a) (label s (head N a) +ℤ x) k s ≡ relaxed N f δ (suc (a + a)) s
+  backward on x k t e q = rw (t, e, q, odd-code a, odd-arc a)

@@ -1,6 +1,8 @@
 pub mod StepCosts
-mod Sums
-mod Arcs
+pub mod Sums
+pub mod Tried
+pub mod Arcs
+pub mod ArcLimits
 pub mod Accepted
 pub mod Balances
 pub mod Rounds

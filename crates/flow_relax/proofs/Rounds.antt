@@ -49,7 +49,7 @@ module _ (N : Net) (f : List ℕ) (ok : Relaxable N f) (δ : ℕ) where
     long : dst N c < length (s .labels)
     long = omega (arith, dst-in N (ok .ends) c h)
 
-    one-falls : (w : ℕ) → label (relaxed N f δ c s) w ≤ℤ label s w
+    pub one-falls : (w : ℕ) → label (relaxed N f δ c s) w ≤ℤ label s w
     one-falls w = go (better N f δ c s) refl
       where
         go : (t : Bool) → better N f δ c s ≡ t → getD (cond t (set (s .labels) (dst N c) (offer N c s)) (s .labels)) w (pos 0) ≤ℤ label s w
@@ -65,7 +65,7 @@ module _ (N : Net) (f : List ℕ) (ok : Relaxable N f) (δ : ℕ) where
         go true e = rw (r, e, getD-set-same (s .labels) (dst N c) (offer N c s) (pos 0) long) (simp lin (omega arith))
         go false e = rw (r, e) (ltZ-false (offer N c s) (label s (dst N c)) e)
 
-    one-length : length (relaxed N f δ c s .labels) ≡ 64
+    pub one-length : length (relaxed N f δ c s .labels) ≡ 64
     one-length = go (better N f δ c s)
       where
         go : (t : Bool) → length (cond t (set (s .labels) (dst N c) (offer N c s)) (s .labels)) ≡ 64
@@ -77,7 +77,7 @@ module _ (N : Net) (f : List ℕ) (ok : Relaxable N f) (δ : ℕ) where
     abbrev after : ℕ → State
     after r = relaxedAll N f δ r s
 
-    pub all-length : (r : ℕ) → r ≤ codes N → length (after r .labels) ≡ 64
+    all-length : (r : ℕ) → r ≤ codes N → length (after r .labels) ≡ 64
     unfolding relaxedAll
     all-length zero h = len
     all-length (suc r) h = one-length (after r) r h (all-length r (omega arith))
@@ -109,6 +109,11 @@ module _ (N : Net) (f : List ℕ) (ok : Relaxable N f) (δ : ℕ) where
     round-at-most k m u v (c ∷ cs) h (a, b, e, w) =
         subst (λ x. label (after (codes N)) x ≤ℤ (stepCost N c +ℤ walkCost N cs)) e
         (given2 (all-offers (codes N) (omega arith) c a b) (m u (src N c) cs (omega arith) w) (simp lin (omega arith)))
+
+  -- an arc more
+  pub arc-more : (s t r : State) (a : ℕ) → t ≡ relaxedAll N f δ (a + a) s → r ≡ relaxed N f δ (suc (a + a)) (relaxed N f δ (a + a) t) → r ≡ relaxedAll N f δ (a + 1 + (a + 1)) s
+  unfolding relaxedAll
+  arc-more s t r a e q = let k : a + 1 + (a + 1) ≡ suc (suc (a + a)) = omega arith in rw k (q ∙ ap (λ (x : State). relaxed N f δ (suc (a + a)) (relaxed N f δ (a + a) x)) e)
 
   -- whether anything changed, from a start with last = 64
   data Changed (d₀ : List ℤ) (r : ℕ) (s : State) : Type 0 where

@@ -20,7 +20,8 @@ pub record Relaxable (N : Net) (f : List ℕ) : Type 0 where
   pub costs : SmallCosts N
   pub within : InBounds N f
 
--- the labels of the nodes, the code that gave each its label (65535: none), and the node whose label fell last (64: none)
+-- the labels of the nodes, the code that gave each its label (65535: none; [] for a search that keeps no such codes), and the node whose label fell
+-- last (64: none)
 pub record State : Type 0 where
   pub labels : List ℤ
   pub preds : List ℕ

@@ -1,22 +1,23 @@
 use borrow.Author.Needs.{needs}
-use mathlib.Core.Path.{_≡_, sym, ap, subst, _∙_}
+use mathlib.Core.Path.{_≡_, refl, sym, ap, subst, _∙_}
 use mathlib.Core.Bool.{_&&_}
 use mathlib.Core.List.{[]}
-use Prim.Native.Nat.{ℕ, _+_, _<_, _≤_}
+use Prim.Native.Nat.{ℕ, _+_, _<_}
 use native.Mathlib.Omega.{arith}
 use lib.Dec.{leb}
 use lib.ListN.{length, getD}
 use lib.IntN.{ℤ, pos, negℤ, _+ℤ_, _-ℤ_}
 use lib.Signed.{ltZ}
 use mir.Syntax.{w32, w64}
-use mir.Val.{SFits, toZ, ofZ}
+use mir.Val.{toZ, ofZ}
 use mir.Facts.{toZ-ofZ}
-use Rattle.laws.specs.Linear.{lin}
-use Rattle.laws.specs.Range.{Bounded, bounded-add, bounded-neg, bounded-fits}
+use Rattle.laws.specs.Range.{bounded-neg}
 use Rattle.net_model.specs.Network.{Net}
 use Rattle.net_theory.specs.Graph.{netWith}
-use Rattle.flow_relax.specs.Labels.{Relaxable, State, state, label, setIf, relaxed, Sized}
+use Rattle.flow_relax.specs.Labels.{State, state, label, setIf, relaxed, Sized}
+use Rattle.flow_relax.proofs.Sums.{small-sum, negative-fits, negative-is}
 use Rattle.flow_relax.proofs.Rounds.{one-sized}
+use Rattle.flow_relax.proofs.ArcLimits.{ArcLimits, arc-limits}
 use Rattle.flow_relax.proofs.Arcs.{forward, backward}
 use Rattle.flow_relax.proofs.relax_arc.Statement.{statement}
 use Rattle.flow_relax.proofs.relax_arc.Tie as tie
@@ -40,26 +41,8 @@ module _ (s : tie.Start) where
   abbrev net : Net
   net = netWith [] (s .args .tails .now) (s .args .heads .now) (s .args .lows .now) (s .args .ups .now) (s .args .costs .now)
 
-  ok : Relaxable net (s .args .flow .now)
-  ok = s .pre .0
-
-  inside : s .args .a < length (s .args .tails .now)
-  inside = s .pre .2
-
-  tail-in : getD (s .args .tails .now) (s .args .a) 0 < 64
-  tail-in = ok .ends .tail-in (s .args .a) inside
-
-  head-in : getD (s .args .heads .now) (s .args .a) 0 < 64
-  head-in = ok .ends .head-in (s .args .a) inside
-
-  cost-small : Bounded 1000000 (getD (s .args .costs .now) (s .args .a) (pos 0))
-  cost-small = ok .costs .cost-small (s .args .a) inside
-
-  flow-small : getD (s .args .flow .now) (s .args .a) 0 ≤ 1000000
-  flow-small = omega (arith, ok .within .below (s .args .a) inside, ok .bounds .ups-small (s .args .a) inside)
-
-  low-small : getD (s .args .lows .now) (s .args .a) 0 ≤ 1000000
-  low-small = omega (arith, ok .within .above (s .args .a) inside, flow-small)
+  limits : ArcLimits net (s .args .flow .now) (s .args .a)
+  limits = arc-limits net (s .args .flow .now) (s .pre .0) (s .args .a) (s .pre .2)
 
   at-label : {v : ℕ} → v < 64 → v < length (s .args .labels .now)
   at-label h = omega (arith, s .pre .1 .labels-len)
@@ -67,23 +50,16 @@ module _ (s : tie.Start) where
   at-pred : {v : ℕ} → v < 64 → v < length (s .args .preds .now)
   at-pred h = omega (arith, s .pre .1 .preds-len)
 
-fits : {B : ℕ} {x y : ℤ} → B ≤ 91000000000 → Bounded B x → Bounded 1000000 y → SFits w64 (x +ℤ y)
-fits {B} l h k = bounded-fits w64 (B + 1000000) _ (bounded-add h k) (omega arith)
-
-minus-small : {x : ℤ} → Bounded 1000000 x → Bounded 1000000 (pos 0 -ℤ x)
-minus-small {x} h = bounded-add {A = 0} {B = 1000000} {x = pos 0} {y = negℤ x} (omega arith) (bounded-neg h)
-
 -- the cost, widened
 cost-read : (c : tie.After-to-i64) → toZ w64 (ofZ w64 (c .to-i64 .result)) ≡ getD (start c .args .costs .now) (start c .args .a) (pos 0)
 cost-read c = toZ-ofZ {w = w64} (record { sfits = c .to-i64 .ok }) ∙ c .to-i64 .ensures ∙ toZ-ofZ {w = w32} (record { sfits = c .before .to-i64-arg .given })
 
+-- and its negative
 abbrev minus-read : tie.After-to-i64 → ℤ
 minus-read c = toZ w64 (ofZ w64 (pos 0 -ℤ toZ w64 (ofZ w64 (c .to-i64 .result))))
 
-minus-is : (c : tie.After-to-i64) → minus-read c ≡ pos 0 -ℤ getD (start c .args .costs .now) (start c .args .a) (pos 0)
-minus-is c =
-    toZ-ofZ {w = w64} (subst (λ z. SFits w64 (pos 0 -ℤ z)) (sym (cost-read c)) (bounded-fits w64 1000000 _ (minus-small (cost-small (start c))) (omega arith)))
-    ∙ ap (λ z. pos 0 -ℤ z) (cost-read c)
+minus-is : (c : tie.After-to-i64) → minus-read c ≡ negℤ (getD (start c .args .costs .now) (start c .args .a) (pos 0))
+minus-is c = negative-is w64 1000000 (omega arith) (c .to-i64 .result) _ (cost-read c) (limits (start c) .cost-small)
 
 -- after the first call
 module _ (r : tie.After-relax) where
@@ -94,12 +70,12 @@ module _ (r : tie.After-relax) where
   begun = state (entry .args .labels .now) (entry .args .preds .now) (entry .args .last)
 
   forth : state (r .relax .last .0) (r .relax .last .1 .0) (r .relax .result) ≡ relaxed (net entry) (entry .args .flow .now) (entry .args .need) (entry .args .a + entry .args .a) begun
-  forth = r .relax .ensures ∙ forward (net entry) (entry .args .flow .now) (entry .args .need) (entry .args .a) begun _ (cost-read (cost-at r))
+  forth = r .relax .ensures ∙ forward (net entry) (entry .args .flow .now) (entry .args .need) (entry .args .a) begun _ _ refl (cost-read (cost-at r))
 
   sized : Sized 65537000000 (r .relax .last .0) (r .relax .last .1 .0)
   sized =
       subst (λ (S : State). Sized 65537000000 (S .labels) (S .preds)) (sym forth)
-      (one-sized (net entry) (entry .args .flow .now) (ok entry) (entry .args .need) 65536000000 begun (entry .args .a + entry .args .a) (omega (arith, inside entry)) (entry .pre .1))
+      (one-sized (net entry) (entry .args .flow .now) (entry .pre .0) (entry .args .need) 65536000000 begun (entry .args .a + entry .args .a) (omega (arith, entry .pre .2)) (entry .pre .1))
 
   in-labels : {v : ℕ} → v < 64 → v < length (r .relax .last .0)
   in-labels h = omega (arith, sized .labels-len)
@@ -108,34 +84,34 @@ module _ (r : tie.After-relax) where
   in-preds h = omega (arith, sized .preds-len)
 
 cast-t : tie.Need-cast-t
-cast-t c = omega (arith, tail-in (begin c))
+cast-t c = omega (arith, limits (begin c) .tail-in)
 
 cast-h : tie.Need-cast-h
-cast-h c = omega (arith, head-in (begin (c .before)))
+cast-h c = omega (arith, limits (begin (c .before)) .head-in)
 
 add-forward : tie.Need-add-forward
-add-forward c = let s = start (c .before) in omega (arith, flow-small s, s .pre .3)
+add-forward c = let s = start (c .before) in omega (arith, limits s .flow-small, s .pre .3)
 
 relax-requires : tie.Need-relax-requires
 relax-requires c κs =
     let w = c .before .before .before .before in
     let s = start w in
-    (at-label s (tail-in s), at-label s (head-in s), at-pred s (head-in s), rw (cost-read w) (fits (omega arith) (s .pre .1 .small _ (tail-in s)) (cost-small s)))
+    (at-label s (limits s .tail-in), at-label s (limits s .head-in), at-pred s (limits s .head-in), rw (cost-read w) (small-sum w64 (s .pre .1 .small _ (limits s .tail-in)) (limits s .cost-small) (omega arith)))
 
 add-backward : tie.Need-add-backward
-add-backward c = let s = entry (c .before .before .before .before) in omega (arith, low-small s, s .pre .3)
+add-backward c = let s = entry (c .before .before .before .before) in omega (arith, limits s .low-small, s .pre .3)
 
 sub-relax : tie.Need-sub-relax
-sub-relax c = let r = first-call c in rw (cost-read (cost-at r)) (bounded-fits w64 1000000 _ (minus-small (cost-small (entry r))) (omega arith))
+sub-relax c = let r = first-call c in negative-fits w64 1000000 (omega arith) (cost-at r .to-i64 .result) _ (cost-read (cost-at r)) (limits (entry r) .cost-small)
 
 relax-requires-2 : tie.Need-relax-requires-2
 relax-requires-2 c κs =
     let r = first-call c in
     let s = entry r in (
-      in-labels r (head-in s),
-      in-labels r (tail-in s),
-      in-preds r (tail-in s),
-      rw (minus-is (cost-at r)) (fits (omega arith) (sized r .small _ (head-in s)) (minus-small (cost-small s))),
+      in-labels r (limits s .head-in),
+      in-labels r (limits s .tail-in),
+      in-preds r (limits s .tail-in),
+      rw (minus-is (cost-at r)) (small-sum w64 (sized r .small _ (limits s .head-in)) (bounded-neg (limits s .cost-small)) (omega arith)),
     )
 
 returns : tie.Need-returns
@@ -148,8 +124,8 @@ returns c =
     let y = minus-read (cost-at r) in
     q .relax2 .ensures
     ∙ ap (λ (S : State). setIf (leb (getD (s .args .lows .now) (s .args .a) 0 + s .args .need) (getD (s .args .flow .now) (s .args .a) 0) && ltZ (label S h +ℤ y) (label S t)) t (label S h +ℤ y) (s .args .a + s .args .a + 1) S) (forth r)
-    ∙ backward (net s) (s .args .flow .now) (s .args .need) (s .args .a) (relaxed (net s) (s .args .flow .now) (s .args .need) (s .args .a + s .args .a) (begun r)) y (s .args .a + s .args .a + 1)
-    (minus-is (cost-at r) ∙ simp lin (omega arith)) (omega arith)
+    ∙ backward (net s) (s .args .flow .now) (s .args .need) (s .args .a) (relaxed (net s) (s .args .flow .now) (s .args .need) (s .args .a + s .args .a) (begun r)) _ y (s .args .a + s .args .a + 1)
+    refl (minus-is (cost-at r)) (omega arith)
 
 pub relax-arc-spec : {M : Type 1} → statement M
 relax-arc-spec =

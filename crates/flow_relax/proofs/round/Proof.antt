@@ -1,12 +1,12 @@
 use mathlib.Core.Path.{_≡_, refl, sym, ap, subst, _∙_}
 use mathlib.Core.List.{[]}
-use Prim.Native.Nat.{suc, _+_, _-_, _≤_}
+use Prim.Native.Nat.{_+_, _-_, _≤_}
 use native.Mathlib.Omega.{arith}
 use lib.ListN.{length}
 use Rattle.net_model.specs.Network.{Net}
 use Rattle.net_theory.specs.Graph.{netWith}
-use Rattle.flow_relax.specs.Labels.{State, state, relaxed, relaxedAll, Sized}
-use Rattle.flow_relax.proofs.Rounds.{all-sized, sized-more}
+use Rattle.flow_relax.specs.Labels.{State, state, relaxedAll, Sized}
+use Rattle.flow_relax.proofs.Rounds.{all-sized, sized-more, arc-more}
 use Rattle.flow_relax.proofs.round.Statement.{statement}
 use Rattle.flow_relax.proofs.round.Tie as tie
 
@@ -38,16 +38,11 @@ relax-arc-requires : tie.Need-relax-arc-requires Inv-loop μ-loop
 relax-arc-requires c κs = let l = c .before .before .before in (entry l .pre .0, sized l, omega arith, entry l .pre .2)
 
 loop-again : tie.Need-loop-again Inv-loop μ-loop
-unfolding relaxedAll
 loop-again c =
     let r = c .before .before .before in
     let l = r .before .before .before .before in
     let s = entry l in
-    let e : l .loop .a + 1 + (l .loop .a + 1) ≡ suc (suc (l .loop .a + l .loop .a)) = omega arith in (
-      omega arith,
-      rw e (r .relax-arc .ensures
-          ∙ ap (λ (S : State). relaxed (net s) (s .args .flow .now) (s .args .need) (suc (l .loop .a + l .loop .a)) (relaxed (net s) (s .args .flow .now) (s .args .need) (l .loop .a + l .loop .a) S)) (l .loop .inv .1)),
-    )
+    (omega arith, arc-more (net s) (s .args .flow .now) (s .pre .0) (s .args .need) (state (s .args .labels .now) (s .args .preds .now) 64) _ _ (l .loop .a) (l .loop .inv .1) (r .relax-arc .ensures))
 
 same-length : tie.Need-same-length Inv-loop μ-loop
 same-length c = sized (c .before) .labels-len ∙ sym (entry (c .before) .pre .1 .labels-len)

@@ -1,12 +1,9 @@
 use borrow.Author.Needs.{needs}
-use mathlib.Core.Path.{_≡_, sym, subst}
+use mathlib.Core.Path.{_≡_, sym}
 use Prim.Native.Nat.{_≤_}
 use native.Mathlib.Omega.{arith}
 use lib.ListN.{length}
 use lib.Seq.{length-take-le}
-use Rattle.net_theory.specs.Graph.{costed}
-use Rattle.flow_prices.proofs.Potentials.{labels-small}
-use Rattle.flow_enumerate.specs.Enumerator.{stateNet, stateFlow, PriceArray}
 use Rattle.flow_enumerate.proofs.Held.{few, in-tails, in-heads, in-lows, in-ups, in-costs}
 use Rattle.flow_enumerate.proofs.Standing.{relaxable-on, has-potential-on, prices-on}
 use Rattle.flow_enumerate.proofs.Enumerator.prices.Statement.{statement}
@@ -28,16 +25,8 @@ slice-aggregate-prices-6 c = let s = begin c in sym (length-take-le (s .args .se
 prices-requires : tie.Need-prices-requires
 prices-requires c κs = let s = begin c in (relaxable-on (s .args .self) (s .pre .0) (s .pre .1), has-potential-on (s .args .self) (s .pre .0) (s .pre .1))
 
-narrow-requires : tie.Need-narrow-requires
-narrow-requires c κs =
-    let s = begin (c .before) in
-    labels-small (costed (stateNet (s .args .self))) (stateFlow (s .args .self)) (relaxable-on (s .args .self) (s .pre .0) (s .pre .1)) (c .prices .result) (c .prices .ensures)
-
 returns : tie.Need-returns
-returns c =
-    let p = c .before .prices in
-    let s = begin (c .before .before) in
-    subst (PriceArray (stateNet (s .args .self)) (stateFlow (s .args .self))) (sym (c .narrow .ensures)) (prices-on (s .args .self) (s .pre .0) (p .result) (p .ensures))
+returns c = let s = begin (c .before) in prices-on (s .args .self) (s .pre .0) (c .prices .result) (c .prices .ensures)
 
 pub prices-spec : {M : Type 1} → statement M
 prices-spec =
@@ -46,4 +35,4 @@ prices-spec =
     (λ c. in-lows _ (unpacked (c .before .before) .pre .0 .sound)) (λ c. search needs)
     (λ c. in-ups _ (unpacked (c .before .before .before) .pre .0 .sound)) (λ c. search needs)
     (λ c. in-costs _ (unpacked (c .before .before .before .before) .pre .0 .sound)) (λ c. search needs)
-    (λ c. in-flow (unpacked (c .before .before .before .before .before))) slice-aggregate-prices-6 prices-requires narrow-requires returns)
+    (λ c. in-flow (unpacked (c .before .before .before .before .before))) slice-aggregate-prices-6 prices-requires returns)
