@@ -5,31 +5,49 @@ use mathlib.Core.Bool.{Bool, true, false}
 use mathlib.Core.List.{List, [], _∷_, _++_, map}
 use native.Mathlib.Omega.{arith}
 use lib.ListN.{length, length-append, length-map, length-drop, take, drop, getD, set, replicate}
-use lib.Seq.{set-at, append-snoc, getD-drop, length-take-le, take-all, take-append-le}
+use lib.Seq.{set-at, append-snoc, length-take-le, take-all, take-append-le}
 use lib.Dec.{leb}
 use borrow.Author.Tests.{leb-true, leb-false}
 use Rattle.book_lines.specs.declared.entries.EntryLine.{EntryLine}
 use Rattle.book_lines.specs.declared.entries.Columns.{Columns}
-use Rattle.text_read.specs.Reader.{fails, give}
-use Rattle.book_lines.specs.Lines.{Entry, entry}
+use Rattle.text_read.specs.Reader.{fails, give, row, _<|>_, ReadsFront, RowRead}
+use Rattle.text_read.specs.Heads.{nameEnd}
+use Rattle.book_lines.specs.Lines.{Entry, shortForm, longForm, bothSame, entryFrom, entry}
 use Rattle.book_lines.specs.Questions.{fairEntry, entries, firstBad}
 use Rattle.book_lines.specs.Columns.{column}
 use Rattle.book_lines.specs.Passes.{firstBadAfter, entryOf, noEntry, EntryRead, fairLine, putIn, columnsOf}
 use Rattle.laws.specs.Suffix.{take-rest}
 use Rattle.laws.specs.Snoc.{map-more}
 use Rattle.text_read.proofs.Runs.{absent}
-use Rattle.text_read.proofs.Sequence.{From, all-read, part}
+use Rattle.text_read.proofs.Sequence.{From, all-read, mapped, part}
+use Rattle.text_read.proofs.Alternatives.{first-form, second-form}
 use Rattle.book_lines.proofs.FirstBad.{first-bad-more}
+
+-- The numbers behind a name, in the short form: the last three of four places, with the second put before them.
+same-put : (l : List ℕ) → length l ≡ 4 → set l 0 (getD l 1 0) ≡ bothSame (drop 1 l)
+same-put [] e = absurd (omega arith)
+same-put (a ∷ []) e = absurd (omega arith)
+same-put (a ∷ b ∷ l) e = refl
+
+pub short-read : (s : List ℕ) {used : ℕ} {numbers : List ℕ} → RowRead s nameEnd 3 used numbers → length numbers ≡ 4 → (used ≡ 0 → ⊥)
+    → ReadsFront s ((shortForm <|> longForm) s) used (set numbers 0 (getD numbers 1 0))
+unfolding shortForm
+short-read s {numbers = numbers} r e z = rw (same-put numbers e) (first-form shortForm longForm s (mapped (row nameEnd 3) bothSame s (r .right)) z)
+
+pub long-read : (s : List ℕ) {used used′ : ℕ} {numbers numbers′ : List ℕ} → RowRead s nameEnd 3 used numbers → used ≡ 0 → RowRead s nameEnd 4 used′ numbers′
+    → ReadsFront s ((shortForm <|> longForm) s) used′ numbers′
+unfolding shortForm longForm
+long-read s r z r′ = second-form shortForm longForm s (mapped (row nameEnd 3) bothSame s (r .right)) z (r′ .right)
 
 -- The line of an entry.
 pub entry-absent : (s : List ℕ) (r : EntryLine) → entry s ≡ fails → r ≡ noEntry → EntryRead s r
 entry-absent s r e z = rw z (record { right = absent e; none = λ _. refl; begins = omega arith; ends = omega arith })
 
 pub entry-present : (s numbers : List ℕ) (n len used : ℕ) → n + len ≤ length s
-    → From (entry s) (give (record { name = take len (part s n); left = length s - n; instrument = getD (drop 1 numbers) 0 0; start = getD (drop 1 numbers) 1 0; finish = getD (drop 1 numbers) 2 0 })) s used
+    → From (entry s) (give (entryFrom (take len (part s n)) (length s - n) numbers)) s used
     → 0 < used
-    → EntryRead s (record { left = length s - n; length = len; instrument = getD numbers 1 0; start = getD numbers 2 0; finish = getD numbers 3 0; used = used })
-entry-present s numbers n len used h f u = record { right = rw (value, ← take-rest s n, ← getD-drop 1 numbers 0 0, ← getD-drop 1 numbers 1 0, ← getD-drop 1 numbers 2 0) (all-read f u); none = λ z. absurd (omega arith); begins = omega arith; ends = omega arith }
+    → EntryRead s (record { left = length s - n; length = len; arrives = getD numbers 0 0; leaves = getD numbers 1 0; start = getD numbers 2 0; finish = getD numbers 3 0; used = used })
+entry-present s numbers n len used h f u = record { right = rw (value, ← take-rest s n) (all-read f u); none = λ z. absurd (omega arith); begins = omega arith; ends = omega arith }
   where
     value : length s - (length s - n) ≡ n
     value = omega arith
@@ -78,11 +96,12 @@ known-entries-more first total done count line bad columns columns′ t r k f pu
     columns-more : length (done ++ (entryOf t r ∷ [])) ≤ 28 → putIn (columnsOf total done) (length done) total r ≡ columnsOf total (done ++ (entryOf t r ∷ []))
     columns-more few =
         let room : length done < 28 = omega (arith, longer) in
-        let e1 = column-more (λ e. e .instrument) done (entryOf t r) (r .instrument) room refl in
-        let e2 = column-more (λ e. e .start) done (entryOf t r) (r .start) room refl in
-        let e3 = column-more (λ e. e .finish) done (entryOf t r) (r .finish) room refl in
-        let e4 = column-more (λ e. total - e .left) done (entryOf t r) (total - r .left) room refl in
-        let e5 = column-more (λ e. length (e .name)) done (entryOf t r) (r .length) room (name-length t r e) in
+        let e1 = column-more (λ e. e .arrives) done (entryOf t r) (r .arrives) room refl in
+        let e2 = column-more (λ e. e .leaves) done (entryOf t r) (r .leaves) room refl in
+        let e3 = column-more (λ e. e .start) done (entryOf t r) (r .start) room refl in
+        let e4 = column-more (λ e. e .finish) done (entryOf t r) (r .finish) room refl in
+        let e5 = column-more (λ e. total - e .left) done (entryOf t r) (total - r .left) room refl in
+        let e6 = column-more (λ e. length (e .name)) done (entryOf t r) (r .length) room (name-length t r e) in
         cc
 
     go : (x : Bool) → leb 28 count ≡ x → columns′ ≡ columnsOf total (take 28 (done ++ (entryOf t r ∷ [])))

@@ -28,6 +28,11 @@ _>>=_ p k s = thenRead (p s) k
 unfoldable pub _>>_ : {A B : Type 0} → Reader A → Reader B → Reader B
 _>>_ p q = p >>= (λ _. q)
 
+infixr 25 _<|>_
+-- the first of two forms that stands there; the second is read from the same rest
+unfoldable pub _<|>_ : {A : Type 0} → Reader A → Reader A → Reader A
+_<|>_ p q s = elim (p s) [ fails ↦ q s | reads a t ↦ reads a t ]
+
 -- nothing is read, and the value is a
 unfoldable pub give : {A : Type 0} → A → Reader A
 give a s = reads a s
