@@ -47,6 +47,10 @@ joinIn t i j =
     let q = getD (t .arrives) (j - 1) 0 in
     joinOf (inTime (linkBy p q (getD (t .ticks) (place p q) 0) (getD (t .costs) (place p q) 0)) (getD (t .finishes) (i - 1) 0) (getD (t .starts) (j - 1) 0))
 
+-- both instruments of entry k are some
+abbrev EndsIn : Tables → ℕ → Type 0
+EndsIn t k = Instruments (getD (t .arrives) (k - 1) 0) (getD (t .leaves) (k - 1) 0)
+
 -- what can be read for it
 pub record CanRead (t : Tables) (i j : ℕ) : Type 0 where
   pub i-small : i ≤ 28
@@ -57,40 +61,32 @@ pub record CanRead (t : Tables) (i j : ℕ) : Type 0 where
   pub leaves-all : length (t .leaves) ≡ 28
   pub starts-all : length (t .starts) ≡ 28
   pub finishes-all : length (t .finishes) ≡ 28
-  pub played : Instruments (getD (t .leaves) (i - 1) 0) (getD (t .arrives) (j - 1) 0)
+  pub i-ends : EndsIn t i
+  pub j-ends : EndsIn t j
   pub finish-in : getD (t .finishes) (i - 1) 0 ≤ 1000000
-  pub ticks-in : getD (t .ticks) (place (getD (t .leaves) (i - 1) 0) (getD (t .arrives) (j - 1) 0)) 0 ≤ 1000001
+  pub ticks-in : (a b : ℕ) → Instruments a b → getD (t .ticks) (place a b) 0 ≤ 1000001
 
-module _ (b : Book) (limits : WithinLimits b) (i j : ℕ) (i-low : 1 ≤ i) (i-high : i ≤ size b) (j-low : 1 ≤ j) (j-high : j ≤ size b) where
-  -- i ends on p, and j begins on q
-  abbrev p : ℕ
-  p = entryAt b i .leaves
-
-  abbrev q : ℕ
-  q = entryAt b j .arrives
-
-  fair-at : (k : ℕ) → 1 ≤ k → k ≤ size b → FairEntry (entryAt b k)
-  fair-at k low high = fair-entry (entryAt b k) (limits .fair-entries (k - 1) (omega arith))
-
-  ends : Instruments p q
-  ends = instruments-in p q (fair-at i i-low i-high .leaves-in) (fair-at j j-low j-high .arrives-in)
-
-  -- the columns at i and at j, and a table at the move from p to q
-  at-i : (f : Entry → ℕ) → getD (column f (b .entries)) (i - 1) 0 ≡ f (entryAt b i)
-  at-i f = column-at f (b .entries) (i - 1) (omega arith)
-
-  at-j : (f : Entry → ℕ) → getD (column f (b .entries)) (j - 1) 0 ≡ f (entryAt b j)
-  at-j f = column-at f (b .entries) (j - 1) (omega arith)
-
-  at-move : (f : Move → ℕ) → getD (table f (b .moves)) (place p q) 0 ≡ valueOf f (moveOf (b .moves) p q)
-  at-move f = table-at p q ends f (b .moves)
-
-  ticks-small : valueOf (λ m. m .ticks + 1) (moveOf (b .moves) p q) ≤ 1000001
-  ticks-small = valueOf-high (λ m. m .ticks + 1) 1000001 (moveOf (b .moves) p q) (λ m e. (let h = fair-parts m (limits .fair-moves p q m e) .ticks-high in omega arith))
-
+module _ (b : Book) (limits : WithinLimits b) where
   column-long : (f : Entry → ℕ) → length (column f (b .entries)) ≡ 28
   column-long f = padded-length 28 0 (map f (b .entries)) (omega (arith, length-map (b .entries) f, limits .few))
 
+  -- entry k
+  module _ (k : ℕ) (low : 1 ≤ k) (high : k ≤ size b) where
+    at : (f : Entry → ℕ) → getD (column f (b .entries)) (k - 1) 0 ≡ f (entryAt b k)
+    at f = column-at f (b .entries) (k - 1) (omega arith)
+
+    fair-at : FairEntry (entryAt b k)
+    fair-at = fair-entry (entryAt b k) (limits .fair-entries (k - 1) (omega arith))
+
+    ends-in : EndsIn (tablesOf b) k
+    ends-in = rw (at (λ e. e .arrives), at (λ e. e .leaves)) (instruments-in _ _ (fair-at .arrives-in) (fair-at .leaves-in))
+
+  ticks-small : (a c : ℕ) → Instruments a c → getD (table (λ m. m .ticks + 1) (b .moves)) (place a c) 0 ≤ 1000001
+  ticks-small a c r =
+      rw (table-at a c r (λ m. m .ticks + 1) (b .moves))
+      (valueOf-high (λ m. m .ticks + 1) 1000001 (moveOf (b .moves) a c) (λ m e. (let h = fair-parts m (limits .fair-moves a c m e) .ticks-high in omega arith)))
+
+module _ (b : Book) (limits : WithinLimits b) (i j : ℕ) (i-low : 1 ≤ i) (i-high : i ≤ size b) (j-low : 1 ≤ j) (j-high : j ≤ size b) where
   can-read-book : CanRead (tablesOf b) i j
   can-read-book =
       record {
@@ -98,14 +94,32 @@ module _ (b : Book) (limits : WithinLimits b) (i j : ℕ) (i-low : 1 ≤ i) (i-h
         j-small = omega (arith, limits .few);
         ticks-all = tabulate-length 256 _;
         costs-all = tabulate-length 256 _;
-        arrives-all = column-long (λ e. e .arrives);
-        leaves-all = column-long (λ e. e .leaves);
-        starts-all = column-long (λ e. e .start);
-        finishes-all = column-long (λ e. e .finish);
-        played = rw (at-i (λ e. e .leaves), at-j (λ e. e .arrives)) ends;
-        finish-in = rw (at-i (λ e. e .finish)) (fair-at i i-low i-high .finish-high);
-        ticks-in = rw (at-i (λ e. e .leaves), at-j (λ e. e .arrives), at-move (λ m. m .ticks + 1)) ticks-small;
+        arrives-all = column-long b limits (λ e. e .arrives);
+        leaves-all = column-long b limits (λ e. e .leaves);
+        starts-all = column-long b limits (λ e. e .start);
+        finishes-all = column-long b limits (λ e. e .finish);
+        i-ends = ends-in b limits i i-low i-high;
+        j-ends = ends-in b limits j j-low j-high;
+        finish-in = rw (at b limits i i-low i-high (λ e. e .finish)) (fair-at b limits i i-low i-high .finish-high);
+        ticks-in = ticks-small b limits;
       }
+
+  -- i ends on p, and j begins on q
+  abbrev p : ℕ
+  p = entryAt b i .leaves
+
+  abbrev q : ℕ
+  q = entryAt b j .arrives
+
+  -- the columns at i and at j, and a table at the move from p to q
+  at-i : (f : Entry → ℕ) → getD (column f (b .entries)) (i - 1) 0 ≡ f (entryAt b i)
+  at-i = at b limits i i-low i-high
+
+  at-j : (f : Entry → ℕ) → getD (column f (b .entries)) (j - 1) 0 ≡ f (entryAt b j)
+  at-j = at b limits j j-low j-high
+
+  at-move : (f : Move → ℕ) → getD (table f (b .moves)) (place p q) 0 ≡ valueOf f (moveOf (b .moves) p q)
+  at-move f = table-at p q (instruments-in p q (fair-at b limits i i-low i-high .leaves-in) (fair-at b limits j j-low j-high .arrives-in)) f (b .moves)
 
   predecessor-cost-apart : ¬ (i ≡ j) → predecessorCost b i j ≡ inTime (link (b .moves) p q) (entryAt b i .finish) (entryAt b j .start)
   predecessor-cost-apart = go i i-low

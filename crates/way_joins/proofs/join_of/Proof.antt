@@ -48,7 +48,8 @@ shared-slice-read-b c = omega (arith, room (c .before .before))
 place-of-requires : tie.Need-place-of-requires
 place-of-requires c κs =
     let else2 : tie.Else2 = search in
-    let p = room else2 .played in (p .source-low, p .source-high, p .target-low, p .target-high)
+    let p = room else2 .i-ends in
+    let q = room else2 .j-ends in (omega (arith, p, q), omega (arith, p, q), omega (arith, p, q), omega (arith, p, q))
 
 mul-join-by : tie.Need-mul-join-by
 mul-join-by c = omega (arith, c .place-of .ensures .1)
@@ -86,7 +87,10 @@ join-by-requires : tie.Need-join-by-requires
 join-by-requires c κs =
     let placed : tie.After-place-of = search in
     let else2 : tie.Else2 = search in
-    let r = room else2 in (rw (placed .place-of .ensures .0) (r .ticks-in), r .finish-in)
+    let r = room else2 in
+    let p = r .i-ends in
+    let q = r .j-ends in
+    (rw (placed .place-of .ensures .0) (r .ticks-in _ _ (record { source-low = omega (arith, p, q); source-high = omega (arith, p, q); target-low = omega (arith, p, q); target-high = omega (arith, p, q) })), r .finish-in)
 
 returns-3 : tie.Need-returns-3
 returns-3 c =
