@@ -1,53 +1,89 @@
 -- The pass over the lines of entries.
-use Prim.Native.Nat.{ℕ, suc, _+_, _-_, _<_, _≤_}
+use Prim.Native.Nat.{ℕ, _+_, _-_, _<_, _≤_}
 use mathlib.Core.Path.{_≡_, refl, sym, ap, _∙_}
 use mathlib.Core.Bool.{Bool, true, false}
 use mathlib.Core.List.{List, [], _∷_, _++_, map}
 use native.Mathlib.Omega.{arith}
-use lib.ListN.{length, length-append, length-map, length-drop, take, drop, getD, set, replicate}
-use lib.Seq.{set-at, append-snoc, length-take-le, take-all, take-append-le}
+use lib.ListN.{length, length-append, length-map, length-drop, take, drop, getD, set}
+use lib.Seq.{length-take-le, take-all, take-append-le}
 use lib.Dec.{leb}
 use borrow.Author.Tests.{leb-true, leb-false}
+use Rattle.text_read.specs.declared.Row.{Row}
 use Rattle.book_lines.specs.declared.entries.EntryLine.{EntryLine}
+use Rattle.book_lines.specs.declared.entries.EntryNumbers.{EntryNumbers}
 use Rattle.book_lines.specs.declared.entries.Columns.{Columns}
-use Rattle.text_read.specs.Reader.{fails, give, row, _<|>_, ReadsFront, RowRead}
+use Rattle.text_read.specs.Reader.{fails, give, row, _<|>_, ReadsFront, NumbersRead}
 use Rattle.text_read.specs.Heads.{nameEnd}
 use Rattle.book_lines.specs.Lines.{Entry, shortForm, longForm, bothSame, entryFrom, entry}
 use Rattle.book_lines.specs.Questions.{fairEntry, entries, firstBad}
 use Rattle.book_lines.specs.Columns.{column}
-use Rattle.book_lines.specs.Passes.{firstBadAfter, entryOf, noEntry, EntryRead, fairLine, putIn, columnsOf}
+use Rattle.book_lines.specs.Passes.{firstBadAfter, numbersOf, entryOf, noEntry, EntryRead, fairLine, putIn, columnsOf}
 use Rattle.laws.specs.Suffix.{take-rest}
+use Rattle.laws.specs.Padded.{padded-more}
 use Rattle.laws.specs.Snoc.{map-more}
 use Rattle.text_read.proofs.Runs.{absent}
 use Rattle.text_read.proofs.Sequence.{From, all-read, mapped, part}
 use Rattle.text_read.proofs.Alternatives.{first-form, second-form}
+use Rattle.text_read.proofs.Rows.{row-front, row-fails, number-at}
 use Rattle.book_lines.proofs.FirstBad.{first-bad-more}
 
--- The numbers behind a name, in the short form: the last three of four places, with the second put before them.
-same-put : (l : List ℕ) → length l ≡ 4 → set l 0 (getD l 1 0) ≡ bothSame (drop 1 l)
-same-put [] e = absurd (omega arith)
-same-put (a ∷ []) e = absurd (omega arith)
-same-put (a ∷ b ∷ l) e = refl
+-- The numbers behind a name.
+module _ {s : List ℕ} {r : Row} (x : NumbersRead s nameEnd r) where
+  abbrev number : ℕ → ℕ
+  number k = getD (r .numbers) k 0
 
-pub short-read : (s : List ℕ) {used : ℕ} {numbers : List ℕ} → RowRead s nameEnd 3 used numbers → length numbers ≡ 4 → (used ≡ 0 → ⊥)
-    → ReadsFront s ((shortForm <|> longForm) s) used (set numbers 0 (getD numbers 1 0))
-unfolding shortForm
-short-read s {numbers = numbers} r e z = rw (same-put numbers e) (first-form shortForm longForm s (mapped (row nameEnd 3) bothSame s (r .right)) z)
+  number-is : (k : ℕ) → number k ≡ getD (x .list) k 0
+  number-is = number-at (x .list) (x .numbers-are)
 
-pub long-read : (s : List ℕ) {used used′ : ℕ} {numbers numbers′ : List ℕ} → RowRead s nameEnd 3 used numbers → used ≡ 0 → RowRead s nameEnd 4 used′ numbers′
-    → ReadsFront s ((shortForm <|> longForm) s) used′ numbers′
-unfolding shortForm longForm
-long-read s r z r′ = second-form shortForm longForm s (mapped (row nameEnd 3) bothSame s (r .right)) z (r′ .right)
+  short-front : {used : ℕ} {l : List ℕ} → ReadsFront s (row nameEnd 3 s) used l → ReadsFront s (shortForm s) used (bothSame l)
+  unfolding shortForm
+  short-front f = mapped (row nameEnd 3) bothSame s f
+
+  no-short : (r .count ≡ 3 → ⊥) → ReadsFront s (shortForm s) 0 []
+  no-short z = absent (short-front (absent {a = []} (row-fails _ _ x 3 (omega arith) (omega arith) z)) .absent refl)
+
+  used-some : 1 ≤ r .count → r .used ≡ 0 → ⊥
+  used-some h z = let e = ap (λ (r : Row). r .count) (x .none z) in omega arith
+
+  pub short-read : r .count ≡ 3 → ReadsFront s ((shortForm <|> longForm) s) (r .used) (number 0 ∷ number 0 ∷ number 1 ∷ number 2 ∷ [])
+  short-read e =
+      rw (number-is 0, number-is 1, number-is 2, ← three (x .list) (sym (x .count-is) ∙ e))
+      (first-form shortForm longForm s (short-front (row-front _ _ x 3 (omega arith) (omega arith) e)) (used-some (omega arith)))
+    where
+      three : (l : List ℕ) → length l ≡ 3 → bothSame l ≡ getD l 0 0 ∷ getD l 0 0 ∷ getD l 1 0 ∷ getD l 2 0 ∷ []
+      three [] e = absurd (omega arith)
+      three (a ∷ []) e = absurd (omega arith)
+      three (a ∷ b ∷ []) e = absurd (omega arith)
+      three (a ∷ b ∷ c ∷ []) e = refl
+      three (a ∷ b ∷ c ∷ d ∷ l) e = absurd (omega arith)
+
+  pub long-read : r .count ≡ 4 → ReadsFront s ((shortForm <|> longForm) s) (r .used) (number 0 ∷ number 1 ∷ number 2 ∷ number 3 ∷ [])
+  unfolding longForm
+  long-read e =
+      rw (number-is 0, number-is 1, number-is 2, number-is 3, ← four (x .list) (sym (x .count-is) ∙ e))
+      (second-form shortForm longForm s (no-short (λ z. omega arith)) refl (row-front _ _ x 4 (omega arith) (omega arith) e))
+    where
+      four : (l : List ℕ) → length l ≡ 4 → l ≡ getD l 0 0 ∷ getD l 1 0 ∷ getD l 2 0 ∷ getD l 3 0 ∷ []
+      four [] e = absurd (omega arith)
+      four (a ∷ []) e = absurd (omega arith)
+      four (a ∷ b ∷ []) e = absurd (omega arith)
+      four (a ∷ b ∷ c ∷ []) e = absurd (omega arith)
+      four (a ∷ b ∷ c ∷ d ∷ []) e = refl
+      four (a ∷ b ∷ c ∷ d ∷ f ∷ l) e = absurd (omega arith)
+
+  pub neither-read : (r .count ≡ 3 → ⊥) → (r .count ≡ 4 → ⊥) → (l : List ℕ) → ReadsFront s ((shortForm <|> longForm) s) 0 l
+  unfolding longForm
+  neither-read z y l = second-form shortForm longForm s (no-short z) refl (absent (row-fails _ _ x 4 (omega arith) (omega arith) y))
 
 -- The line of an entry.
 pub entry-absent : (s : List ℕ) (r : EntryLine) → entry s ≡ fails → r ≡ noEntry → EntryRead s r
 entry-absent s r e z = rw z (record { right = absent e; none = λ _. refl; begins = omega arith; ends = omega arith })
 
-pub entry-present : (s numbers : List ℕ) (n len used : ℕ) → n + len ≤ length s
-    → From (entry s) (give (entryFrom (take len (part s n)) (length s - n) numbers)) s used
+pub entry-present : (s : List ℕ) (n len used : ℕ) (r : EntryNumbers) → n + len ≤ length s
+    → From (entry s) (give (entryFrom (take len (part s n)) (length s - n) (numbersOf r))) s used
     → 0 < used
-    → EntryRead s (record { left = length s - n; length = len; arrives = getD numbers 0 0; leaves = getD numbers 1 0; start = getD numbers 2 0; finish = getD numbers 3 0; used = used })
-entry-present s numbers n len used h f u = record { right = rw (value, ← take-rest s n) (all-read f u); none = λ z. absurd (omega arith); begins = omega arith; ends = omega arith }
+    → EntryRead s (record { left = length s - n; length = len; arrives = r .arrives; leaves = r .leaves; start = r .start; finish = r .finish; used = used })
+entry-present s n len used r h f u = record { right = rw (value, ← take-rest s n) (all-read f u); none = λ z. absurd (omega arith); begins = omega arith; ends = omega arith }
   where
     value : length s - (length s - n) ≡ n
     value = omega arith
@@ -57,13 +93,7 @@ name-length t r e = length-take-le (r .length) (drop (length t - r .left) t) (rw
 
 -- A column with one more entry.
 column-more : (f : Entry → ℕ) (es : List Entry) (e : Entry) (v : ℕ) → length es < 28 → f e ≡ v → set (column f es) (length es) v ≡ column f (es ++ (e ∷ []))
-column-more f es e v h q =
-    ap (λ (k : ℕ). set (map f es ++ replicate k 0) (length es) v) left
-    ∙ set-at (map f es) 0 (replicate (28 - length (map f (es ++ (e ∷ [])))) 0) v (length es) (length-map es f)
-    ∙ rw (map-more f es e, append-snoc, q)
-  where
-    left : 28 - length (map f es) ≡ suc (28 - length (map f (es ++ (e ∷ []))))
-    left = omega (arith, length-map es f, length-map (es ++ (e ∷ [])) f, length-append es (e ∷ []))
+column-more f es e v h q = rw (map-more f es e, q, ← length-map es f) (padded-more 28 0 (map f es) v (rw length-map h))
 
 -- What the loop of `read_entries` knows after the lines `done`.
 pub record KnownEntries (first total : ℕ) (done : List Entry) (count line bad : ℕ) (columns : Columns) : Type 0 where

@@ -9,6 +9,7 @@ use Rattle.text_read.specs.Reader.{reads, many, ReadsFront}
 use Rattle.book_lines.specs.declared.moves.Move.{Move}
 use Rattle.book_lines.specs.declared.moves.Moves.{Moves}
 use Rattle.book_lines.specs.declared.entries.EntryLine.{EntryLine}
+use Rattle.book_lines.specs.declared.entries.EntryNumbers.{EntryNumbers}
 use Rattle.book_lines.specs.declared.entries.Columns.{Columns}
 use Rattle.book_lines.specs.declared.entries.Entries.{Entries}
 use Rattle.book_lines.specs.Lines.{move, Entry, entry}
@@ -48,6 +49,10 @@ pub record MovesRead (s : List ℕ) (r : Moves) : Type 0 where
   pub bad : r .bad ≡ firstBad 4 (moves [] list)
   pub ticks : r .ticks ≡ table (λ m. m .ticks + 1) (kept [] list)
   pub costs : r .costs ≡ table (λ m. m .cost) (kept [] list)
+
+-- A B S F
+abbrev pub numbersOf : EntryNumbers → List ℕ
+numbersOf r = r .arrives ∷ r .leaves ∷ r .start ∷ r .finish ∷ []
 
 -- the entry that a line of s tells of
 abbrev pub entryOf : List ℕ → EntryLine → Entry

@@ -1,9 +1,8 @@
 // The lines of entries: question 15, and the columns that they make.
 use crate::verdict::first_bad;
 use crate::verdict::is_instrument;
-use text_read::Row;
 use text_read::heads;
-use text_read::read_row;
+use text_read::read_numbers;
 use text_read::read_text;
 use text_read::read_word;
 ghost use mathlib.Core.Path.{_≡_};
@@ -11,7 +10,7 @@ ghost use Prim.Native.Nat.{_+_, _≤_, _<_};
 ghost use lib.ListN.{length};
 ghost use Rattle.text_read.specs.Reader.{_<|>_, ReadsFront};
 ghost use Rattle.book_lines.specs.Lines.{shortForm, longForm};
-ghost use Rattle.book_lines.specs.Passes.{noEntry, EntryRead, fairLine, putIn, EntriesRead};
+ghost use Rattle.book_lines.specs.Passes.{numbersOf, noEntry, EntryRead, fairLine, putIn, EntriesRead};
 
 // The line of an entry, of either form: a join arrives at the first instrument, and leaves from the second. `left` is how many bytes of `rest`
 // are left where the name begins.
@@ -23,6 +22,15 @@ pub struct EntryLine {
     pub start: u32,
     pub finish: u32,
     pub used: usize,
+}
+
+// The numbers of an entry, of either form.
+struct EntryNumbers {
+    arrives: u32,
+    leaves: u32,
+    start: u32,
+    finish: u32,
+    used: usize,
 }
 
 pub struct Columns {
@@ -56,19 +64,36 @@ fn no_entry() -> EntryLine
     }
 }
 
-// The numbers behind a name, A B S F. The short form, which has one number for both instruments, is tried first.
-fn read_numbers(rest: &[u8]) -> Row
-    ensures { λ r. ⌜ ReadsFront (now (rest .entry)) ((shortForm <|> longForm) (now (rest .entry))) (r .used) (r .numbers) ⌝ }
+// The numbers behind a name: three are the short form, whose first number stands for both instruments, and four the long form.
+fn read_form(rest: &[u8]) -> EntryNumbers
+    ensures { λ r. ⌜ ReadsFront (now (rest .entry)) ((shortForm <|> longForm) (now (rest .entry))) (r .used) (numbersOf r) ⌝ }
 {
-    let short = read_row(rest, &heads::NAME_END, 3);
-    if short.used == 0 {
-        return read_row(rest, &heads::NAME_END, 4);
+    let r = read_numbers(rest, &heads::NAME_END);
+    let n = r.numbers;
+    if r.count == 3 {
+        return EntryNumbers {
+            arrives: n[0],
+            leaves: n[0],
+            start: n[1],
+            finish: n[2],
+            used: r.used,
+        };
     }
-    let mut numbers = short.numbers;
-    numbers[0] = numbers[1];
-    Row {
-        numbers,
-        used: short.used,
+    if r.count == 4 {
+        return EntryNumbers {
+            arrives: n[0],
+            leaves: n[1],
+            start: n[2],
+            finish: n[3],
+            used: r.used,
+        };
+    }
+    EntryNumbers {
+        arrives: 0,
+        leaves: 0,
+        start: 0,
+        finish: 0,
+        used: 0,
     }
 }
 
@@ -85,19 +110,18 @@ fn read_entry(rest: &[u8]) -> EntryLine
         return no_entry();
     }
     let at = n1 + length;
-    let r = read_numbers(&rest[at..]);
-    let n3 = r.used;
+    let n = read_form(&rest[at..]);
+    let n3 = n.used;
     if n3 == 0 {
         return no_entry();
     }
-    let n = r.numbers;
     EntryLine {
         left: rest.len() - n1,
         length,
-        arrives: n[0],
-        leaves: n[1],
-        start: n[2],
-        finish: n[3],
+        arrives: n.arrives,
+        leaves: n.leaves,
+        start: n.start,
+        finish: n.finish,
         used: at + n3,
     }
 }
