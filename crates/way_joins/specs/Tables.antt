@@ -2,12 +2,11 @@
 -- as one bundle.
 use mathlib.Core.Path.{_≡_}
 use mathlib.Core.List.{List}
-use Prim.Native.Nat.{ℕ, _+_}
-use Rattle.book_lines.specs.Columns.{table, column}
+use Prim.Native.Nat.{ℕ}
 use Rattle.book_form.specs.declared.CheckedBook.{CheckedBook}
 use Rattle.book_form.specs.Book.{Book}
+use Rattle.book_form.specs.Checked.{checkedOf}
 use Rattle.book_form.specs.WithinLimits.{WithinLimits}
-use Rattle.way_theory.specs.Follow.{size}
 
 pub record Tables : Type 0 where
   pub fee : ℕ
@@ -27,19 +26,9 @@ tablesWith fee count ticks costs arrives leaves starts finishes =
 abbrev pub tablesIn : CheckedBook → Tables
 tablesIn s = tablesWith (s .fee) (s .count) (s .ticks) (s .costs) (s .arrives) (s .leaves) (s .starts) (s .finishes)
 
--- those of a book
+-- those of a book; how many bytes it has, here 0, bears on none of them
 abbrev pub tablesOf : Book → Tables
-tablesOf b =
-    record {
-      fee = b .fee;
-      count = size b;
-      ticks = table (λ m. m .ticks + 1) (b .moves);
-      costs = table (λ m. m .cost) (b .moves);
-      arrives = column (λ e. e .arrives) (b .entries);
-      leaves = column (λ e. e .leaves) (b .entries);
-      starts = column (λ e. e .start) (b .entries);
-      finishes = column (λ e. e .finish) (b .entries);
-    }
+tablesOf b = tablesIn (checkedOf 0 b)
 
 -- t are those of the book b, which is within its limits
 pub record TablesOf (b : Book) (t : Tables) : Type 0 where
