@@ -1,5 +1,5 @@
 -- The rest of a line: its numbers one after another, and what a loop knows that reads them.
-use Prim.Native.Nat.{ℕ, suc, _+_, _-_, _<_, _≤_}
+use Prim.Native.Nat.{ℕ, zero, suc, _+_, _-_, _<_, _≤_}
 use mathlib.Core.Path.{_≡_, refl, sym, ap, subst, _∙_}
 use mathlib.Core.Bool.{Bool, true, false, cond}
 use mathlib.Core.List.{List, [], _∷_, _++_, append-assoc, append-nil}
@@ -12,8 +12,8 @@ use Rattle.text_read.specs.declared.Row.{Row}
 use Rattle.text_read.specs.Reader.{Parsed, fails, reads, Reader, thenRead, _>>=_, _>>_, give, begins, text, number, row, ReadsFront, noRow, NumbersRead, RowRead}
 use Rattle.text_read.specs.Heads.{bytes, space, lineEnd}
 use Rattle.text_read.proofs.Runs.{absent}
-use Rattle.text_read.proofs.Leaves.{not-read}
-use Rattle.text_read.proofs.Sequence.{From, part, begin, first, first-stops, next-right, stops, all-read}
+use Rattle.text_read.proofs.Leaves.{not-read, both}
+use Rattle.text_read.proofs.Sequence.{From, part, then-reads, then-fails, begin, first, first-stops, next-right, stops, all-read}
 
 -- what stands behind a head or a space: a number, and m more
 abbrev numbersFrom : ℕ → Reader (List ℕ)
@@ -62,6 +62,25 @@ no-space (b ∷ s) e = go (eqb b 41) refl
     go : (x : Bool) → eqb b 41 ≡ x → text space (b ∷ s) ≡ fails
     go true h = rw (eqb-true b 41 h)
     go false h = absurd (not-read _ _ (rw (text, h) at e))
+
+-- A line has one count of numbers: where a row stands, none of more numbers does.
+begins-alike : (head : List ℕ) (n m : ℕ) (s : List ℕ) {l t : List ℕ} → ((s l t : List ℕ) → row space n s ≡ reads l t → row space m s ≡ fails) → row head (suc n) s ≡ reads l t
+    → row head (suc m) s ≡ fails
+unfolding row _>>_
+begins-alike head n m s {l} {t} deep e =
+    let a = both (text head) _ s l t e in
+    let b = both number _ (a .rest) l t (a .second) in
+    let c = both (row space n) _ (b .rest) l t (b .second) in
+    then-reads (text head) _ s (a .first) ∙ then-reads number _ (a .rest) (b .first) ∙ then-fails (row space m) _ (b .rest) (deep (b .rest) (c .value) (c .rest) (c .first))
+
+no-longer : (n m : ℕ) → n < m → (s l t : List ℕ) → row space n s ≡ reads l t → row space m s ≡ fails
+unfolding row _>>_
+no-longer n zero h s l t e = absurd (omega arith)
+no-longer zero (suc m) h s l t e = then-fails (text space) _ s (no-space s (both (text lineEnd) _ s l t e .first))
+no-longer (suc n) (suc m) h s l t e = begins-alike space n m s (no-longer n m (omega arith)) e
+
+pub one-count : (head : List ℕ) (n m : ℕ) → n < m → (s : List ℕ) {l t : List ℕ} → row head (suc n) s ≡ reads l t → row head (suc m) s ≡ fails
+one-count head n m h s e = begins-alike head n m s (no-longer n m h) e
 
 module _ (head s : List ℕ) where
   -- The numbers d are read, and a number is to follow at byte `at`: no row has as few, and each longer one goes on there.

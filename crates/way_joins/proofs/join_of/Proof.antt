@@ -97,9 +97,7 @@ returns-3 c =
     let placed : tie.After-place-of = search in
     let t : tie.Else2 = search in
     let s = start t in
-    record {
-      each = λ b T. c .join-by .ensures ∙ rw (placed .place-of .ensures .0) (join-told b (lent s) T _ _ (t .before .if1 .left) (s .pre .1) (s .pre .2) (s .pre .3) (t .if2 .left));
-    }
+    record { each = λ b T. rw (c .join-by .ensures, placed .place-of .ensures .0) (join-told b (lent s) T _ _ (t .before .if1 .left) (s .pre .1) (s .pre .2) (s .pre .3) (t .if2 .left)) }
 
 pub join-of-spec : {M : Type 1} → statement M
 join-of-spec =
