@@ -1,5 +1,4 @@
 -- `way_joins::join_of` meets its contract: what is looked up is that of each book with these tables.
-use mathlib.Core.Path.{_∙_}
 use native.Mathlib.Omega.{arith}
 use borrow.Author.Needs.{needs}
 use Rattle.way_joins.specs.Tables.{Tables, tablesWith}
