@@ -1,17 +1,15 @@
 -- The form of a book as it stood before request 5 of 02, with short forms alone. What kept it is read as it was, each entry on one instrument.
 use Prim.Native.Nat.{ℕ}
 use mathlib.Core.Path.{_≡_, refl, ap, subst, _∙_}
-use mathlib.Core.Bool.{Bool, true, false}
 use mathlib.Core.Option.{Option, some}
 use mathlib.Core.List.{List, [], _∷_}
-use lib.Dec.{eqb}
-use borrow.Author.Tests.{eqb-true}
 use Rattle.laws.specs.Members.{Every, none-some}
-use Rattle.text_read.specs.Reader.{Parsed, fails, reads, Reader, _>>=_, _>>_, _<|>_, give, remaining, begins, text, word, many}
+use Rattle.text_read.specs.Reader.{Parsed, fails, reads, Reader, _>>=_, _>>_, _<|>_, give, remaining, text, word, many}
 use Rattle.text_read.specs.Heads.{bytes, lineEnd, entryHead}
-use Rattle.text_read.proofs.Leaves.{not-read, reads-same, both, many-read}
+use Rattle.text_read.proofs.Leaves.{reads-same, both, many-read}
 use Rattle.text_read.proofs.Sequence.{then-fails}
 use Rattle.text_read.proofs.Alternatives.{first-reads}
+use Rattle.text_read.proofs.Rows.{not-at-end}
 use Rattle.text_read.proofs.Wider.{Wider, then-wider, many-wider}
 use Rattle.book_lines.specs.Lines.{move, Entry, shortForm, longForm, bothSame, entryFrom, entry}
 use Rattle.book_lines.proofs.EntryNames.{entry-named}
@@ -52,13 +50,8 @@ entry-wider =
 
 -- no entry stands where the book is closed
 closed : (s : List ℕ) {a : Unit {0}} {t : List ℕ} → text lineEnd s ≡ reads a t → entry s ≡ fails
-unfolding entry text begins bytes _>>_
-closed [] e = absurd (not-read _ _ e)
-closed (b ∷ s) e = go (eqb b 41) refl
-  where
-    go : (x : Bool) → eqb b 41 ≡ x → entry (b ∷ s) ≡ fails
-    go true h = then-fails (text entryHead) _ (b ∷ s) (rw (eqb-true b 41 h))
-    go false h = absurd (not-read _ _ (rw (text, h) at e))
+unfolding entry bytes _>>_
+closed s e = then-fails (text entryHead) _ s (not-at-end 40 _ s refl e)
 
 book-wider : Wider oldBook book
 unfolding oldBook book _>>_
@@ -67,7 +60,7 @@ book-wider =
     (λ o. then-wider (many move) (many move) _ _ (λ s a t e. e)
     (λ ms. many-wider oldEntry entry entry-wider _ (λ es s b t e. closed s (both (text lineEnd) _ s b t e .first))))
 
--- whatever was read is read, and so is each of its entries
+-- each entry that was read is on one instrument
 one-instrument : (s : List ℕ) (e : Entry) (t : List ℕ) → oldEntry s ≡ reads e t → OneInstrument e
 unfolding oldEntry shortForm give _>>_
 one-instrument s e t h =

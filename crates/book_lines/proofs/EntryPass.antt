@@ -4,17 +4,15 @@ use mathlib.Core.Path.{_≡_, refl, sym, ap, _∙_}
 use mathlib.Core.Bool.{Bool, true, false}
 use mathlib.Core.List.{List, [], _∷_, _++_, map}
 use native.Mathlib.Omega.{arith}
-use lib.ListN.{length, length-append, length-map, length-drop, take, drop, getD, set}
+use lib.ListN.{length, length-append, length-map, length-drop, take, drop, set}
 use lib.Seq.{length-take-le, take-all, take-append-le}
 use lib.Dec.{leb}
 use borrow.Author.Tests.{leb-true, leb-false}
-use Rattle.text_read.specs.declared.Row.{Row}
 use Rattle.book_lines.specs.declared.entries.EntryLine.{EntryLine}
 use Rattle.book_lines.specs.declared.entries.EntryNumbers.{EntryNumbers}
 use Rattle.book_lines.specs.declared.entries.Columns.{Columns}
-use Rattle.text_read.specs.Reader.{fails, give, row, _<|>_, ReadsFront, NumbersRead}
-use Rattle.text_read.specs.Heads.{nameEnd}
-use Rattle.book_lines.specs.Lines.{Entry, shortForm, longForm, bothSame, entryFrom, entry}
+use Rattle.text_read.specs.Reader.{fails, give}
+use Rattle.book_lines.specs.Lines.{Entry, entryFrom, entry}
 use Rattle.book_lines.specs.Questions.{fairEntry, entries, firstBad}
 use Rattle.book_lines.specs.Columns.{column}
 use Rattle.book_lines.specs.Passes.{firstBadAfter, numbersOf, entryOf, noEntry, EntryRead, fairLine, putIn, columnsOf}
@@ -22,58 +20,8 @@ use Rattle.laws.specs.Suffix.{take-rest}
 use Rattle.laws.specs.Padded.{padded-more}
 use Rattle.laws.specs.Snoc.{map-more}
 use Rattle.text_read.proofs.Runs.{absent}
-use Rattle.text_read.proofs.Sequence.{From, all-read, mapped, part}
-use Rattle.text_read.proofs.Alternatives.{first-form, second-form}
-use Rattle.text_read.proofs.Rows.{row-front, row-fails, number-at}
+use Rattle.text_read.proofs.Sequence.{From, all-read, part}
 use Rattle.book_lines.proofs.FirstBad.{first-bad-more}
-
--- The numbers behind a name.
-module _ {s : List ℕ} {r : Row} (x : NumbersRead s nameEnd r) where
-  abbrev number : ℕ → ℕ
-  number k = getD (r .numbers) k 0
-
-  number-is : (k : ℕ) → number k ≡ getD (x .list) k 0
-  number-is = number-at (x .list) (x .numbers-are)
-
-  short-front : {used : ℕ} {l : List ℕ} → ReadsFront s (row nameEnd 3 s) used l → ReadsFront s (shortForm s) used (bothSame l)
-  unfolding shortForm
-  short-front f = mapped (row nameEnd 3) bothSame s f
-
-  no-short : (r .count ≡ 3 → ⊥) → ReadsFront s (shortForm s) 0 []
-  no-short z = absent (short-front (absent {a = []} (row-fails _ _ x 3 (omega arith) (omega arith) z)) .absent refl)
-
-  used-some : 1 ≤ r .count → r .used ≡ 0 → ⊥
-  used-some h z = let e = ap (λ (r : Row). r .count) (x .none z) in omega arith
-
-  pub short-read : r .count ≡ 3 → ReadsFront s ((shortForm <|> longForm) s) (r .used) (number 0 ∷ number 0 ∷ number 1 ∷ number 2 ∷ [])
-  short-read e =
-      rw (number-is 0, number-is 1, number-is 2, ← three (x .list) (sym (x .count-is) ∙ e))
-      (first-form shortForm longForm s (short-front (row-front _ _ x 3 (omega arith) (omega arith) e)) (used-some (omega arith)))
-    where
-      three : (l : List ℕ) → length l ≡ 3 → bothSame l ≡ getD l 0 0 ∷ getD l 0 0 ∷ getD l 1 0 ∷ getD l 2 0 ∷ []
-      three [] e = absurd (omega arith)
-      three (a ∷ []) e = absurd (omega arith)
-      three (a ∷ b ∷ []) e = absurd (omega arith)
-      three (a ∷ b ∷ c ∷ []) e = refl
-      three (a ∷ b ∷ c ∷ d ∷ l) e = absurd (omega arith)
-
-  pub long-read : r .count ≡ 4 → ReadsFront s ((shortForm <|> longForm) s) (r .used) (number 0 ∷ number 1 ∷ number 2 ∷ number 3 ∷ [])
-  unfolding longForm
-  long-read e =
-      rw (number-is 0, number-is 1, number-is 2, number-is 3, ← four (x .list) (sym (x .count-is) ∙ e))
-      (second-form shortForm longForm s (no-short (λ z. omega arith)) refl (row-front _ _ x 4 (omega arith) (omega arith) e))
-    where
-      four : (l : List ℕ) → length l ≡ 4 → l ≡ getD l 0 0 ∷ getD l 1 0 ∷ getD l 2 0 ∷ getD l 3 0 ∷ []
-      four [] e = absurd (omega arith)
-      four (a ∷ []) e = absurd (omega arith)
-      four (a ∷ b ∷ []) e = absurd (omega arith)
-      four (a ∷ b ∷ c ∷ []) e = absurd (omega arith)
-      four (a ∷ b ∷ c ∷ d ∷ []) e = refl
-      four (a ∷ b ∷ c ∷ d ∷ f ∷ l) e = absurd (omega arith)
-
-  pub neither-read : (r .count ≡ 3 → ⊥) → (r .count ≡ 4 → ⊥) → (l : List ℕ) → ReadsFront s ((shortForm <|> longForm) s) 0 l
-  unfolding longForm
-  neither-read z y l = second-form shortForm longForm s (no-short z) refl (absent (row-fails _ _ x 4 (omega arith) (omega arith) y))
 
 -- The line of an entry.
 pub entry-absent : (s : List ℕ) (r : EntryLine) → entry s ≡ fails → r ≡ noEntry → EntryRead s r

@@ -53,15 +53,19 @@ after-one d v p s = go (p s)
     go fails = refl
     go (reads a t) = ap (λ l. reads l t) (sym (append-assoc d (v ∷ []) a))
 
--- no space stands where a line ends
-no-space : (s : List ℕ) {a : Unit {0}} {t : List ℕ} → text lineEnd s ≡ reads a t → text space s ≡ fails
+-- where a line ends, no text stands that begins with another byte than `)`
+pub not-at-end : (a : ℕ) (w s : List ℕ) {x : Unit {0}} {t : List ℕ} → eqb 41 a ≡ false → text lineEnd s ≡ reads x t → text (a ∷ w) s ≡ fails
 unfolding text begins bytes
-no-space [] e = absurd (not-read _ _ e)
-no-space (b ∷ s) e = go (eqb b 41) refl
+not-at-end a w [] n e = absurd (not-read _ _ e)
+not-at-end a w (b ∷ s) n e = go (eqb b 41) refl
   where
-    go : (x : Bool) → eqb b 41 ≡ x → text space (b ∷ s) ≡ fails
-    go true h = rw (eqb-true b 41 h)
+    go : (x : Bool) → eqb b 41 ≡ x → text (a ∷ w) (b ∷ s) ≡ fails
+    go true h = rw (text, eqb-true b 41 h, n)
     go false h = absurd (not-read _ _ (rw (text, h) at e))
+
+no-space : (s : List ℕ) {x : Unit {0}} {t : List ℕ} → text lineEnd s ≡ reads x t → text space s ≡ fails
+unfolding bytes
+no-space s e = not-at-end 32 [] s refl e
 
 -- A line has one count of numbers: where a row stands, none of more numbers does.
 begins-alike : (head : List ℕ) (n m : ℕ) (s : List ℕ) {l t : List ℕ} → ((s l t : List ℕ) → row space n s ≡ reads l t → row space m s ≡ fails) → row head (suc n) s ≡ reads l t

@@ -1,7 +1,7 @@
 -- `book_lines::entries::read_form` meets its contract: the count of numbers decides the form.
 use borrow.Author.Needs.{needs}
 use Rattle.text_read.specs.Heads.{bytes}
-use Rattle.book_lines.proofs.EntryPass.{short-read, long-read, neither-read}
+use Rattle.book_lines.proofs.Forms.{short-read, long-read, neither-read}
 use Rattle.book_lines.proofs.entries.read_form.Statement.{statement}
 use Rattle.book_lines.proofs.entries.read_form.Tie as tie
 
