@@ -23,7 +23,7 @@ static void write_facts(const Book &b, const std::string &file) {
     for (int i = 1; i <= 16; i++)
         for (int j = 1; j <= 16; j++)
             if (b.ticks[i][j] >= 0) fact("move", {i, j, b.ticks[i][j], b.costs[i][j]});
-    for (size_t k = 0; k < b.entries.size(); k++) fact("entry", {int(k) + 1, b.entries[k].instrument, b.entries[k].start, b.entries[k].finish});
+    for (size_t k = 0; k < b.entries.size(); k++) fact("entry", {int(k) + 1, b.entries[k].arrives, b.entries[k].leaves, b.entries[k].start, b.entries[k].finish});
 }
 
 struct Answer {

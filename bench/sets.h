@@ -4,17 +4,17 @@
 #include <cstdlib>
 
 // Seed by seed from 1, the books that have a way.
-inline std::vector<Book> books(int bars, int dearest, size_t most, int entries = 28) {
+inline std::vector<Book> books(int bars, int dearest, size_t most, int entries = 28, int elsewhere = 0) {
     std::vector<Book> set;
     for (uint64_t seed = 1; set.size() < most; seed++)
-        if (Book b = random_book(seed, bars, dearest, entries); LentBook(b).first().code == DESK_OK) set.push_back(b);
+        if (Book b = random_book(seed, bars, dearest, entries, elsewhere); LentBook(b).first().code == DESK_OK) set.push_back(b);
     return set;
 }
 
 // The books of these seeds, each with more than 65,535 ways.
-inline std::vector<Book> long_books(int bars, int dearest, std::initializer_list<uint64_t> seeds) {
+inline std::vector<Book> long_books(int bars, int dearest, std::initializer_list<uint64_t> seeds, int elsewhere = 0) {
     std::vector<Book> set;
-    for (uint64_t seed : seeds) set.push_back(random_book(seed, bars, dearest));
+    for (uint64_t seed : seeds) set.push_back(random_book(seed, bars, dearest, 28, elsewhere));
     for (const Book &b : set)
         if (LentBook(b).count(65535).code != DESK_MORE) abort();
     return set;
@@ -53,11 +53,12 @@ struct Named { const char *what; std::vector<Book> books; };
 
 // Movements of 28 entries.
 inline std::vector<Named> movements(size_t most) {
-    return {{"28-entry books", books(42, 3, most)}, {"the same, entries that overlap", books(14, 3, most)}, {"the first, with sticks to change", with_sticks(books(42, 3, most))}};
+    return {{"28-entry books", books(42, 3, most)}, {"the same, entries that overlap", books(14, 3, most)}, {"the first, with sticks to change", with_sticks(books(42, 3, most))},
+        {"28-entry books, half the entries end elsewhere", books(42, 3, most, 28, 50)}};
 }
 
 // Movements of 28 entries with more than 65,535 ways.
 inline std::vector<Named> long_movements() {
     return {{"28-entry books", long_books(42, 3, {51, 80, 342})}, {"the same, entries that overlap", long_books(14, 3, {3, 4, 17})}, {"the same, moves that tie", long_books(28, 1, {18, 40, 51})},
-        {"a book whose moves all tie", {level_book(28, 8)}}, {"a book whose ways all tie", {level_book(28, 8, true)}}};
+        {"28-entry books, half the entries end elsewhere", long_books(42, 3, {9, 27, 31}, 50)}, {"a book whose moves all tie", {level_book(28, 8)}}, {"a book whose ways all tie", {level_book(28, 8, true)}}};
 }

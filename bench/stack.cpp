@@ -49,6 +49,7 @@ int main() {
     Most most;
     std::vector<Book> set = books(42, 3, 20);
     set.push_back(level_book(28, 8));
+    for (const Book &b : books(42, 3, 5, 28, 50)) set.push_back(b);       // with entries that end elsewhere
     for (const Book &b : set) {
         LentBook book(b);
         std::vector<uint8_t> to(book.way.size());

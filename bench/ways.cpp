@@ -110,7 +110,7 @@ static void questions() {
     auto pair = [&](int k, const std::string &rest) { return move(k / 16 % 16 + 1, k % 16 + 1, rest); };
     std::string accepted = head;
     for (int k = 0; k < 256; k++) accepted += pair(k, "1000000 1000000");
-    for (int k = 0; k < 28; k++) accepted += entry(word, "16 999999 1000000");
+    for (int k = 0; k < 28; k++) accepted += entry(word, "15 16 999999 1000000");
     accepted += end;
     const struct { const char *what; std::string text; uint32_t number; } all[] = {
         {"the longest that is accepted", accepted, 0}, {"entries, as many as fit", filled([&](int) { return entry("a", "1 0 1"); }), 16},

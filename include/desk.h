@@ -11,7 +11,7 @@
 #define DESK_H
 
 /* The version of the library and of the program ways. */
-#define DESK_VERSION "2.3.1"
+#define DESK_VERSION "2.4.0"
 
 #include <stddef.h>
 #include <stdint.h>
@@ -58,11 +58,12 @@ typedef struct {
  *   (players P)              the most players
  *   (fee C)                  the cost of each part
  *   (move A B T C)           any count of these: going from instrument A to B, or staying where they are one, takes T ticks and costs C
- *   (entry (name W) I S F)   any count of these: played on instrument I from tick S to tick F
+ *   (entry (name W) I S F)   any count of these: played on instrument I from tick S to tick F; or (entry (name W) A B S F), which begins on
+ *                            instrument A and ends on B: three numbers or four behind the name say which, and I stands for both A and B
  *   )                        and nothing more
  * A number is 1 to 7 digits without a needless leading 0; W is 1 to 16 of a-z and 0-9. Entries are numbered from 1 to E in book order.
- * Entry j may follow another entry i, at the cost of the move from i's instrument to j's, if there is such a move and F of i + T <= S of j.
- * On one instrument for which no such line stands, T and the cost are 0.
+ * Entry j may follow another entry i, at the cost of the move from the instrument that i ends on to the one that j begins on, if there is
+ * such a move and F of i + T <= S of j. On one instrument for which no such line stands, T and the cost are 0. No entry needs a move of its own.
  * A way is an unsigned 32-bit number an entry: the number of the entry before it, which it may follow, or 0 if it opens a part. No entry is
  * before two, and at most P open a part. A way costs the fee for each part and what its entries cost that follow another.
  * Questions, in this order:
@@ -71,7 +72,7 @@ typedef struct {
  *   13  1 to 8 players, and a fee of at most 1000000
  *   14  every move between instruments from 1 to 16, with ticks and a cost of at most 1000000, and the pair A, B on no earlier line; A and B
  *       may be one
- *   15  every entry on an instrument from 1 to 16, with start < finish <= 1000000
+ *   15  every entry on instruments from 1 to 16, with start < finish <= 1000000
  *   16  at most 28 entries
  *   17  the lent list a multiple of four bytes, with room for E numbers
  *   18  the given list E numbers long, and a least-cost way of the book

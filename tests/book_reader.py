@@ -3,7 +3,7 @@ import re
 
 NUMBER = rb"(?:0|[1-9][0-9]{0,6})"
 MOVE = rb"\(move A A A A\)\n".replace(b"A", NUMBER)
-ENTRY = rb"\(entry \(name [a-z0-9]{1,16}\) A A A\)\n".replace(b"A", NUMBER)
+ENTRY = rb"\(entry \(name [a-z0-9]{1,16}\)(?: A){3,4}\)\n".replace(b"A", NUMBER)
 FORM = re.compile(
     rb"\(book\n\(players (?P<players>A)\)\n\(fee (?P<fee>A)\)\n".replace(b"A", NUMBER)
     + rb"(?P<moves>(?:" + MOVE + rb")*)(?P<entries>(?:" + ENTRY + rb")*)\)\n")
@@ -12,7 +12,7 @@ LONGEST = 16384
 
 
 class Book:
-    """P, the fee, the moves (A, B, T, C), the entries (I, S, F), and where each name begins and ends."""
+    """P, the fee, the moves (A, B, T, C), the entries (A, B, S, F), where A is B in the short form, and where each name begins and ends."""
 
     def __init__(self, form):
         self.players, self.fee = int(form["players"]), int(form["fee"])
@@ -20,7 +20,8 @@ class Book:
         self.entries, self.names, at = [], [], form.start("entries")
         for line in form["entries"].split(b"\n")[:-1]:
             words = line[:-1].split(b" ")
-            self.entries.append(tuple(int(w) for w in words[3:]))
+            *instruments, start, finish = (int(w) for w in words[3:])
+            self.entries.append((instruments[0], instruments[-1], start, finish))
             self.names.append((at + 13, at + 13 + len(words[2]) - 1))
             at += len(line) + 1
 
@@ -40,8 +41,8 @@ def failing(book):
     for k, (a, b, t, c) in enumerate(book.moves, 4):
         if not (1 <= a <= 16 and 1 <= b <= 16 and t <= MILLION and c <= MILLION and (a, b) not in seen): bad[14].append(k)
         seen.add((a, b))
-    for k, (i, s, f) in enumerate(book.entries, 4 + len(book.moves)):
-        if not (1 <= i <= 16 and s < f <= MILLION): bad[15].append(k)
+    for k, (a, b, s, f) in enumerate(book.entries, 4 + len(book.moves)):
+        if not (1 <= a <= 16 and 1 <= b <= 16 and s < f <= MILLION): bad[15].append(k)
     return bad
 
 

@@ -18,7 +18,7 @@ def sheets(text, book, way):
         lines.append(b"(part %d" % n)
         before = None
         for j in part:
-            (_, start, finish), (begin, end) = book.entries[j - 1], book.names[j - 1]
+            (_, _, start, finish), (begin, end) = book.entries[j - 1], book.names[j - 1]
             if before is not None: lines.append(b"(gap %d)" % (start - before))
             lines.append(b"(play (name %s) %d %d)" % (text[begin:end], start, finish))
             before = finish

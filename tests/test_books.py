@@ -6,9 +6,10 @@ import unittest
 import book_reader as reader
 import way_library
 from desk_library import MORE, NONE, OK
-from way_books import EXAMPLE, bad_lines, made, sized
+from way_books import EXAMPLE, bad_lines, made, played, sized
 
 LENT = b"\x55" * 112                   # room for 28 entries
+BOTH = b"(book\n(players 2)\n(fee 6)\n(move 2 1 24 3)\n(entry (name tour) 1 2 0 96)\n(entry (name bells) 1 120 200)\n(entry (name back) 2 1 240 300)\n)\n"
 
 
 class Run:
@@ -89,6 +90,59 @@ def near_misses(run):
     for digits in (b"1000000", b"1000001", b"9999999"): run.check(EXAMPLE.replace(b"(fee 6)", b"(fee %s)" % digits), 0 if digits == b"1000000" else 13)
 
 
+def forms(run):
+    """The two forms of an entry, and what is neither."""
+    run.check(BOTH, 0)
+    head, end = BOTH[:BOTH.index(b"(entry")], b")\n"
+    first, second, third = BOTH[len(head):-2].splitlines(True)
+    for order in itertools.permutations((first, second, third)): run.check(head + b"".join(order) + end, 0)
+    for count in range(4):
+        for lines in itertools.product((first, second), repeat=count): run.check(head + b"".join(lines) + end, 0)
+    # three or four numbers behind the name, alone and between other entries
+    put = lambda line: (head + line + end, head + first + line + second + end)
+    for numbers, code in ((b"", 12), (b" ", 12), (b" 1", 12), (b" 1 2", 12), (b" 1 2 3", 0), (b" 1 2 3 4", 0), (b" 1 2 3 4 5", 12), (b" 1 2 3 4 5 6", 12), (b" 1 2 3 4 5 6 7 8", 12)):
+        for text in put(b"(entry (name x)%s)\n" % numbers): run.check(text, code)
+    # a byte more or another byte at each place between two items, in both forms: before each number and before `)`
+    for numbers in (b" 3 7 9", b" 3 4 7 9"):
+        line = b"(entry (name x)%s)\n" % numbers
+        places = [i for i in range(len(b"(entry (name x)"), len(line) - 1) if line[i] in b" )"]
+        for i in places:
+            for more in (b" ", b"\t", b"\n", b",", b"(", b")", b"x", b"-", b"\0", b" )\n", b")\n"):
+                for text in put(line[:i] + more + line[i:]): run.check(text, 12)
+            for other in (b"  ", b"\t", b"\n", b"\r", b",", b"x", b"\0", b"\xa0"):
+                for text in put(line[:i] + other + line[i + 1:]): run.check(text, 12)
+        for other in (line[:-2] + b"\n", line[:-1], line[:-2], line[:-1] + b" \n", line[:-1] + b")\n", line[:-1] + b"\r\n", line[:-1] + b" " + line, line[:-1] + line, line + b"\n", b" " + line):
+            for text in put(other): run.check(text, 12)
+    # a space missing: a long form may then be a short one, and a short one is none
+    for line, code in ((b"(name x)3 7 9", 12), (b"(name x) 37 9", 12), (b"(name x) 3 79", 12), (b"(name x)3 4 7 9", 12), (b"(name x) 34 7 9", 15), (b"(name x) 3 47 9", 15), (b"(name x) 3 47 90", 0),
+                       (b"(name x) 3 4 79", 0), (b"(namex) 3 4 7 9", 12), (b"(name x 3 4 7 9", 12)):
+        for text, place in zip(put(b"(entry %s)\n" % line), (5, 6)): run.check(text, code, place if code == 15 else 0)
+    # each number of both forms
+    for numbers in ([b"3", b"7", b"9"], [b"3", b"4", b"7", b"9"]):
+        for k in range(len(numbers)):
+            tick = len(numbers) - k                                # 2 is S and 1 is F
+            for other, code in ((b"0", 0 if tick == 2 else 15), (b"8", 0), (b"16", 15 if tick == 2 else 0), (b"17", 0 if tick == 1 else 15), (b"1000000", 0 if tick == 1 else 15), (b"1000001", 15), (b"9999999", 15),
+                                (b"", 12), (b"00", 12), (b"0" + numbers[k], 12), (b"00000000", 12), (b"10000000", 12), (b"12345678", 12), (b"a", 12), (b"3a", 12), (b"a3", 12), (b"-3", 12), (b"+3", 12), (b"3.", 12),
+                                (b"1e1", 12), (b"(3)", 12), (b"\xb2", 12)):
+                for text, place in zip(put(b"(entry (name x) %s)\n" % b" ".join(numbers[:k] + [other] + numbers[k + 1:])), (5, 6)): run.check(text, code, place if code == 15 else 0)
+    # a long form before the moves, between them, before the head's lines and after the end
+    lines = BOTH.splitlines(True)
+    move, rest = lines[3], lines[4:]
+    for text in (b"".join(lines[:3] + [first, move] + rest), b"".join(lines[:3] + [move.replace(b"2 1", b"1 2"), first, move] + rest), b"".join(lines[:3] + [first, move, end]),
+                 *(b"".join(lines[:k] + [first] + lines[k:]) for k in range(3)), BOTH + first, BOTH[:-2] + first): run.check(text, 12)
+    # each byte between two items is another or is more, and the book is cut at every byte
+    for i, b in enumerate(BOTH):
+        if b in b" \n":
+            for other in (b"  ", b"\n\n", b"\t", b"\r", b"\r\n", b"\0", b"\x7f", b"\x80", b"\xff", b" \n", b"\n "): run.check(BOTH[:i] + other + BOTH[i + 1:], 12)
+        run.check(BOTH[:i], 12)
+    # where the names are
+    for text in (BOTH, BOTH.replace(b"tour) 1 2 0 96", b"tour) 16 16 999999 1000000"), BOTH.replace(b"(name tour)", b"(name 0123456789abcdef)")):
+        words = [row.split(b")")[0] for row in text.split(b"(name ")[1:]]
+        for j, word in enumerate(words, 1): run.expect("name %d of %r" % (j, text), run.desk.name(text, j), (text.index(b"(name %s)" % word) + 6, len(word)))
+        run.expect("the names", [text[start:start + length] for start, length in (run.desk.name(text, j) for j in (1, 2, 3))], [words[0], b"bells", b"back"])
+        run.names(text, (0, 1, 2, 3, 4, 4294967295))
+
+
 def sizes(run):
     for size, code in ((16384, 14), (16385, 11), (16386, 11), (20000, 11)):
         text = sized(size)
@@ -97,9 +151,9 @@ def sizes(run):
     run.check(b"x" * 16384, 12)
     run.check(b"x" * 16385, 11)
     for count, code in ((0, 0), (1, 0), (27, 0), (28, 0), (29, 16), (30, 16), (500, 16)):
-        text = made(entries=[(b"e%d" % j, 1, j, j + 1) for j in range(count)])
-        run.check(text, code)
-        run.names(text, range(0, count + 3))
+        for text in (made(entries=[(b"e%d" % j, 1, j, j + 1) for j in range(count)]), made(entries=[(b"e%d" % j, 1, 16, j, j + 1) for j in range(count)])):
+            run.check(text, code)
+            run.names(text, range(0, count + 3))
 
 
 def orders(run):
@@ -139,10 +193,16 @@ def orders(run):
     run.check(made(moves=every), 0)
     for again in ((3, 4, 0, 0), (1, 1, 0, 0), (16, 16, 0, 0)): run.check(made(moves=every + [again]), 14, 4 + 256)
     for k in range(3):
-        for bad in ((b"x", 0, 0, 1), (b"x", 17, 0, 1), (b"x", 1, 1, 1), (b"x", 1, 2, 1), (b"x", 1, 0, 1000001), (b"x", 1, 9999999, 9999999)):
-            entries = [(b"a", 1, 0, 1), (b"a", 16, 999999, 1000000), (b"c", 2, 7, 8)]
-            entries[k] = bad
-            run.check(made(moves=fair, entries=entries), 15, 7 + k)
+        for bad in ((b"x", 0, 0, 1), (b"x", 17, 0, 1), (b"x", 1, 1, 1), (b"x", 1, 2, 1), (b"x", 1, 0, 1000001), (b"x", 1, 9999999, 9999999),
+                    (b"x", 0, 1, 0, 1), (b"x", 17, 1, 0, 1), (b"x", 1, 0, 0, 1), (b"x", 1, 17, 0, 1), (b"x", 0, 0, 0, 1), (b"x", 17, 17, 0, 1), (b"x", 9999999, 1, 0, 1), (b"x", 1, 9999999, 0, 1),
+                    (b"x", 1, 2, 1, 1), (b"x", 1, 2, 2, 1), (b"x", 1, 2, 0, 1000001), (b"x", 1, 2, 1000000, 1000000), (b"x", 1, 2, 9999999, 9999999)):
+            for entries in ([(b"a", 1, 0, 1), (b"a", 16, 999999, 1000000), (b"c", 2, 7, 8)], [(b"a", 1, 16, 0, 1), (b"a", 16, 1, 999999, 1000000), (b"c", 16, 16, 7, 8)]):
+                run.check(made(moves=fair, entries=entries), 0)
+                entries[k] = bad
+                run.check(made(moves=fair, entries=entries), 15, 7 + k)
+    # an entry needs no move between its instruments, and moves no entry on theirs
+    for a, b in itertools.product((1, 2, 15, 16), repeat=2):
+        for moves in ([], [(a, b, 1000000, 1000000)], [(b, a, 0, 0)]): run.check(made(moves=moves, entries=[(b"x", a, b, 0, 1)]), 0)
     # two entries of one name: each call gives its own part
     twice = made(entries=[(b"drum", 1, 0, 1), (b"drum", 2, 3, 4)])
     run.check(twice, 0)
@@ -154,12 +214,12 @@ def several(run):
     for question, line, text in bad_lines(): run.check(text, question, line)
     # one set of lines in every order: which moves fail depends on the order
     for moves in itertools.permutations([(1, 2, 0, 0), (1, 2, 5, 5), (3, 3, 0, 0), (3, 3, 0, 0), (17, 2, 0, 0), (17, 2, 1, 1)]): run.check(made(moves=moves))
-    entries = [(b"a", 1, 0, 1), (b"b", 1, 1, 1), (b"c", 2, 7, 8), (b"d", 17, 0, 1), (b"e", 1, 0, 1000001)]
-    for some in itertools.permutations(entries): run.check(made(moves=[(1, 2, 0, 0)], entries=some), 15, 5 + min(some.index(entries[k]) for k in (1, 3, 4)))
+    entries = [(b"a", 1, 0, 1), (b"b", 1, 1, 1), (b"c", 2, 3, 7, 8), (b"d", 17, 0, 1), (b"e", 1, 0, 1000001), (b"f", 1, 17, 0, 1)]
+    for some in itertools.permutations(entries): run.check(made(moves=[(1, 2, 0, 0)], entries=some), 15, 5 + min(some.index(entries[k]) for k in (1, 3, 4, 5)))
     # beyond the 28th entry, and with 16 as well
     for k in (28, 29, 300):
-        text = made(entries=[(b"a", 1, 0, 1)] * k + [(b"b", 1, 1, 1)] * 3)
-        run.check(text, 15, 4 + k)
+        for good, bad in (((b"a", 1, 0, 1), (b"b", 1, 1, 1)), ((b"a", 1, 0, 1), (b"b", 1, 17, 0, 1)), ((b"a", 1, 16, 0, 1), (b"b", 1, 2, 1, 1)), ((b"a", 1, 16, 0, 1), (b"b", 0, 0, 1))):
+            run.check(made(entries=[good] * k + [bad] * 3), 15, 4 + k)
 
 
 def random_book(rng):
@@ -167,19 +227,19 @@ def random_book(rng):
     word = lambda: bytes(rng.choice(b"abcdefghijklmnopqrstuvwxyz0123456789") for _ in range(rng.randint(1, 16)))
     pairs = [(a, b) for a in range(1, 17) for b in range(1, 17)]
     moves = [(a, b, number(1000000), number(1000000)) for a, b in rng.sample(pairs, rng.randint(0, 6))]
-    entries = []
+    entries, long = [], rng.choice((0.0, 0.5, 1.0))
     for _ in range(rng.choice([0, 1, 2, 3, 5, 28])):
         s = number(999999)
-        entries.append((word(), rng.randint(1, 16), min(s, 999999), rng.randint(min(s, 999999) + 1, 1000000)))
+        entries.append((word(), *played(rng, range(1, 17), long), min(s, 999999), rng.randint(min(s, 999999) + 1, 1000000)))
     if rng.random() < 0.2 and moves: moves.insert(rng.randint(0, len(moves)), rng.choice(moves))
-    if rng.random() < 0.1 and entries: entries[rng.randrange(len(entries))] = (b"x", rng.randint(0, 17), rng.randint(0, 3), rng.randint(0, 3))
+    if rng.random() < 0.1 and entries: entries[rng.randrange(len(entries))] = (b"x", *played(rng, range(18), long), rng.randint(0, 3), rng.randint(0, 3))
     return made(rng.choice([1, 2, 8, 8, 0, 9] if rng.random() < 0.2 else [1, 2, 8]), number(1000000), moves, entries)
 
 
 def damaged(run):
     rng = random.Random(4)
     full = [made(entries=[(b"e%d" % j, 1, j, j + 1) for j in range(n)]) for n in (28, 29)]
-    books = [EXAMPLE] + full + [random_book(rng) for _ in range(3000)]
+    books = [EXAMPLE, BOTH] + full + [random_book(rng) for _ in range(3000)]
     for k, text in enumerate(books):
         run.check(text)
         if k % 10 == 0: run.names(text, (0, 1, 2, 3, 28, 29))
@@ -210,17 +270,20 @@ class Books(unittest.TestCase):
     def test_near_misses(self):
         self.compare(near_misses, 5568, [0, 12, 13, 14, 15])
 
+    def test_forms(self):
+        self.compare(forms, 8114, [0, 12, 15])
+
     def test_sizes(self):
-        self.compare(sizes, 1350, [0, 11, 12, 14, 16])
+        self.compare(sizes, 2664, [0, 11, 12, 14, 16])
 
     def test_orders(self):
-        self.compare(orders, 1636, [0, 11, 12, 13, 14, 15, 16])
+        self.compare(orders, 3376, [0, 11, 12, 13, 14, 15, 16])
 
     def test_several(self):
-        self.compare(several, 67960, [0, 13, 14, 15])
+        self.compare(several, 121984, [0, 13, 14, 15])
 
     def test_damaged(self):
-        self.compare(damaged, 215090, [0, 12, 13, 14, 15, 16])
+        self.compare(damaged, 223320, [0, 12, 13, 14, 15, 16])
 
 
 if __name__ == "__main__":

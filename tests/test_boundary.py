@@ -149,6 +149,9 @@ class Boundary(unittest.TestCase):
                     other = dict(book=book, text=self.rng.randbytes(40000 if entry == "desk_listing" else 71 * 9), given=[*ways_reader(book).lines, b""][0])
                     a = {name: other.get(name, value) for name, value in fair(entry, self.rng).items()}
                     self.compare(entry, a, {name: Fenced(a[name], at_end) for name in lists(entry)})
+        both = made(1, 0, [], [(b"a", 1, 0, 1), (b"b", 1, 2, 3, 4)])                # cut at every byte of both forms of an entry
+        for size, entry in itertools.product(range(len(both) + 1), ("desk_count", "desk_name", "desk_name_refusal")):
+            self.compare(entry, {**fair(entry, self.rng), "book": both[:size]}, {"book": Fenced(both[:size])})
         self.answered({"desk_count": {OK, MORE, *range(11, 17)}, **{entry: {OK, *range(11, 17)} for entry in ("desk_listing", "desk_sheets_room", "desk_sheets")}})
 
     def test_listing(self):

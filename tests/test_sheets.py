@@ -74,9 +74,9 @@ class Sheets(unittest.TestCase):
         self.assertEqual(written, sheet_writer.sheets(text, book, way), text)
         self.assertLessEqual(len(written), sheet_writer.ROOM * len(way))
         parts = read_back(written)
-        told = [(text[begin:end], start, finish) for (begin, end), (_, start, finish) in zip(book.names, book.entries)]
+        told = [(text[begin:end], start, finish) for (begin, end), (_, _, start, finish) in zip(book.names, book.entries)]
         self.assertEqual(sorted(play for part in parts for play in part), sorted(told), text)
-        self.assertEqual(sum(finish - start for part in parts for _, start, finish in part), sum(finish - start for _, start, finish in book.entries), text)
+        self.assertEqual(sum(finish - start for part in parts for _, start, finish in part), sum(finish - start for _, _, start, finish in book.entries), text)
         self.assertEqual(len(parts), list(way).count(0), text)
         return parts
 
@@ -85,9 +85,11 @@ class Sheets(unittest.TestCase):
         self.assertEqual(self.desk.sheets(book, given, text), ((question, 0), [text]), book)
 
     def test_document(self):
-        """The sheets of the document's book, word by word."""
+        """The sheets of the document's book, and of one with an entry that ends elsewhere, word by word."""
         self.assertEqual(self.written(EXAMPLE, (0, 0, 1)), b"(part 1\n(play (name snare) 0 96)\n(gap 144)\n(play (name snare2) 240 300)\n)\n(part 2\n(play (name xylo) 120 200)\n)\n")
         self.assertEqual(self.written(EXAMPLE, (0, 1, 2)), b"(part 1\n(play (name snare) 0 96)\n(gap 24)\n(play (name xylo) 120 200)\n(gap 40)\n(play (name snare2) 240 300)\n)\n")
+        tour = made(1, 20, [(2, 1, 48, 2)], [(b"swell", 1, 2, 0, 96), (b"crash", 2, 96, 144), (b"peal", 1, 16, 192, 288)])
+        self.assertEqual(self.written(tour, (0, 1, 2)), b"(part 1\n(play (name swell) 0 96)\n(gap 0)\n(play (name crash) 96 144)\n(gap 48)\n(play (name peal) 192 288)\n)\n")
 
     def test_stored(self):
         """Every stored text, byte for byte, by the library and by the writer."""
@@ -97,7 +99,7 @@ class Sheets(unittest.TestCase):
                 self.assertEqual(sheet_writer.sheets(book, book_reader.read(book), way), text)
                 self.assertEqual(self.written(book, way), text)
                 names.append(name)
-        self.assertEqual(names, ["ballet-4", "document-1", "document-2", "free-parts-1", "not-in-time-order-1", "touching-1"])
+        self.assertEqual(names, ["ballet-4", "document-1", "document-2", "free-parts-1", "not-in-time-order-1", "percussion-tour-1", "touching-1"])
 
     def test_shown(self):
         """The header, desk(3) and the page on the C programs show the sheets of the document's first way."""

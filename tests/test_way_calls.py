@@ -13,7 +13,7 @@ import way_library
 import way_trial
 from desk_library import END, MORE, NONE, OK, numbers
 from test_network_calls import CAP, Session, caps
-from test_way_trial import examples
+from test_way_trial import doubled, examples, old_list, shortened
 from way_books import EXAMPLE, HALVES, MOST, THOUSAND, bad_lines, damaged, large, made, named, paired, refused, sized, small
 
 ONE = EXAMPLE.replace(b"(players 2)", b"(players 1)")
@@ -46,6 +46,49 @@ STAYING = [                            # request 1 of 02: name, book, cost, ways
     ("of 1 and of 16", made(2, 20, [(16, 16, 0, 3), (1, 1, 24, 2)], named([(1, 0, 96), (16, 0, 96), (16, 96, 192), (1, 120, 192)])), 45, [(0, 0, 2, 1)]),
     ("one entry needs no move of its own", made(1, 20, [(1, 1, 1000000, 1000000)], named([(1, 0, 96)])), 20, [(0,)]),
 ]
+TOUR, BACK, OVER = (1, 2, 0, 96), (2, 1, 24, 3), (1, 2, 24, 3)     # from the bells (1) to the cymbal (2) in one entry; the moves back and over
+ELSEWHERE = [                          # request 5 of 02: name, book, cost, ways
+    (name, made(players, 6, moves, named(entries)), least, ways)
+    for name, players, moves, entries, least, ways in (
+        ("to the bells again, to the tick", 1, [BACK], [TOUR, (1, 120, 200)], 9, [(0, 1)]),
+        ("to the tick, a second player", 2, [BACK], [TOUR, (1, 120, 200)], 9, [(0, 1)]),
+        ("a tick short", 1, [BACK], [TOUR, (1, 119, 200)], 0, []),
+        ("a tick short, a second player", 2, [BACK], [TOUR, (1, 119, 200)], 12, [(0, 0)]),
+        ("no move", 1, [], [TOUR, (1, 120, 200)], 0, []),
+        ("no move, a second player", 2, [], [TOUR, (1, 120, 200)], 12, [(0, 0)]),
+        ("a move over is no help", 1, [OVER], [TOUR, (1, 120, 200)], 0, []),
+        ("a move over is no help, a second player", 2, [OVER], [TOUR, (1, 120, 200)], 12, [(0, 0)]),
+        ("a move back beside one over", 1, [(1, 2, 0, 0), BACK], [TOUR, (1, 120, 200)], 9, [(0, 1)]),
+        ("as dear as a player", 2, [(2, 1, 24, 6)], [TOUR, (1, 120, 200)], 12, [(0, 0), (0, 1)]),
+        ("dearer than a player", 2, [(2, 1, 24, 7)], [TOUR, (1, 120, 200)], 12, [(0, 0)]),
+        ("dearer, one player", 1, [(2, 1, 24, 7)], [TOUR, (1, 120, 200)], 13, [(0, 1)]),
+        ("the cymbal at once", 1, [], [TOUR, (2, 96, 200)], 6, [(0, 1)]),
+        ("the cymbal at once, whatever the moves", 2, [(1, 2, 1000000, 1000000), (2, 1, 1000000, 1000000)], [TOUR, (2, 96, 200)], 6, [(0, 1)]),
+        ("the cymbal, a tick too early", 1, [], [TOUR, (2, 95, 200)], 0, []),
+        ("sticks to change on the cymbal", 1, [(2, 2, 24, 2)], [TOUR, (2, 120, 200)], 8, [(0, 1)]),
+        ("sticks to change, a tick short", 1, [(2, 2, 24, 2)], [TOUR, (2, 119, 200)], 0, []),
+        ("sticks to change, a tick short, a second player", 2, [(2, 2, 24, 2)], [TOUR, (2, 119, 200)], 12, [(0, 0)]),
+        ("sticks to change on the bells", 1, [(1, 1, 1000000, 1000000)], [TOUR, (2, 96, 200)], 6, [(0, 1)]),
+        ("sticks to change on both, and back", 1, [(1, 1, 1000000, 0), (2, 2, 1000000, 0), BACK], [TOUR, (1, 120, 200)], 9, [(0, 1)]),
+        ("twice the same: neither both beginnings join nor both ends", 1, [], [TOUR, (1, 2, 96, 200)], 0, []),
+        ("twice the same, a second player", 2, [OVER], [TOUR, (1, 2, 96, 200)], 12, [(0, 0)]),
+        ("twice the same, and back", 1, [BACK], [TOUR, (1, 2, 120, 200)], 9, [(0, 1)]),
+        ("over and back in the entries", 1, [], [TOUR, (2, 1, 96, 192), (1, 2, 192, 288), (2, 288, 300)], 6, [(0, 1, 2, 3)]),
+        ("to the one who ends there", 2, [], [(1, 2, 0, 96), (2, 1, 0, 96), (1, 96, 200), (2, 96, 200)], 12, [(0, 0, 2, 1)]),
+        ("either of two who end there", 2, [], [(1, 2, 0, 96), (3, 2, 0, 96), (2, 96, 192)], 12, [(0, 0, 1), (0, 0, 2)]),
+        ("not in the order of time", 1, [BACK], [(1, 120, 200), TOUR], 9, [(2, 0)]),
+        ("the rule's book, its first entry to the xylo", 2, [OVER, BACK], [TOUR, (2, 120, 200), (1, 240, 300)], 9, [(0, 1, 2)]),
+        ("no move of its own", 1, [], [TOUR], 6, [(0,)]),
+        ("no move of its own, where there is one", 1, [(1, 2, 1000000, 1000000)], [TOUR], 6, [(0,)]),
+        ("alone with its move back", 1, [BACK], [TOUR], 6, [(0,)]),
+        ("one instrument twice", 1, [], [(1, 1, 0, 96), (1, 1, 96, 200), (1, 200, 300)], 6, [(0, 1, 2)]),
+        ("one instrument twice, sticks to change", 1, [(1, 1, 24, 2)], [(1, 0, 96), (1, 1, 120, 200), (1, 224, 300)], 10, [(0, 1, 2)]),
+    )] + [
+    ("the later one ends on %d" % b, made(1, 6, [(1, b, 1000000, 1000000)] if b > 1 else [], named([(1, 0, 96), (1, b, 96, 200)])), 6, [(0, 1)]) for b in (1, 2, 16)] + [
+    ("the earlier one begins on %d" % a, made(1, 6, [(a, 1, 1000000, 1000000)] if a > 1 else [], named([(a, 1, 0, 96), (1, 96, 200)])), 6, [(0, 1)]) for a in (1, 2, 16)] + [
+    ("from %d to %d, and on from there" % (a, b), made(1, 6, [], named([(a, b, 0, 96), (b, a, 96, 200)])), 6, [(0, 1)]) for a in (1, 16) for b in (1, 16)] + [
+    ("from %d to %d, and from %d" % (a, b, a), made(1, 6, [(b, a, 24, 3)], named([(a, b, 0, 96), (a, 120, 200)])), 9, [(0, 1)]) for a, b in ((1, 16), (16, 1), (7, 8))] + [
+    (name + ", in long forms", doubled(book), cost, ways) for name, book, cost, ways in DOCUMENT + STAYING]
 REFUSED = list(refused())
 
 
@@ -127,8 +170,8 @@ class WayCalls(unittest.TestCase):
             self.assertEqual(self.desk.line, line)
 
     def test_documents(self):
-        """The books of 01, and staying on one instrument."""
-        for name, book, cost, ways in DOCUMENT + STAYING:
+        """The books of 01, staying on one instrument, and entries that end elsewhere."""
+        for name, book, cost, ways in DOCUMENT + STAYING + ELSEWHERE:
             with self.subTest(name):
                 e = book.count(b"(entry")
                 for more in (0, 4, 40):
@@ -182,19 +225,20 @@ class WayCalls(unittest.TestCase):
     def test_each_number(self):
         """A book with one number changed, beside the trial. Each kind of number changes listings, those of accepted books."""
         rng, changed = random.Random(15), {}
-        for _ in range(3000):
+        for _ in range(6000):
             while (book := small(rng, 5)).count(b"(move") < 2: pass
             places = {}
             for number in re.finditer(rb"(?<= )\d+(?=[ )])", book):
                 line = book[book.rindex(b"\n", 0, number.start()) + 1:number.start()]
-                places.setdefault((line[1:line.index(b" ")].decode(), line.count(b" ")), []).append(number)
+                left = book[number.start():book.index(b")", number.start())].count(b" ") + 1        # numbers from this one on
+                places.setdefault((line[1:line.index(b" ")].decode(), line.count(b" "), left), []).append(number)
             kind = rng.choice(sorted(places))
             number = rng.choice(places[kind])
             other = book[:number.start()] + b"%d" % max(0, int(number[0]) + rng.choice((-24, -3, -2, -1, 1, 2, 3, 24))) + book[number.end():]
             listing = way_trial.listing(other)
             self.assertEqual(self.desk.listed(other), listing, other)
             if not listing.startswith(b"(refused") and listing != way_trial.listing(book): changed[kind] = changed.get(kind, 0) + 1
-        kinds = [("players", 1), ("fee", 1), *(("move", k) for k in (1, 2, 3, 4)), *(("entry", k) for k in (3, 4, 5))]
+        kinds = [("players", 1, 1), ("fee", 1, 1), *(("move", k, 5 - k) for k in (1, 2, 3, 4)), *(("entry", k, 6 - k) for k in (3, 4, 5)), *(("entry", k, 7 - k) for k in (3, 4, 5, 6))]
         self.assertTrue(set(changed) == set(kinds) and min(changed.values()) > 10, changed)
 
     def test_any_line_given(self):
@@ -280,6 +324,17 @@ class WayCalls(unittest.TestCase):
                     if question: self.refused_book(book, question)
                     else: self.assertEqual(self.desk.count(book, CAP), (OK, len(way_trial.full_list(book_reader.read(book))[0])))
 
+    def test_instruments(self):
+        """Both instruments of an entry are 1 to 16: at each line and in each place 1 and 16 are taken, and 0 and 17 are refused with 15 and that line."""
+        for k, place in itertools.product(range(3), range(2)):
+            for number in (0, 1, 16, 17):
+                entries = [[b"a", 3, 4, 0, 96], [b"b", 4, 5, 96, 192], [b"c", 5, 3, 192, 288]]
+                entries[k][1 + place] = number
+                book = made(3, 6, [(1, 2, 0, 0)], entries)
+                self.assertEqual(book_reader.refusal(book)[:2], (0, 0) if number in (1, 16) else (15, 5 + k))
+                if number not in (1, 16): self.refused_book(book, 15)
+                else: self.assertEqual(self.walked(book, 9), (END, 6, [(0, 1, 2)]) if (k, place) in ((0, 0), (2, 1)) else (END, 12, [(0, 0, 2)]) if (k, place) in ((0, 1), (1, 0)) else (END, 12, [(0, 1, 0)]))
+
     def test_before_the_search(self):
         """A book without a way: a short list is 17, a list given is 18, and 17 comes first."""
         book = made(1, 0, [], [(b"a", 1, 0, 2), (b"b", 1, 1, 3)])
@@ -317,7 +372,9 @@ class WayCalls(unittest.TestCase):
         twice = made(entries=[(b"drum", 1, 0, 1), (b"drum", 2, 3, 4), (b"a", 1, 0, 1), (b"0123456789abcdef", 1, 0, 1)])
         self.assertNotEqual(self.desk.name(twice, 1), self.desk.name(twice, 2))
         rng = random.Random(12)
-        for book in [EXAMPLE, twice, made(), *(small(rng) for _ in range(300)), *(large(rng) for _ in range(10))]:
+        both = made(entries=[(b"drum", 1, 2, 0, 1), (b"bell", 2, 3, 4), (b"a", 16, 16, 1000, 1000000), (b"drum", 1, 0, 1)])
+        self.assertEqual([self.desk.name(both, j) for j in (1, 2, 3, 4)], [(both.index(b"drum) 1 2"), 4), (both.index(b"bell"), 4), (both.index(b"a) 16"), 1), (both.index(b"drum) 1 0"), 4)])
+        for book in [EXAMPLE, twice, both, made(), *(small(rng) for _ in range(300)), *(large(rng) for _ in range(10))]:
             self.names(book, (0, 1, 2, 3, 4, 5, 7, 8, 27, 28, 29, 256, 257, 2**16 + 1, 2**31, 2**31 + 1, 2**32 - 1))
 
     def test_limits(self):
@@ -347,6 +404,9 @@ class WayCalls(unittest.TestCase):
         self.assertEqual(self.walked(dear, 9), (END, 28000000, [tuple(range(28))]))
         stays = made(1, 1000000, [(16, 16, 0, 1000000)], [(b"d", 16, j, j + 1) for j in range(28)])
         self.assertEqual(self.walked(stays, 9), (END, 28000000, [tuple(range(28))]))
+        tours = made(1, 1000000, [(16, 1, 0, 1000000)], [(b"d", 1, 16, j, j + 1) for j in range(28)])
+        self.assertEqual(self.walked(tours, 9), (END, 28000000, [tuple(range(28))]))
+        self.assertEqual(self.walked(made(1, 1000000, [], [(b"d", *((16, 1) if j % 2 else (1, 16)), j, j + 1) for j in range(28)]), 9), (END, 1000000, [tuple(range(28))]))
         # ticks to the limit, to another instrument and on one
         for b in (1, 2):
             for ticks, ways in ((999998, [(0, 1)]), (999999, [])):
@@ -357,6 +417,49 @@ class WayCalls(unittest.TestCase):
         every = [(a, b, 0, a) for a in range(1, 17) for b in range(1, 17)]
         self.assertEqual(self.walked(made(1, 0, every, [(b"x", 16, 5, 6), (b"y", 3, 4, 5), (b"z", 9, 6, 7)]), 9), (END, 19, [(2, 0, 1)]))
         self.assertEqual(self.walked(made(1, 0, every, [(b"x", 16, 5, 6), (b"y", 16, 4, 5), (b"z", 9, 6, 7)]), 9), (END, 32, [(2, 0, 1)]))
+
+    def test_short_forms(self):
+        """A book of short forms lists what it listed before there were long ones."""
+        rng, lengths = random.Random(17), {}
+        for _ in range(400):
+            book = shortened(small(rng, 6))
+            lines, cost = old_list(book)
+            self.assertEqual(self.walked(book, len(lines) + 1), (END if lines else NONE, cost, lines), book)
+            self.assertEqual(self.desk.count(book, CAP), (OK, len(lines)), book)
+            self.assertEqual(self.desk.listed(book), way_trial.shown(lines, cost) if lines else b"(none)\n", book)
+            lengths[min(len(lines), 4)] = lengths.get(min(len(lines), 4), 0) + 1
+        self.assertTrue(all(lengths[length] > 10 for length in range(5)), lengths)
+
+    def answers(self, book, ways, lent):
+        """What every call on a book answers, with the line told; of the names, how long they are."""
+        e, found = book.count(b"(entry"), []
+        def told(answer): found.append((answer, self.desk.line))
+        for size in (len(lent), 4 * e, max(0, 4 * e - 4)):
+            told(self.desk.first(book, lent[:size]))
+            for given in ways: told(self.desk.next(book, given, lent[:size]))
+        for cap in (0, 1, len(ways), CAP): told(self.desk.count(book, cap))
+        for size in (0, 40, len(lent)): told(self.desk.listing(book, lent[:size]))
+        told(self.desk.sheets_room(book))
+        for given, size in itertools.product(ways, (71 * e, max(0, 71 * e - 1))): told(self.desk.sheets(book, given, lent[:size]))
+        return found + [(self.desk.name(book, j)[1], self.desk.name_refusal(book, j)) for j in range(e + 2)]
+
+    def test_long_forms(self):
+        """With each short form I S F written as I I S F every call answers the same; a name begins as many bytes later as the lines before its own are longer."""
+        rng, seen = random.Random(16), {}
+        books = [small(rng) for _ in range(300)] + [large(rng) for _ in range(5)] + [book for _, book in REFUSED if len(doubled(book)) <= 16384]
+        books += [book for _, _, book in itertools.islice(bad_lines(), 0, None, 211)] + [damaged(rng) for _ in range(200)]
+        for book in books:
+            e, other, lent = book.count(b"(entry"), doubled(book), rng.randbytes(71 * 28)
+            way = self.desk.first(book, bytes(4 * e))[1][0]
+            ways = [numbers(range(e)), numbers([0] * e), b"\0", way]
+            while len(ways) < 9 and self.desk.next(book, ways[-1], bytes(4 * e))[0][0] == OK: ways.append(self.desk.next(book, ways[-1], bytes(4 * e))[1][0])
+            self.assertEqual(self.answers(other, ways, lent), self.answers(book, ways, lent), book)
+            code, more = self.desk.first(book, lent[:112])[0][0], 0
+            for j, (line, longer) in enumerate(zip(*([row for row in text.split(b"\n") if row.startswith(b"(entry ")] for text in (book, other))), 1):
+                if code in (OK, NONE): self.assertEqual(self.desk.name(other, j)[0] - self.desk.name(book, j)[0], more, book)
+                more += len(longer) - len(line)
+            if other != book: seen[code] = seen.get(code, 0) + 1
+        self.assertTrue(all(seen[code] > 5 for code in (OK, NONE, 12, 13, 14, 15)) and seen[16], seen)
 
     def test_thousand(self):
         """999, 1,000 and 1,001 ways, and how the listing ends."""

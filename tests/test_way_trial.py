@@ -1,4 +1,5 @@
-"""The search by trial for ways: beside all lists of E numbers, beside the flows of the book's network, and on the stored examples."""
+"""The search by trial for ways: beside all lists of E numbers, beside the flows of the book's network, beside the rule before the long form of an entry, and on
+the stored examples."""
 import itertools
 import pathlib
 import random
@@ -8,7 +9,7 @@ import unittest
 import book_reader
 import trial
 import way_trial
-from way_books import small
+from way_books import large, paired, small
 
 EXAMPLES = pathlib.Path(__file__).parents[1] / "examples"
 
@@ -28,6 +29,36 @@ def plain(book):
         if None not in joins and not twice and way.count(0) <= book.players:
             found.append((book.fee * way.count(0) + sum(joins), way))
     return way_trial.cheapest(found)
+
+
+def doubled(text):
+    """The book with every short form I S F written as I I S F."""
+    return re.sub(rb"(?<=\)) (\d+) (\d+) (\d+)(?=\)\n)", rb" \1 \1 \2 \3", text)
+
+
+def shortened(text):
+    """The book with every long form A B S F written as A S F, which is another book where A is not B."""
+    return re.sub(rb"(?<=\)) (\d+) \d+ (\d+) (\d+)(?=\)\n)", rb" \1 \2 \3", text)
+
+
+def old_list(text):
+    """The least-cost ways of a book of short forms, and their cost, by the rule before request 5: each entry is on one instrument. Read from the text here, and
+    from all lists of predecessors that may be followed, each by itself."""
+    rows = lambda line: [tuple(map(int, row.groups())) for row in re.finditer(line.replace(" N", r" (\d+)"), text.decode())]
+    [(players,)], [(fee,)], entries = rows(r"\(players N\)"), rows(r"\(fee N\)"), rows(r"\(entry \(name \w+\) N N N\)")
+    moves = {(a, b): (t, c) for a, b, t, c in rows(r"\(move N N N N\)")}
+    assert len(entries) == text.count(b"(entry "), "a long form"
+    offers = []
+    for j, (here, start, _) in enumerate(entries):
+        offers.append([(0, fee)])
+        for i, (there, _, finish) in enumerate(entries):
+            ticks, cost = moves.get((there, here), (0, 0) if there == here else (float("inf"), 0))
+            if i != j and finish + ticks <= start: offers[-1].append((i + 1, cost))
+    found = {}
+    for choice in itertools.product(*offers):
+        way = tuple(i for i, _ in choice)
+        if way.count(0) <= players and all(way.count(i) == 1 for i in way if i): found.setdefault(sum(c for _, c in choice), []).append(way)
+    return (found[min(found)], min(found)) if found else ([], 0)
 
 
 class WayTrial(unittest.TestCase):
@@ -66,13 +97,13 @@ class WayTrial(unittest.TestCase):
         for text, items, cost in rows:
             ways = [[int(i) for i in re.findall(r"\d+", way)] for way in re.findall(r"\((.*?)\)", items)]
             self.assertEqual(listings[text.replace("\\n", "\n").encode()], way_trial.shown(ways, int(cost)) if ways else b"(none)\n")
-        self.assertEqual(len(rows), 7)
+        self.assertEqual(len(rows), 9)
 
     def test_opera(self):
         """Two entries that touch are never joined where the change of instrument wants ticks that are not there. If no change took ticks, some would be."""
         text = (EXAMPLES / "opera.book").read_bytes()
         book, hasty = book_reader.read(text), book_reader.read(re.sub(rb"(move \d+ \d+) \d+", rb"\1 0", text))
-        touching = [(i, j) for i, (a, _, finish) in enumerate(book.entries, 1) for j, (b, start, _) in enumerate(book.entries, 1) if finish == start and a != b]
+        touching = [(i, j) for i, (_, a, _, finish) in enumerate(book.entries, 1) for j, (b, _, start, _) in enumerate(book.entries, 1) if finish == start and a != b]
         joined = lambda book: {(i, j) for way in way_trial.full_list(book)[0] for j, i in enumerate(way, 1)} & set(touching)
         self.assertEqual((touching, joined(book)), ([(1, 2), (5, 6)], set()))
         self.assertTrue(joined(hasty))
@@ -86,11 +117,62 @@ class WayTrial(unittest.TestCase):
             for i, j in itertools.permutations(range(1, len(book.entries) + 1), 2):
                 now, before = way_trial.join(book, i, j), way_trial.join(without, i, j)
                 if now == before: continue
-                instrument = book.entries[i - 1][0]
+                instrument = book.entries[i - 1][1]
                 self.assertEqual((instrument, before), (book.entries[j - 1][0], 0))
                 self.assertIn((instrument, instrument), [m[:2] for m in book.moves])
                 lost, dearer = lost + (now is None), dearer + (now is not None)
         self.assertTrue(lost > 100 and dearer > 100, (lost, dearer))
+
+    def test_short_forms(self):
+        """A book of short forms lists what it listed before there were long ones, and so does the same book with each short form I S F written as I I S F.
+        Where the book had long forms, the shorter book is another one, and often lists other ways."""
+        rng, lengths, other = random.Random(4), set(), 0
+        for _ in range(600):
+            text = small(rng, 6)
+            short = shortened(text)
+            wanted = old_list(short)
+            self.assertEqual(way_trial.full_list(book_reader.read(short)), wanted, short)
+            self.assertEqual(way_trial.listing(doubled(short)), way_trial.listing(short), short)
+            self.assertEqual(way_trial.listing(doubled(text)), way_trial.listing(text), text)
+            self.assertEqual([len(row.split()) for row in re.findall(rb"(?<=\)) .*(?=\)\n)", doubled(text))], [4] * text.count(b"(entry"))
+            lengths.add(min(len(wanted[0]), 4))
+            other += way_trial.full_list(book_reader.read(text)) != wanted
+        self.assertEqual(lengths, {0, 1, 2, 3, 4})
+        self.assertGreater(other, 50)
+
+    def test_instruments(self):
+        """A join depends on the instrument on which the earlier entry ends and on that on which the later one begins, and on no other: with one entry begun
+        elsewhere just joins that arrive at it change, with one ended elsewhere just joins that leave from it, and each kind often does."""
+        rng, changed = random.Random(5), {0: 0, 1: 0}
+        for _ in range(600):
+            book, other = [book_reader.read(text) for text in [small(rng, 5)] * 2]
+            if not book.entries: continue
+            k, end = rng.randrange(len(book.entries)), rng.randrange(2)
+            other.entries[k] = tuple(rng.randint(1, 16) if place == end else n for place, n in enumerate(other.entries[k]))
+            for i, j in itertools.permutations(range(1, len(book.entries) + 1), 2):
+                if way_trial.join(book, i, j) == way_trial.join(other, i, j): continue
+                self.assertEqual((i, j)[1 - end], k + 1)
+                changed[end] += 1
+        self.assertGreater(min(changed.values()), 100, changed)
+
+    def test_forms(self):
+        """The books to try have no long form, some, and long forms alone; of one instrument and of two."""
+        rng = random.Random(6)
+        for kind in (small, large, paired):
+            shares, same = set(), set()
+            for _ in range(100):
+                rows = [row.split() for row in re.findall(rb"(?<=\)) .*(?=\)\n)", kind(rng))]
+                long = [row for row in rows if len(row) == 4]
+                if rows: shares.add("none" if not long else "all" if long == rows else "some")
+                same |= {a == b for a, b, _, _ in long}
+            self.assertEqual((shares, same), ({"none", "some", "all"}, {False, True}), kind)
+
+    def test_tour(self):
+        """Two cheapest ways, and none if each entry were on the instrument on which it begins, or each on the one on which it ends."""
+        text = (EXAMPLES / "percussion-tour.book").read_bytes()
+        ended = re.sub(rb"(?<=\)) \d+ (\d+ \d+ \d+)(?=\)\n)", rb" \1", text)
+        self.assertEqual([len(way_trial.full_list(book_reader.read(other))[0]) for other in (text, shortened(text), ended)], [2, 0, 0])
+        self.assertEqual([sum(a != b for a, b, _, _ in book_reader.read(other).entries) for other in (text, shortened(text), ended)], [6, 0, 0])
 
     def test_ballet(self):
         """Fourteen entries, three players and five cheapest ways, all of them listed."""

@@ -7,10 +7,10 @@ SHOWN = 1000                           # the most ways of a listing
 
 
 def join(book, i, j):
-    """The cost of entry j after entry i, or None where it may not follow."""
-    (a, _, finish), (b, start, _) = book.entries[i - 1], book.entries[j - 1]
-    lines = [(t, c) for x, y, t, c in book.moves if (x, y) == (a, b)]
-    if a == b and not lines: lines = [(0, 0)]       # staying, where no line says what it takes
+    """The cost of entry j after entry i, or None where it may not follow: from the instrument on which i ends to the one on which j begins."""
+    (_, leaves, _, finish), (arrives, _, start, _) = book.entries[i - 1], book.entries[j - 1]
+    lines = [(t, c) for a, b, t, c in book.moves if (a, b) == (leaves, arrives)]
+    if leaves == arrives and not lines: lines = [(0, 0)]       # staying, where no line says what it takes
     return next((c for t, c in lines if i != j and finish + t <= start), None)
 
 

@@ -44,7 +44,7 @@ static const char *meaning(uint32_t code) {
     case 12: return "this is not the form of a book";
     case 13: return "the players must be 1 to 8 and the fee at most 1000000";
     case 14: return "the instruments of a move must be 1 to 16, its ticks and cost at most 1000000, and its pair of instruments on no earlier line";
-    case 15: return "an entry must be on an instrument from 1 to 16 and end after it starts, at tick 1000000 at the latest";
+    case 15: return "an entry must be on instruments from 1 to 16 and end after it starts, at tick 1000000 at the latest";
     case 16: return "the book has more than 28 entries";
     default: return "the call fails this question";
     }

@@ -67,11 +67,12 @@ held-filled : (o : Opening) (m : Moves) (e : Entries) (total : ℕ) (ms : List M
     → m .ticks ≡ table (λ m. m .ticks + 1) ms → m .costs ≡ table (λ m. m .cost) ms → e .count ≡ length es → e .columns ≡ columnsOf total es
     → heldOf o m e ≡ checkedOf total (record { players = o .players; fee = o .fee; moves = ms; entries = es })
 held-filled o m e total ms es p q r c =
-    let c1 = ap (λ (x : Columns). x .instruments) c in
-    let c2 = ap (λ (x : Columns). x .starts) c in
-    let c3 = ap (λ (x : Columns). x .finishes) c in
-    let c4 = ap (λ (x : Columns). x .names) c in
-    let c5 = ap (λ (x : Columns). x .lengths) c in
+    let c1 = ap (λ (x : Columns). x .arrives) c in
+    let c2 = ap (λ (x : Columns). x .leaves) c in
+    let c3 = ap (λ (x : Columns). x .starts) c in
+    let c4 = ap (λ (x : Columns). x .finishes) c in
+    let c5 = ap (λ (x : Columns). x .names) c in
+    let c6 = ap (λ (x : Columns). x .lengths) c in
     cc
 
 module _ (s : List ℕ) (o : Opening) (m : Moves) (e : Entries) (f : PassesFound s o m e) where

@@ -6,7 +6,6 @@ use mathlib.Core.Option.{none, some}
 use mathlib.Core.List.{List, [], _∷_}
 use native.Mathlib.Omega.{arith}
 use lib.ListN.{length, length-drop, drop, getD}
-use lib.Seq.{getD-drop}
 use lib.Dec.{eqb}
 use borrow.Author.Tests.{eq-eqb, ne-eqb}
 use Rattle.text_read.specs.Reader.{_>>=_, give, text, fails, reads, ReadsFront}
@@ -14,11 +13,14 @@ use Rattle.text_read.specs.Heads.{lineEnd}
 use Rattle.book_form.specs.Book.{opening, Book, book, whole, parse}
 use Rattle.book_check.specs.Closing.{Closing}
 use Rattle.laws.specs.Suffix.{take-rest}
+use Rattle.laws.specs.Padded.{padded}
+use Rattle.text_read.proofs.Rows.{number-at}
 use Rattle.text_read.proofs.Sequence.{From, part, part-part, mapped, all-read}
 
--- the numbers of the first lines stand in the last places of their rows
-pub opening-present : (s ps cs : List ℕ) (used : ℕ) → From (opening s) (give (getD (drop 3 ps) 0 0, getD (drop 3 cs) 0 0)) s used → 0 < used → ReadsFront s (opening s) used (getD ps 3 0, getD cs 3 0)
-opening-present s ps cs used f h = rw (← getD-drop 3 ps 0 0, ← getD-drop 3 cs 0 0) (all-read f h)
+-- the numbers of the first lines, where they stand in their rows
+pub opening-present : (s ps cs : List ℕ) {p c : List ℕ} (used : ℕ) → p ≡ padded 4 0 ps → c ≡ padded 4 0 cs → From (opening s) (give (getD ps 0 0, getD cs 0 0)) s used → 0 < used
+    → ReadsFront s (opening s) used (getD p 0 0, getD c 0 0)
+opening-present s ps cs used a b f h = rw (number-at ps a 0, number-at cs b 0) (all-read f h)
 
 -- the last line
 module _ (s : List ℕ) (n : ℕ) (r : ReadsFront s (text lineEnd s) n tt) where

@@ -48,8 +48,8 @@ fn read_opening(book: &[u8]) -> Opening
     let ps = p.numbers;
     let cs = c.numbers;
     Opening {
-        players: ps[3],
-        fee: cs[3],
+        players: ps[0],
+        fee: cs[0],
         used: at + n3,
     }
 }

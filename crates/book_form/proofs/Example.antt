@@ -3,9 +3,9 @@ use Prim.Native.Nat.{ℕ}
 use mathlib.Core.Path.{_≡_, refl}
 use mathlib.Core.Option.{some}
 use mathlib.Core.List.{List, [], _∷_}
-use Rattle.text_read.specs.Reader.{thenRead, _>>=_, _>>_, give, guard, remaining, begins, text, front, run, valueFrom, number, word, row, more, upTo, many}
+use Rattle.text_read.specs.Reader.{thenRead, _>>=_, _>>_, _<|>_, give, guard, remaining, begins, text, front, run, valueFrom, number, word, row, more, upTo, many}
 use Rattle.text_read.specs.Heads.{bytes}
-use Rattle.book_lines.specs.Lines.{move, entry}
+use Rattle.book_lines.specs.Lines.{move, longForm, shortForm, entry}
 use Rattle.book_lines.specs.Questions.{moves, allPass}
 use Rattle.book_form.specs.Book.{opening, book, whole, parse}
 use Rattle.book_form.specs.Questions.{bookRefusal}
@@ -19,14 +19,14 @@ sample-read : parse sample ≡ some (record {
   fee = 6;
   moves = record { source = 1; target = 2; ticks = 24; cost = 3 } ∷ record { source = 2; target = 1; ticks = 24; cost = 3 } ∷ [];
   entries =
-      record { name = bytes "snare"; left = 79; instrument = 1; start = 0; finish = 96 }
-      ∷ record { name = bytes "xylo"; left = 51; instrument = 2; start = 120; finish = 200 }
-      ∷ record { name = bytes "snare2"; left = 21; instrument = 1; start = 240; finish = 300 }
+      record { name = bytes "snare"; left = 79; arrives = 1; leaves = 1; start = 0; finish = 96 }
+      ∷ record { name = bytes "xylo"; left = 51; arrives = 2; leaves = 2; start = 120; finish = 200 }
+      ∷ record { name = bytes "snare2"; left = 21; arrives = 1; leaves = 1; start = 240; finish = 300 }
       ∷ [];
 })
-unfolding bytes thenRead _>>=_ _>>_ give guard remaining begins text front run valueFrom number word row more upTo many move entry opening book whole parse
+unfolding bytes thenRead _>>=_ _>>_ _<|>_ give guard remaining begins text front run valueFrom number word row more upTo many move longForm shortForm entry opening book whole parse
 sample-read = refl
 
 sample-accepted : bookRefusal sample ≡ 0
-unfolding bytes thenRead _>>=_ _>>_ give guard remaining begins text front run valueFrom number word row more upTo many move entry opening book whole parse moves allPass
+unfolding bytes thenRead _>>=_ _>>_ _<|>_ give guard remaining begins text front run valueFrom number word row more upTo many move longForm shortForm entry opening book whole parse moves allPass
 sample-accepted = refl

@@ -2,9 +2,9 @@
 use Prim.Native.Nat.{ℕ}
 use mathlib.Core.Path.{_≡_, refl}
 use mathlib.Core.List.{List, [], _∷_, map}
-use Rattle.text_read.specs.Reader.{thenRead, _>>=_, _>>_, give, guard, remaining, begins, text, front, run, valueFrom, number, word, row, more, upTo, many}
+use Rattle.text_read.specs.Reader.{thenRead, _>>=_, _>>_, _<|>_, give, guard, remaining, begins, text, front, run, valueFrom, number, word, row, more, upTo, many}
 use Rattle.text_read.specs.Heads.{bytes}
-use Rattle.book_lines.specs.Lines.{move, entry}
+use Rattle.book_lines.specs.Lines.{move, longForm, shortForm, entry}
 use Rattle.book_lines.specs.Questions.{moves, allPass, firstBad}
 use Rattle.book_form.specs.Book.{opening, book, whole, parse}
 use Rattle.book_form.specs.Questions.{bookRefusal}
@@ -19,5 +19,5 @@ books =
     ∷ []
 
 told : map {B = ℕ × ℕ} (λ s. (bookRefusal s, lineTold s (bookRefusal s))) books ≡ (13, 2) ∷ (14, 5) ∷ (15, 6) ∷ []
-unfolding bytes thenRead _>>=_ _>>_ give guard remaining begins text front run valueFrom number word row more upTo many move entry opening book whole parse moves allPass firstBad
+unfolding bytes thenRead _>>=_ _>>_ _<|>_ give guard remaining begins text front run valueFrom number word row more upTo many move longForm shortForm entry opening book whole parse moves allPass firstBad
 told = refl

@@ -14,7 +14,8 @@ pub record Book : Type 0 where
   pub moves : List Move
   pub entries : List Entry
 
--- "Order: `(book`, `(players P)`, `(fee C)`, any count of `(move A B T C)`, any count of `(entry (name W) I S F)`, then `)`"
+-- "Order: `(book`, `(players P)`, `(fee C)`, any count of `(move A B T C)`, any count of `(entry (name W) I S F)`, then `)`"; by request 5
+-- of 02 also of `(entry (name W) A B S F)`
 unfoldable pub opening : Reader (ℕ × ℕ)
 opening = do
   text bookLine

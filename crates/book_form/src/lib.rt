@@ -19,14 +19,16 @@ pub enum Answer {
 }
 
 // A book that passed its questions. The move from instrument a to b is at (a - 1) * 16 + (b - 1): `ticks` holds one more than its
-// ticks, and 0 where there is no line. `names` says where in the book the name of each entry begins, and `lengths` how many bytes it has.
+// ticks, and 0 where there is no line. An entry begins on the instrument that `arrives` has, and ends on that of `leaves`. `names` says
+// where in the book the name of each entry begins, and `lengths` how many bytes it has.
 pub struct CheckedBook {
     pub players: u32,
     pub fee: u32,
     pub ticks: [u32; 256],
     pub costs: [u32; 256],
     pub count: usize,
-    pub instruments: [u32; 28],
+    pub arrives: [u32; 28],
+    pub leaves: [u32; 28],
     pub starts: [u32; 28],
     pub finishes: [u32; 28],
     pub names: [usize; 28],
@@ -107,7 +109,8 @@ pub fn refused(answer: Answer) -> Checked
             ticks: [0u32; 256],
             costs: [0u32; 256],
             count: 0,
-            instruments: [0u32; 28],
+            arrives: [0u32; 28],
+            leaves: [0u32; 28],
             starts: [0u32; 28],
             finishes: [0u32; 28],
             names: [0usize; 28],
@@ -123,7 +126,8 @@ fn held(o: Opening, m: Moves, e: Entries) -> CheckedBook
     let ticks = m.ticks;
     let costs = m.costs;
     let c = e.columns;
-    let instruments = c.instruments;
+    let arrives = c.arrives;
+    let leaves = c.leaves;
     let starts = c.starts;
     let finishes = c.finishes;
     let names = c.names;
@@ -134,7 +138,8 @@ fn held(o: Opening, m: Moves, e: Entries) -> CheckedBook
         ticks,
         costs,
         count: e.count,
-        instruments,
+        arrives,
+        leaves,
         starts,
         finishes,
         names,

@@ -9,11 +9,12 @@ use lib.Seq.{drop-drop}
 use lib.Dec.{leb}
 use borrow.Author.Tests.{leb-true}
 use Rattle.laws.specs.Tests.{and-true}
-use Rattle.text_read.specs.Reader.{reads, _>>_, give, remaining, text, front, short, wordByte, word, row}
+use Rattle.text_read.specs.Reader.{reads, _>>_, _<|>_, give, remaining, text, front, short, wordByte, word, row}
 use Rattle.text_read.specs.Heads.{entryHead, nameEnd}
 use Rattle.text_read.proofs.Runs.{take-front}
-use Rattle.book_lines.specs.Lines.{Entry, entry}
+use Rattle.book_lines.specs.Lines.{Entry, shortForm, longForm, entry}
 use Rattle.text_read.proofs.Leaves.{reads-same, both, Suffix, Leaves, then-leaves, text-leaves, give-leaves, remaining-leaves, judged-read, judged-leaves, row-leaves}
+use Rattle.text_read.proofs.Alternatives.{either-leaves}
 
 -- the name of e is the part of s that begins where `left` bytes are left
 pub record Placed (s : List ℕ) (e : Entry) : Type 0 where
@@ -57,13 +58,17 @@ word-is s w t e =
 named-here : (s : List ℕ) (e : Entry) → ShortFront s (e .name) → e .left ≡ length s → Named s e
 named-here s e h l = (record { begins = omega arith; ends = omega (arith, ap length (h .2), length-take (length (e .name)) s); some = h .0; is = rw (l, sub-self) (h .2) }, h .1)
 
+numbers-leave : Leaves (shortForm <|> longForm)
+unfolding shortForm longForm
+numbers-leave = either-leaves shortForm longForm (then-leaves (row nameEnd 3) _ (row-leaves nameEnd 3) (λ ns. give-leaves _)) (row-leaves nameEnd 4)
+
 entry-leaves : Leaves entry
 unfolding entry word _>>_
 entry-leaves =
     then-leaves (text entryHead) _ (text-leaves entryHead)
     (λ _. then-leaves remaining _ remaining-leaves
     (λ left. then-leaves word _ (judged-leaves wordByte (λ w. short w) (λ w. w))
-    (λ w. then-leaves (row nameEnd 3) _ (row-leaves nameEnd 3) (λ ns. give-leaves _))))
+    (λ w. then-leaves (shortForm <|> longForm) _ numbers-leave (λ ns. give-leaves _))))
 
 pub entry-named : (s : List ℕ) (e : Entry) (t : List ℕ) → entry s ≡ reads e t → Named s e × Suffix s t
 unfolding entry remaining give _>>_
@@ -71,7 +76,7 @@ entry-named s e t h =
     let a = both (text entryHead) _ s e t h in
     let b = both remaining _ (a .rest) e t (a .second) in
     let c = both word _ (b .rest) e t (b .second) in
-    let d = both (row nameEnd 3) _ (c .rest) e t (c .second) in
+    let d = both (shortForm <|> longForm) _ (c .rest) e t (c .second) in
     let same = reads-same _ e (d .rest) t (d .second) .0 in
     let left = reads-same _ (b .value) (a .rest) (b .rest) (b .first) in
     let n = text-leaves entryHead s (a .value) (a .rest) (a .first) in

@@ -1,21 +1,23 @@
 -- The pass over the lines of entries.
-use Prim.Native.Nat.{ℕ, suc, _+_, _-_, _<_, _≤_}
+use Prim.Native.Nat.{ℕ, _+_, _-_, _<_, _≤_}
 use mathlib.Core.Path.{_≡_, refl, sym, ap, _∙_}
 use mathlib.Core.Bool.{Bool, true, false}
 use mathlib.Core.List.{List, [], _∷_, _++_, map}
 use native.Mathlib.Omega.{arith}
-use lib.ListN.{length, length-append, length-map, length-drop, take, drop, getD, set, replicate}
-use lib.Seq.{set-at, append-snoc, getD-drop, length-take-le, take-all, take-append-le}
+use lib.ListN.{length, length-append, length-map, length-drop, take, drop, set}
+use lib.Seq.{length-take-le, take-all, take-append-le}
 use lib.Dec.{leb}
 use borrow.Author.Tests.{leb-true, leb-false}
 use Rattle.book_lines.specs.declared.entries.EntryLine.{EntryLine}
+use Rattle.book_lines.specs.declared.entries.EntryNumbers.{EntryNumbers}
 use Rattle.book_lines.specs.declared.entries.Columns.{Columns}
 use Rattle.text_read.specs.Reader.{fails, give}
-use Rattle.book_lines.specs.Lines.{Entry, entry}
+use Rattle.book_lines.specs.Lines.{Entry, entryFrom, entry}
 use Rattle.book_lines.specs.Questions.{fairEntry, entries, firstBad}
 use Rattle.book_lines.specs.Columns.{column}
-use Rattle.book_lines.specs.Passes.{firstBadAfter, entryOf, noEntry, EntryRead, fairLine, putIn, columnsOf}
+use Rattle.book_lines.specs.Passes.{firstBadAfter, numbersOf, entryOf, noEntry, EntryRead, fairLine, putIn, columnsOf}
 use Rattle.laws.specs.Suffix.{take-rest}
+use Rattle.laws.specs.Padded.{padded-more}
 use Rattle.laws.specs.Snoc.{map-more}
 use Rattle.text_read.proofs.Runs.{absent}
 use Rattle.text_read.proofs.Sequence.{From, all-read, part}
@@ -25,11 +27,11 @@ use Rattle.book_lines.proofs.FirstBad.{first-bad-more}
 pub entry-absent : (s : List ℕ) (r : EntryLine) → entry s ≡ fails → r ≡ noEntry → EntryRead s r
 entry-absent s r e z = rw z (record { right = absent e; none = λ _. refl; begins = omega arith; ends = omega arith })
 
-pub entry-present : (s numbers : List ℕ) (n len used : ℕ) → n + len ≤ length s
-    → From (entry s) (give (record { name = take len (part s n); left = length s - n; instrument = getD (drop 1 numbers) 0 0; start = getD (drop 1 numbers) 1 0; finish = getD (drop 1 numbers) 2 0 })) s used
+pub entry-present : (s : List ℕ) (n len used : ℕ) (r : EntryNumbers) → n + len ≤ length s
+    → From (entry s) (give (entryFrom (take len (part s n)) (length s - n) (numbersOf r))) s used
     → 0 < used
-    → EntryRead s (record { left = length s - n; length = len; instrument = getD numbers 1 0; start = getD numbers 2 0; finish = getD numbers 3 0; used = used })
-entry-present s numbers n len used h f u = record { right = rw (value, ← take-rest s n, ← getD-drop 1 numbers 0 0, ← getD-drop 1 numbers 1 0, ← getD-drop 1 numbers 2 0) (all-read f u); none = λ z. absurd (omega arith); begins = omega arith; ends = omega arith }
+    → EntryRead s (record { left = length s - n; length = len; arrives = r .arrives; leaves = r .leaves; start = r .start; finish = r .finish; used = used })
+entry-present s n len used r h f u = record { right = rw (value, ← take-rest s n) (all-read f u); none = λ z. absurd (omega arith); begins = omega arith; ends = omega arith }
   where
     value : length s - (length s - n) ≡ n
     value = omega arith
@@ -39,13 +41,7 @@ name-length t r e = length-take-le (r .length) (drop (length t - r .left) t) (rw
 
 -- A column with one more entry.
 column-more : (f : Entry → ℕ) (es : List Entry) (e : Entry) (v : ℕ) → length es < 28 → f e ≡ v → set (column f es) (length es) v ≡ column f (es ++ (e ∷ []))
-column-more f es e v h q =
-    ap (λ (k : ℕ). set (map f es ++ replicate k 0) (length es) v) left
-    ∙ set-at (map f es) 0 (replicate (28 - length (map f (es ++ (e ∷ [])))) 0) v (length es) (length-map es f)
-    ∙ rw (map-more f es e, append-snoc, q)
-  where
-    left : 28 - length (map f es) ≡ suc (28 - length (map f (es ++ (e ∷ []))))
-    left = omega (arith, length-map es f, length-map (es ++ (e ∷ [])) f, length-append es (e ∷ []))
+column-more f es e v h q = rw (map-more f es e, q, ← length-map es f) (padded-more 28 0 (map f es) v (rw length-map h))
 
 -- What the loop of `read_entries` knows after the lines `done`.
 pub record KnownEntries (first total : ℕ) (done : List Entry) (count line bad : ℕ) (columns : Columns) : Type 0 where
@@ -78,11 +74,12 @@ known-entries-more first total done count line bad columns columns′ t r k f pu
     columns-more : length (done ++ (entryOf t r ∷ [])) ≤ 28 → putIn (columnsOf total done) (length done) total r ≡ columnsOf total (done ++ (entryOf t r ∷ []))
     columns-more few =
         let room : length done < 28 = omega (arith, longer) in
-        let e1 = column-more (λ e. e .instrument) done (entryOf t r) (r .instrument) room refl in
-        let e2 = column-more (λ e. e .start) done (entryOf t r) (r .start) room refl in
-        let e3 = column-more (λ e. e .finish) done (entryOf t r) (r .finish) room refl in
-        let e4 = column-more (λ e. total - e .left) done (entryOf t r) (total - r .left) room refl in
-        let e5 = column-more (λ e. length (e .name)) done (entryOf t r) (r .length) room (name-length t r e) in
+        let e1 = column-more (λ e. e .arrives) done (entryOf t r) (r .arrives) room refl in
+        let e2 = column-more (λ e. e .leaves) done (entryOf t r) (r .leaves) room refl in
+        let e3 = column-more (λ e. e .start) done (entryOf t r) (r .start) room refl in
+        let e4 = column-more (λ e. e .finish) done (entryOf t r) (r .finish) room refl in
+        let e5 = column-more (λ e. total - e .left) done (entryOf t r) (total - r .left) room refl in
+        let e6 = column-more (λ e. length (e .name)) done (entryOf t r) (r .length) room (name-length t r e) in
         cc
 
     go : (x : Bool) → leb 28 count ≡ x → columns′ ≡ columnsOf total (take 28 (done ++ (entryOf t r ∷ [])))

@@ -5,13 +5,26 @@ use mathlib.Core.Bool.{Bool, true, false, cond}
 use mathlib.Core.List.{List, [], _∷_, _++_, append-assoc, append-nil}
 use native.Mathlib.Omega.{arith}
 use lib.ListN.{length, length-append, replicate, set}
+use Rattle.text_read.specs.declared.Row.{Row}
+use Rattle.text_read.specs.Reader.{row, ReadsFront, RowRead}
+use Rattle.text_read.specs.Heads.{moveHead}
+use Rattle.text_read.proofs.Sequence.{mapped}
+use Rattle.text_read.proofs.Rows.{number-at}
 use Rattle.book_lines.specs.declared.moves.Move.{Move}
+use Rattle.book_lines.specs.Lines.{move, moveFrom}
 use Rattle.book_lines.specs.Questions.{fairMove, moveOf, none?, stands, moves, allPass, firstBad}
 use Rattle.book_lines.specs.Columns.{table}
 use Rattle.book_lines.specs.Passes.{firstBadAfter, placeOf, mayStand, Put, kept}
 use Rattle.laws.specs.Tests.{and-true}
 use Rattle.book_lines.proofs.Table.{fair-parts, table-none, table-more, may-stand-stands}
 use Rattle.book_lines.proofs.FirstBad.{none-bad, first-bad-more}
+
+-- the line of a move, from its row
+pub move-read : {s : List ℕ} {r : Row} → RowRead s moveHead 4 r → ReadsFront s (move s) (r .used) (moveFrom (r .numbers))
+unfolding move
+move-read {s} {r} x =
+    let at = number-at (x .list) (x .numbers-are) in
+    rw (at 0, at 1, at 2, at 3) (mapped (row moveHead 4) moveFrom s (x .right))
 
 -- the answers to 14: of one more line, and how many
 moves-more : (ds ms : List Move) (m : Move) → moves ds (ms ++ (m ∷ [])) ≡ moves ds ms ++ (stands (ds ++ ms) m ∷ [])

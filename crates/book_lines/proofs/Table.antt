@@ -10,7 +10,7 @@ use lib.Seq.{getD-set-same, getD-set-other, ext-getD}
 use lib.Dec.{leb, eqb}
 use borrow.Author.Tests.{leb-true, eqb-true, eqb-false, eq-eqb, ne-eqb}
 use Rattle.book_lines.specs.declared.moves.Move.{Move}
-use Rattle.book_lines.specs.Questions.{fairMove, moveOf, none?, stands}
+use Rattle.book_lines.specs.Questions.{isInstrument, fairMove, moveOf, none?, stands}
 use Rattle.laws.specs.Tabulate.{tabulate-length, tabulate-at, tabulate-zero}
 use Rattle.book_lines.specs.Columns.{place, valueOf, cell, table}
 use Rattle.book_lines.specs.Passes.{placeOf, mayStand, Put}
@@ -23,6 +23,15 @@ pub record Instruments (a b : ℕ) : Type 0 where
   pub target-low : 1 ≤ b
   pub target-high : b ≤ 16
 
+instrument-in : (a : ℕ) → isInstrument a ≡ true → (1 ≤ a) × (a ≤ 16)
+instrument-in a e = let x = and-true (leb 1 a) (leb a 16) e in (leb-true 1 a (x .0), leb-true a 16 (x .1))
+
+pub instruments-in : (a b : ℕ) → isInstrument a ≡ true → isInstrument b ≡ true → Instruments a b
+instruments-in a b p q =
+    let x = instrument-in a p in
+    let y = instrument-in b q in
+    record { source-low = x .0; source-high = x .1; target-low = y .0; target-high = y .1 }
+
 -- what question 14 leaves of a move
 pub record Fair (m : Move) : Type 0 where
   pub pair : Instruments (m .source) (m .target)
@@ -31,16 +40,10 @@ pub record Fair (m : Move) : Type 0 where
 
 pub fair-parts : (m : Move) → fairMove m ≡ true → Fair m
 fair-parts m e =
-    let x5 = and-true _ (leb (m .cost) 1000000) e in
-    let x4 = and-true _ (leb (m .ticks) 1000000) (x5 .0) in
-    let x3 = and-true _ (leb (m .target) 16) (x4 .0) in
-    let x2 = and-true _ (leb 1 (m .target)) (x3 .0) in
-    let x1 = and-true (leb 1 (m .source)) (leb (m .source) 16) (x2 .0) in
-    record {
-      pair = record { source-low = leb-true _ _ (x1 .0); source-high = leb-true _ _ (x1 .1); target-low = leb-true _ _ (x2 .1); target-high = leb-true _ _ (x3 .1) };
-      ticks-high = leb-true _ _ (x4 .1);
-      cost-high = leb-true _ _ (x5 .1);
-    }
+    let x3 = and-true _ (leb (m .cost) 1000000) e in
+    let x2 = and-true _ (leb (m .ticks) 1000000) (x3 .0) in
+    let x1 = and-true (isInstrument (m .source)) (isInstrument (m .target)) (x2 .0) in
+    record { pair = instruments-in (m .source) (m .target) (x1 .0) (x1 .1); ticks-high = leb-true _ _ (x2 .1); cost-high = leb-true _ _ (x3 .1) }
 
 pub table-none : (f : Move → ℕ) → replicate 256 0 ≡ table f []
 table-none f = sym (tabulate-zero 256 (cell f []) (λ k. refl))

@@ -29,4 +29,4 @@ column f es = padded 28 0 (map f es)
 
 -- where there is no entry
 abbrev pub nobody : Entry
-nobody = record { name = []; left = 0; instrument = 0; start = 0; finish = 0 }
+nobody = record { name = []; left = 0; arrives = 0; leaves = 0; start = 0; finish = 0 }

@@ -4,15 +4,16 @@ use mathlib.Core.Path.{_≡_}
 use mathlib.Core.Bool.{Bool, cond, _&&_}
 use mathlib.Core.List.{List, [], _∷_, _++_}
 use lib.ListN.{length, take, drop, getD, set}
-use lib.Dec.{eqb, leb, ltb}
+use lib.Dec.{eqb}
 use Rattle.text_read.specs.Reader.{reads, many, ReadsFront}
 use Rattle.book_lines.specs.declared.moves.Move.{Move}
 use Rattle.book_lines.specs.declared.moves.Moves.{Moves}
 use Rattle.book_lines.specs.declared.entries.EntryLine.{EntryLine}
+use Rattle.book_lines.specs.declared.entries.EntryNumbers.{EntryNumbers}
 use Rattle.book_lines.specs.declared.entries.Columns.{Columns}
 use Rattle.book_lines.specs.declared.entries.Entries.{Entries}
 use Rattle.book_lines.specs.Lines.{move, Entry, entry}
-use Rattle.book_lines.specs.Questions.{fairMove, stands, moves, entries, firstBad}
+use Rattle.book_lines.specs.Questions.{fairMove, stands, moves, fairEntry, entries, firstBad}
 use Rattle.book_lines.specs.Columns.{place, table, column}
 
 -- the first bad line after one line more, which is line `line`: `bad` is that of the lines before it, or 0 (`first-bad-more`, proofs/FirstBad.antt)
@@ -49,13 +50,17 @@ pub record MovesRead (s : List ℕ) (r : Moves) : Type 0 where
   pub ticks : r .ticks ≡ table (λ m. m .ticks + 1) (kept [] list)
   pub costs : r .costs ≡ table (λ m. m .cost) (kept [] list)
 
+-- A B S F
+abbrev pub numbersOf : EntryNumbers → List ℕ
+numbersOf r = r .arrives ∷ r .leaves ∷ r .start ∷ r .finish ∷ []
+
 -- the entry that a line of s tells of
 abbrev pub entryOf : List ℕ → EntryLine → Entry
-entryOf s r = record { name = take (r .length) (drop (length s - r .left) s); left = r .left; instrument = r .instrument; start = r .start; finish = r .finish }
+entryOf s r = record { name = take (r .length) (drop (length s - r .left) s); left = r .left; arrives = r .arrives; leaves = r .leaves; start = r .start; finish = r .finish }
 
 -- where no entry stands
 abbrev pub noEntry : EntryLine
-noEntry = record { left = 0; length = 0; instrument = 0; start = 0; finish = 0; used = 0 }
+noEntry = record { left = 0; length = 0; arrives = 0; leaves = 0; start = 0; finish = 0; used = 0 }
 
 pub record EntryRead (s : List ℕ) (r : EntryLine) : Type 0 where
   pub right : ReadsFront s (entry s) (r .used) (entryOf s r)
@@ -63,14 +68,16 @@ pub record EntryRead (s : List ℕ) (r : EntryLine) : Type 0 where
   pub begins : r .left ≤ length s
   pub ends : r .length ≤ r .left
 
+-- 15, which does not ask for the name
 abbrev pub fairLine : EntryLine → Bool
-fairLine e = leb 1 (e .instrument) && leb (e .instrument) 16 && ltb (e .start) (e .finish) && leb (e .finish) 1000000
+fairLine r = fairEntry (entryOf [] r)
 
 -- entry n put into the columns
 abbrev pub putIn : Columns → ℕ → ℕ → EntryLine → Columns
 putIn c n total e =
     record {
-      instruments = set (c .instruments) n (e .instrument);
+      arrives = set (c .arrives) n (e .arrives);
+      leaves = set (c .leaves) n (e .leaves);
       starts = set (c .starts) n (e .start);
       finishes = set (c .finishes) n (e .finish);
       names = set (c .names) n (total - e .left);
@@ -80,7 +87,8 @@ putIn c n total e =
 abbrev pub columnsOf : ℕ → List Entry → Columns
 columnsOf total es =
     record {
-      instruments = column (λ e. e .instrument) es;
+      arrives = column (λ e. e .arrives) es;
+      leaves = column (λ e. e .leaves) es;
       starts = column (λ e. e .start) es;
       finishes = column (λ e. e .finish) es;
       names = column (λ e. total - e .left) es;

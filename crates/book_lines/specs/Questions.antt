@@ -9,10 +9,12 @@ use lib.Dec.{leb, ltb, eqb}
 use Rattle.book_lines.specs.declared.moves.Move.{Move}
 use Rattle.book_lines.specs.Lines.{Entry}
 
+abbrev pub isInstrument : ℕ → Bool
+isInstrument a = leb 1 a && leb a 16
+
 -- 14: "In each move, are A and B 1 to 16 .., T and C at most 1,000,000,"; 02, request 1: "Question 14 no longer requires A and B to differ."
 abbrev pub fairMove : Move → Bool
-fairMove m =
-    leb 1 (m .source) && leb (m .source) 16 && leb 1 (m .target) && leb (m .target) 16 && leb (m .ticks) 1000000 && leb (m .cost) 1000000
+fairMove m = isInstrument (m .source) && isInstrument (m .target) && leb (m .ticks) 1000000 && leb (m .cost) 1000000
 
 -- the move from instrument a to instrument b
 abbrev pub moveOf : List Move → ℕ → ℕ → Option Move
@@ -31,9 +33,9 @@ unfoldable pub moves : List Move → List Move → List Bool
 moves earlier [] = []
 moves earlier (m ∷ later) = stands earlier m ∷ moves (earlier ++ (m ∷ [])) later
 
--- 15: "In each entry, is I 1 to 16 and S < F ≤ 1,000,000?"
+-- 15: "In each entry, is I 1 to 16 and S < F ≤ 1,000,000?"; 02, request 5: "Question 15 puts both instruments to the range 1 to 16."
 abbrev pub fairEntry : Entry → Bool
-fairEntry e = leb 1 (e .instrument) && leb (e .instrument) 16 && ltb (e .start) (e .finish) && leb (e .finish) 1000000
+fairEntry e = isInstrument (e .arrives) && isInstrument (e .leaves) && ltb (e .start) (e .finish) && leb (e .finish) 1000000
 
 abbrev pub entries : List Entry → List Bool
 entries = map fairEntry

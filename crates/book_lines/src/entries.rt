@@ -1,26 +1,41 @@
 // The lines of entries: question 15, and the columns that they make.
 use crate::verdict::first_bad;
+use crate::verdict::is_instrument;
 use text_read::heads;
-use text_read::read_row;
+use text_read::read_numbers;
 use text_read::read_text;
 use text_read::read_word;
 ghost use mathlib.Core.Path.{_≡_};
 ghost use Prim.Native.Nat.{_+_, _≤_, _<_};
 ghost use lib.ListN.{length};
-ghost use Rattle.book_lines.specs.Passes.{noEntry, EntryRead, fairLine, putIn, EntriesRead};
+ghost use Rattle.text_read.specs.Reader.{_<|>_, ReadsFront};
+ghost use Rattle.book_lines.specs.Lines.{shortForm, longForm};
+ghost use Rattle.book_lines.specs.Passes.{numbersOf, noEntry, EntryRead, fairLine, putIn, EntriesRead};
 
-// The line of an entry. `left` is how many bytes of `rest` are left where the name begins.
+// The line of an entry, of either form: a join arrives at the first instrument, and leaves from the second. `left` is how many bytes of `rest`
+// are left where the name begins.
 pub struct EntryLine {
     pub left: usize,
     pub length: usize,
-    pub instrument: u32,
+    pub arrives: u32,
+    pub leaves: u32,
     pub start: u32,
     pub finish: u32,
     pub used: usize,
 }
 
+// The numbers of an entry, of either form.
+struct EntryNumbers {
+    arrives: u32,
+    leaves: u32,
+    start: u32,
+    finish: u32,
+    used: usize,
+}
+
 pub struct Columns {
-    pub instruments: [u32; 28],
+    pub arrives: [u32; 28],
+    pub leaves: [u32; 28],
     pub starts: [u32; 28],
     pub finishes: [u32; 28],
     pub names: [usize; 28],
@@ -41,7 +56,41 @@ fn no_entry() -> EntryLine
     EntryLine {
         left: 0,
         length: 0,
-        instrument: 0,
+        arrives: 0,
+        leaves: 0,
+        start: 0,
+        finish: 0,
+        used: 0,
+    }
+}
+
+// The numbers behind a name: three are the short form, whose first number stands for both instruments, and four the long form.
+fn read_form(rest: &[u8]) -> EntryNumbers
+    ensures { λ r. ⌜ ReadsFront (now (rest .entry)) ((shortForm <|> longForm) (now (rest .entry))) (r .used) (numbersOf r) ⌝ }
+{
+    let r = read_numbers(rest, &heads::NAME_END);
+    let n = r.numbers;
+    if r.count == 3 {
+        return EntryNumbers {
+            arrives: n[0],
+            leaves: n[0],
+            start: n[1],
+            finish: n[2],
+            used: r.used,
+        };
+    }
+    if r.count == 4 {
+        return EntryNumbers {
+            arrives: n[0],
+            leaves: n[1],
+            start: n[2],
+            finish: n[3],
+            used: r.used,
+        };
+    }
+    EntryNumbers {
+        arrives: 0,
+        leaves: 0,
         start: 0,
         finish: 0,
         used: 0,
@@ -61,18 +110,18 @@ fn read_entry(rest: &[u8]) -> EntryLine
         return no_entry();
     }
     let at = n1 + length;
-    let r = read_row(&rest[at..], &heads::NAME_END, 3);
-    let n3 = r.used;
+    let n = read_form(&rest[at..]);
+    let n3 = n.used;
     if n3 == 0 {
         return no_entry();
     }
-    let n = r.numbers;
     EntryLine {
         left: rest.len() - n1,
         length,
-        instrument: n[1],
-        start: n[2],
-        finish: n[3],
+        arrives: n.arrives,
+        leaves: n.leaves,
+        start: n.start,
+        finish: n.finish,
         used: at + n3,
     }
 }
@@ -80,7 +129,10 @@ fn read_entry(rest: &[u8]) -> EntryLine
 fn is_fair(e: EntryLine) -> bool
     ensures { λ r. ⌜ r ≡ fairLine e ⌝ }
 {
-    (1 <= e.instrument) & (e.instrument <= 16) & (e.start < e.finish) & (e.finish <= 1_000_000)
+    is_instrument(e.arrives)
+        & is_instrument(e.leaves)
+        & (e.start < e.finish)
+        & (e.finish <= 1_000_000)
 }
 
 // Puts entry n of a book of `total` bytes into the columns.
@@ -89,7 +141,8 @@ fn put_entry(columns: Columns, n: usize, total: usize, e: EntryLine) -> Columns
     ensures { λ r. ⌜ r ≡ putIn columns n total e ⌝ }
 {
     let mut c = columns;
-    c.instruments[n] = e.instrument;
+    c.arrives[n] = e.arrives;
+    c.leaves[n] = e.leaves;
     c.starts[n] = e.start;
     c.finishes[n] = e.finish;
     c.names[n] = total - e.left;
@@ -103,7 +156,8 @@ pub fn read_entries(book: &[u8], first: u32, total: usize) -> Entries
     ensures { λ r. ⌜ EntriesRead (now (book .entry)) first total r ⌝ }
 {
     let mut columns = Columns {
-        instruments: [0u32; 28],
+        arrives: [0u32; 28],
+        leaves: [0u32; 28],
         starts: [0u32; 28],
         finishes: [0u32; 28],
         names: [0usize; 28],

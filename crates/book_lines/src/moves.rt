@@ -1,5 +1,6 @@
 // The lines of moves: question 14, and the tables that they make.
 use crate::verdict::first_bad;
+use crate::verdict::is_instrument;
 use text_read::heads;
 use text_read::read_row;
 ghost use mathlib.Core.Path.{_≡_};
@@ -28,10 +29,8 @@ pub struct Moves {
 fn is_fair(m: Move) -> bool
     ensures { λ r. ⌜ r ≡ fairMove m ⌝ }
 {
-    (1 <= m.source)
-        & (m.source <= 16)
-        & (1 <= m.target)
-        & (m.target <= 16)
+    is_instrument(m.source)
+        & is_instrument(m.target)
         & (m.ticks <= 1_000_000)
         & (m.cost <= 1_000_000)
 }

@@ -2,9 +2,9 @@
 use mathlib.Core.Path.{_≡_, refl}
 use mathlib.Core.List.{List, [], _∷_, map}
 use Prim.Native.Nat.{ℕ}
-use Rattle.text_read.specs.Reader.{thenRead, _>>=_, _>>_, give, guard, remaining, begins, text, front, run, valueFrom, number, word, row, more, upTo, many}
+use Rattle.text_read.specs.Reader.{thenRead, _>>=_, _>>_, _<|>_, give, guard, remaining, begins, text, front, run, valueFrom, number, word, row, more, upTo, many}
 use Rattle.text_read.specs.Heads.{bytes}
-use Rattle.book_lines.specs.Lines.{move, entry}
+use Rattle.book_lines.specs.Lines.{move, longForm, shortForm, entry}
 use Rattle.book_lines.specs.Questions as lines
 use Rattle.book_form.specs.Book.{opening, book, whole, parse}
 use Rattle.book_form.proofs.Example.{sample}
@@ -26,27 +26,27 @@ unclosed = bytes "(book\n(players 1)\n(fee 6)\n"
 
 -- "prints"
 prints : listing sample ≡ bytes "(cost 12)\n(way 0 0 1)\n(way 0 1 2)\n(end 2)\n"
-unfolding wayList fullWays bytes thenRead _>>=_ _>>_ give guard remaining begins text front run valueFrom number word row more upTo many move entry opening book whole parse lines.moves lines.allPass digits decimal spaced costLine wayLine endLine moreLine noneLine refusedLine
+unfolding wayList fullWays bytes thenRead _>>=_ _>>_ _<|>_ give guard remaining begins text front run valueFrom number word row more upTo many move longForm shortForm entry opening book whole parse lines.moves lines.allPass digits decimal spaced costLine wayLine endLine moreLine noneLine refusedLine
 prints = refl
 
 -- "With one player and snare ending at 97: none."
 prints-none : listing late ≡ bytes "(none)\n"
-unfolding wayList fullWays bytes thenRead _>>=_ _>>_ give guard remaining begins text front run valueFrom number word row more upTo many move entry opening book whole parse lines.moves lines.allPass digits decimal spaced costLine wayLine endLine moreLine noneLine refusedLine
+unfolding wayList fullWays bytes thenRead _>>=_ _>>_ _<|>_ give guard remaining begins text front run valueFrom number word row more upTo many move longForm shortForm entry opening book whole parse lines.moves lines.allPass digits decimal spaced costLine wayLine endLine moreLine noneLine refusedLine
 prints-none = refl
 
 -- "No entries: `(cost 0)`, `(way)`, `(end 1)`."
 no-entries : listing (bytes "(book\n(players 1)\n(fee 6)\n)\n") ≡ bytes "(cost 0)\n(way)\n(end 1)\n"
-unfolding wayList fullWays bytes thenRead _>>=_ _>>_ give guard remaining begins text front run valueFrom number word row more upTo many move entry opening book whole parse lines.moves lines.allPass digits decimal spaced costLine wayLine endLine moreLine noneLine refusedLine
+unfolding wayList fullWays bytes thenRead _>>=_ _>>_ _<|>_ give guard remaining begins text front run valueFrom number word row more upTo many move longForm shortForm entry opening book whole parse lines.moves lines.allPass digits decimal spaced costLine wayLine endLine moreLine noneLine refusedLine
 no-entries = refl
 
 prints-refusals : listing nobody ≡ bytes "(refused 13)\n"
-unfolding wayList fullWays bytes thenRead _>>=_ _>>_ give guard remaining begins text front run valueFrom number word row more upTo many move entry opening book whole parse lines.moves lines.allPass digits decimal spaced costLine wayLine endLine moreLine noneLine refusedLine
+unfolding wayList fullWays bytes thenRead _>>=_ _>>_ _<|>_ give guard remaining begins text front run valueFrom number word row more upTo many move longForm shortForm entry opening book whole parse lines.moves lines.allPass digits decimal spaced costLine wayLine endLine moreLine noneLine refusedLine
 prints-refusals = refl
 
 prints-malformed : listing unclosed ≡ bytes "(refused 12)\n"
-unfolding wayList fullWays bytes thenRead _>>=_ _>>_ give guard remaining begins text front run valueFrom number word row more upTo many move entry opening book whole parse lines.moves lines.allPass digits decimal spaced costLine wayLine endLine moreLine noneLine refusedLine
+unfolding wayList fullWays bytes thenRead _>>=_ _>>_ _<|>_ give guard remaining begins text front run valueFrom number word row more upTo many move longForm shortForm entry opening book whole parse lines.moves lines.allPass digits decimal spaced costLine wayLine endLine moreLine noneLine refusedLine
 prints-malformed = refl
 
 codes : map listingCode (sample ∷ late ∷ nobody ∷ unclosed ∷ []) ≡ 0 ∷ 100 ∷ 13 ∷ 12 ∷ []
-unfolding wayList fullWays bytes thenRead _>>=_ _>>_ give guard remaining begins text front run valueFrom number word row more upTo many move entry opening book whole parse lines.moves lines.allPass
+unfolding wayList fullWays bytes thenRead _>>=_ _>>_ _<|>_ give guard remaining begins text front run valueFrom number word row more upTo many move longForm shortForm entry opening book whole parse lines.moves lines.allPass
 codes = refl

@@ -1,6 +1,6 @@
 -- An array of k places that holds a list: the list, and d in the places that are left; and an array filled one place after another.
 use mathlib.Core.Path.{_≡_, refl, sym, ap, _∙_}
-use mathlib.Core.List.{List, _∷_, _++_, map}
+use mathlib.Core.List.{List, [], _∷_, _++_, map}
 use Prim.Native.Nat.{ℕ, zero, suc, _+_, _-_, _≤_, _<_}
 use native.Mathlib.Numerals.{add-one}
 use native.Mathlib.Omega.{arith}
@@ -18,6 +18,28 @@ padded-length k d l h = length-append l (replicate (k - length l) d) ∙ omega (
 -- the first places hold the list
 pub take-padded : {A : Type 0} (k : ℕ) (d : A) (l : List A) → take (length l) (padded k d l) ≡ l
 take-padded k d l = take-at l (replicate (k - length l) d) (length l) refl
+
+-- one place more holds an element
+pub padded-more : {A : Type 0} (k : ℕ) (d : A) (l : List A) (a : A) → length l < k → set (padded k d l) (length l) a ≡ padded k d (l ++ (a ∷ []))
+padded-more k d l a h =
+    ap (λ (n : ℕ). set (l ++ replicate n d) (length l) a) left ∙ set-at l d (replicate (k - length (l ++ (a ∷ []))) d) a (length l) refl ∙ sym (append-snoc l a (replicate (k - length (l ++ (a ∷ []))) d))
+  where
+    left : k - length l ≡ suc (k - length (l ++ (a ∷ [])))
+    left = omega (arith, length-append l (a ∷ []))
+
+-- read with d where there is nothing, an array is its list
+pub padded-at : {A : Type 0} (k : ℕ) (d : A) (l : List A) (i : ℕ) → getD (padded k d l) i d ≡ getD l i d
+padded-at k d l i = go l i (k - length l)
+  where
+    same : (m i : ℕ) → getD (replicate m d) i d ≡ d
+    same zero i = refl
+    same (suc m) zero = refl
+    same (suc m) (suc i) = same m i
+
+    go : (l : List _) (i m : ℕ) → getD (l ++ replicate m d) i d ≡ getD l i d
+    go [] i m = same m i
+    go (a ∷ l) zero m = refl
+    go (a ∷ l) (suc i) m = go l i m
 
 -- what is left of places that all hold d
 pub drop-replicate : {A : Type 0} (n m : ℕ) (d : A) → drop n (replicate m d) ≡ replicate (m - n) d

@@ -10,7 +10,7 @@ use Rattle.laws.specs.Members.{Every, every-map}
 use Rattle.text_read.specs.Reader.{Parsed, fails, reads, Reader, thenRead, _>>=_, _>>_, give, guard, remaining, begins, text, front, run, digit, plain, valueFrom, number, row, more, upTo, many}
 use Rattle.text_read.specs.Heads.{space, lineEnd}
 
-not-read : {A : Type 0} (a : A) (t : List ℕ) → ¬ (_≡_ {A = Parsed A} fails (reads a t))
+pub not-read : {A : Type 0} (a : A) (t : List ℕ) → ¬ (_≡_ {A = Parsed A} fails (reads a t))
 not-read a t e = let z : _≡_ {A = ℕ} 0 1 = cc in omega arith
 
 pub reads-same : {A : Type 0} (a b : A) (s t : List ℕ) → _≡_ {A = Parsed A} (reads a s) (reads b t) → (a ≡ b) × (s ≡ t)

@@ -1,5 +1,7 @@
 pub mod Runs
 pub mod Sequence
-pub mod Rows
 pub mod Lines
 pub mod Leaves
+pub mod Rows
+pub mod Alternatives
+pub mod Wider

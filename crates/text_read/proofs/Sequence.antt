@@ -23,11 +23,11 @@ pub record From {A : Type 0} (p : Parsed A) (k : Reader A) (s : List ℕ) (n : �
   pub within : n ≤ length s
 
 module _ {A B : Type 0} (q : Reader A) (k : A → Reader B) where
-  then-reads : (s : List ℕ) {a : A} {t : List ℕ} → q s ≡ reads a t → (q >>= k) s ≡ k a t
+  pub then-reads : (s : List ℕ) {a : A} {t : List ℕ} → q s ≡ reads a t → (q >>= k) s ≡ k a t
   unfolding _>>=_ thenRead
   then-reads s e = rw e
 
-  then-fails : (s : List ℕ) → q s ≡ fails → (q >>= k) s ≡ fails
+  pub then-fails : (s : List ℕ) → q s ≡ fails → (q >>= k) s ≡ fails
   unfolding _>>=_ thenRead
   then-fails s e = rw e
 

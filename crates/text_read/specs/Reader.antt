@@ -1,10 +1,12 @@
 -- Readers: what stands at the front of a list of bytes, and the bytes that follow it.
-use Prim.Native.Nat.{ℕ, zero, suc, _+_, _*_, _-_, _<_, _≤_}
+use Prim.Native.Nat.{ℕ, zero, suc, _+_, _*_, _-_, _≤_}
 use mathlib.Core.Path.{_≡_}
 use mathlib.Core.List.{List, [], _∷_}
-use mathlib.Core.Bool.{Bool, true, false, not, _&&_, _||_}
+use mathlib.Core.Bool.{Bool, true, false, cond, not, _&&_, _||_}
 use lib.ListN.{length, drop, getD, replicate}
 use lib.Dec.{leb, eqb}
+use Rattle.laws.specs.Padded.{padded}
+use Rattle.text_read.specs.declared.Row.{Row}
 use Rattle.text_read.specs.Heads.{space, lineEnd}
 
 -- a form was read, with its value and the bytes that follow it; or it does not stand there
@@ -27,6 +29,11 @@ _>>=_ p k s = thenRead (p s) k
 
 unfoldable pub _>>_ : {A B : Type 0} → Reader A → Reader B → Reader B
 _>>_ p q = p >>= (λ _. q)
+
+infixr 25 _<|>_
+-- the first of two forms that stands there; the second is read from the same rest
+unfoldable pub _<|>_ : {A : Type 0} → Reader A → Reader A → Reader A
+_<|>_ p q s = elim (p s) [ fails ↦ q s | reads a t ↦ reads a t ]
 
 -- nothing is read, and the value is a
 unfoldable pub give : {A : Type 0} → A → Reader A
@@ -125,9 +132,24 @@ pub record ReadsFront {A : Type 0} (s : List ℕ) (p : Parsed A) (used : ℕ) (a
   pub stands : (used ≡ 0 → ⊥) → p ≡ reads a (drop used s)
   pub within : used ≤ length s
 
--- What is answered of a row of n numbers, at most 4: they are the last n of four, and the numbers before them are 0; all four are 0 where
--- there is no such row.
-pub record RowRead (s head : List ℕ) (n used : ℕ) (numbers : List ℕ) : Type 0 where
-  pub right : ReadsFront s (row head n s) used (drop (4 - n) numbers)
-  pub before : (k : ℕ) → k < 4 - n → getD numbers k 0 ≡ 0
-  pub none : used ≡ 0 → numbers ≡ replicate 4 0
+-- where no row stands
+abbrev pub noRow : Row
+noRow = record { numbers = replicate 4 0; count = 0; used = 0 }
+
+-- What is answered of the rest of a line, whose numbers are `list`: of the rows of 1 to 4 numbers the one with as many stands there, and no
+-- other; none, where the list is empty.
+pub record NumbersRead (s head : List ℕ) (r : Row) : Type 0 where
+  pub list : List ℕ
+  pub numbers-are : r .numbers ≡ padded 4 0 list
+  pub count-is : r .count ≡ length list
+  pub right : (n : ℕ) → 1 ≤ n → n ≤ 4 → ReadsFront s (row head n s) (cond (eqb n (r .count)) (r .used) 0) list
+  pub some : (r .used ≡ 0 → ⊥) → 1 ≤ r .count
+  pub none : r .used ≡ 0 → r ≡ noRow
+
+-- What is answered of a row of n numbers, which are `list`; the list is empty where there is no such row.
+pub record RowRead (s head : List ℕ) (n : ℕ) (r : Row) : Type 0 where
+  pub list : List ℕ
+  pub numbers-are : r .numbers ≡ padded 4 0 list
+  pub count-is : r .count ≡ length list
+  pub right : ReadsFront s (row head n s) (r .used) list
+  pub none : r .used ≡ 0 → r ≡ noRow

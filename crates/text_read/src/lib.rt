@@ -4,16 +4,17 @@ pub mod heads;
 ghost use Prim.Native.Nat.{_<_, _≤_};
 ghost use mathlib.Core.Path.{_≡_};
 ghost use lib.ListN.{length, take};
-ghost use Rattle.text_read.specs.Reader.{digit, wordByte, text, number, word, ReadsFront, RowRead};
+ghost use Rattle.text_read.specs.Reader.{digit, wordByte, text, number, word, ReadsFront, noRow, NumbersRead, RowRead};
 
 pub struct Number {
     pub value: u32,
     pub used: usize,
 }
 
-// The last n places of `numbers` hold the n numbers of a row; the others are 0.
+// The first `count` places of `numbers` hold the numbers of a row; the others are 0.
 pub struct Row {
     pub numbers: [u32; 4],
+    pub count: usize,
     pub used: usize,
 }
 
@@ -89,45 +90,60 @@ pub fn read_word(rest: &[u8]) -> usize
     i
 }
 
+fn no_row() -> Row
+    ensures { λ r. ⌜ r ≡ noRow ⌝ }
+{
+    Row {
+        numbers: [0u32; 4],
+        count: 0,
+        used: 0,
+    }
+}
+
+// The rest of a line from `head` on, with 1 to 4 numbers.
+pub fn read_numbers(rest: &[u8], head: &[u8]) -> Row
+    requires { ⌜ 0 < length (now head) ⌝ }
+    ensures { λ r. ⌜ NumbersRead (now (rest .entry)) (now (head .entry)) r ⌝ }
+{
+    let mut at = read_text(rest, head);
+    if at == 0 {
+        return no_row();
+    }
+    let mut numbers = [0u32; 4];
+    let mut count: usize = 0;
+    while count < 4 {
+        let v = read_number(&rest[at..]);
+        if v.used == 0 {
+            return no_row();
+        }
+        at += v.used;
+        numbers[count] = v.value;
+        count += 1;
+        let end = read_text(&rest[at..], &heads::LINE_END);
+        if end != 0 {
+            return Row {
+                numbers,
+                count,
+                used: at + end,
+            };
+        }
+        let space = read_text(&rest[at..], &heads::SPACE);
+        if space == 0 {
+            return no_row();
+        }
+        at += space;
+    }
+    no_row()
+}
+
 // The rest of a line from `head` on, with n numbers.
 pub fn read_row(rest: &[u8], head: &[u8], n: usize) -> Row
-    requires { ⌜ (n ≤ 4) × (0 < length (now head)) ⌝ }
-    ensures { λ r. ⌜ RowRead (now (rest .entry)) (now (head .entry)) n (r .used) (r .numbers) ⌝ }
+    requires { ⌜ (1 ≤ n) × (n ≤ 4) × (0 < length (now head)) ⌝ }
+    ensures { λ r. ⌜ RowRead (now (rest .entry)) (now (head .entry)) n r ⌝ }
 {
-    if n == 0 {
-        return Row {
-            numbers: [0u32; 4],
-            used: read_text(rest, &heads::LINE_END),
-        };
+    let r = read_numbers(rest, head);
+    if r.count == n {
+        return r;
     }
-    let n1 = read_text(rest, head);
-    if n1 == 0 {
-        return Row {
-            numbers: [0u32; 4],
-            used: 0,
-        };
-    }
-    let v = read_number(&rest[n1..]);
-    let n2 = v.used;
-    if n2 == 0 {
-        return Row {
-            numbers: [0u32; 4],
-            used: 0,
-        };
-    }
-    let at = n1 + n2;
-    let r = read_row(&rest[at..], &heads::SPACE, n - 1);
-    let n3 = r.used;
-    if n3 == 0 {
-        return Row {
-            numbers: [0u32; 4],
-            used: 0,
-        };
-    }
-    let mut numbers = r.numbers;
-    numbers[4 - n] = v.value;
-    Row {
-        numbers,
-        used: at + n3,
-    }
+    no_row()
 }

@@ -1,7 +1,6 @@
 -- The cost of a join, or that there is none.
 use mathlib.Core.Path.{_≡_}
 use mathlib.Core.Option.{Option, none, some}
-use mathlib.Core.List.{List}
 use Prim.Native.Nat.{ℕ, zero, suc}
 use Rattle.book_lines.specs.declared.moves.Move.{Move}
 use Rattle.book_form.specs.Book.{Book}
@@ -9,7 +8,7 @@ use Rattle.way_theory.specs.Follow.{withoutLine, lineOr}
 use Rattle.way_theory.specs.Ways.{predecessorCost}
 use Rattle.way_joins.specs.declared.Join.{Join}
 use Rattle.way_joins.specs.declared.Join.the-variants.{No, At}
-use Rattle.way_joins.specs.Tables.{Tables}
+use Rattle.way_joins.specs.Tables.{Tables, TablesOf}
 
 abbrev pub joinOf : Option ℕ → Join
 joinOf none = No
@@ -28,5 +27,5 @@ abbrev pub linkBy : ℕ → ℕ → ℕ → ℕ → Option Move
 linkBy a b t c = lineOr (moveBy t c) (withoutLine a b)
 
 -- the join from i to j, or the opening of j where i is 0, of each book that the tables hold
-pub record Joins (fee e : ℕ) (ticks costs instruments starts finishes : List ℕ) (i j : ℕ) (r : Join) : Type 0 where
-  pub each : (b : Book) → Tables b fee e ticks costs instruments starts finishes → r ≡ joinOf (predecessorCost b i j)
+pub record Joins (t : Tables) (i j : ℕ) (r : Join) : Type 0 where
+  pub each : (b : Book) → TablesOf b t → r ≡ joinOf (predecessorCost b i j)

@@ -1,23 +1,40 @@
--- The numbers and arrays of a checked book, lent one by one: what the functions take.
+-- What joins and network take of a checked book. The functions are lent its numbers and arrays one by one, and their contracts speak of all
+-- as one bundle.
 use mathlib.Core.Path.{_≡_}
 use mathlib.Core.List.{List}
-use Prim.Native.Nat.{ℕ, _+_}
-use Rattle.book_lines.specs.Columns.{table, column}
+use Prim.Native.Nat.{ℕ}
+use Rattle.book_form.specs.declared.CheckedBook.{CheckedBook}
 use Rattle.book_form.specs.Book.{Book}
+use Rattle.book_form.specs.Checked.{checkedOf}
 use Rattle.book_form.specs.WithinLimits.{WithinLimits}
-use Rattle.way_theory.specs.Follow.{size}
 
--- they are those of the book b
-pub record Tables (b : Book) (fee e : ℕ) (ticks costs instruments starts finishes : List ℕ) : Type 0 where
+pub record Tables : Type 0 where
+  pub fee : ℕ
+  pub count : ℕ
+  pub ticks : List ℕ
+  pub costs : List ℕ
+  pub arrives : List ℕ
+  pub leaves : List ℕ
+  pub starts : List ℕ
+  pub finishes : List ℕ
+
+abbrev pub tablesWith : (fee count : ℕ) (ticks costs arrives leaves starts finishes : List ℕ) → Tables
+tablesWith fee count ticks costs arrives leaves starts finishes =
+    record { fee = fee; count = count; ticks = ticks; costs = costs; arrives = arrives; leaves = leaves; starts = starts; finishes = finishes }
+
+-- those of a checked book
+abbrev pub tablesIn : CheckedBook → Tables
+tablesIn s = tablesWith (s .fee) (s .count) (s .ticks) (s .costs) (s .arrives) (s .leaves) (s .starts) (s .finishes)
+
+-- those of a book; how many bytes it has, here 0, bears on none of them
+abbrev pub tablesOf : Book → Tables
+tablesOf b = tablesIn (checkedOf 0 b)
+
+-- t are those of the book b, which is within its limits
+pub record TablesOf (b : Book) (t : Tables) : Type 0 where
   pub limits : WithinLimits b
-  pub fee-is : fee ≡ b .fee
-  pub entries-are : e ≡ size b
-  pub ticks-are : ticks ≡ table (λ m. m .ticks + 1) (b .moves)
-  pub costs-are : costs ≡ table (λ m. m .cost) (b .moves)
-  pub instruments-are : instruments ≡ column (λ e. e .instrument) (b .entries)
-  pub starts-are : starts ≡ column (λ e. e .start) (b .entries)
-  pub finishes-are : finishes ≡ column (λ e. e .finish) (b .entries)
+  pub are : t ≡ tablesOf b
 
-pub record HasTables (fee e : ℕ) (ticks costs instruments starts finishes : List ℕ) : Type 0 where
+pub record HasTables (t : Tables) : Type 0 where
   pub book : Book
-  pub tables : Tables book fee e ticks costs instruments starts finishes
+  pub tables : TablesOf book t

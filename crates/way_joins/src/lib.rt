@@ -4,7 +4,7 @@ ghost use mathlib.Core.Path.{_≡_};
 ghost use mathlib.Core.Option.{some};
 ghost use Prim.Native.Nat.{_≤_};
 ghost use Rattle.way_theory.specs.Follow.{stay, lineOr, inTime};
-ghost use Rattle.way_joins.specs.Tables.{HasTables};
+ghost use Rattle.way_joins.specs.Tables.{tablesWith, HasTables};
 ghost use Rattle.way_joins.specs.Joins.{joinOf, moveWith, moveBy, linkBy, Joins};
 
 // The cost of a join, or that there is none.
@@ -49,20 +49,24 @@ fn join_by(a: u32, b: u32, t: u32, c: u32, finish: u32, start: u32) -> Join
     in_time(t - 1, c, finish, start)
 }
 
-// The join from entry i to entry j; from 0, the opening of j.
+// The join from entry i to entry j, from the instrument that i ends on to the one that j begins on; from 0, the opening of j.
 pub fn join_of<'a>(
     fee: u32,
     e: usize,
     ticks: &'a [u32],
     costs: &'a [u32],
-    instruments: &'a [u32],
+    arrives: &'a [u32],
+    leaves: &'a [u32],
     starts: &'a [u32],
     finishes: &'a [u32],
     i: usize,
     j: usize,
 ) -> Join
-    requires { ⌜ HasTables fee e (now ticks) (now costs) (now instruments) (now starts) (now finishes) × (i ≤ e) × (1 ≤ j) × (j ≤ e) ⌝ }
-    ensures { λ r. ⌜ Joins fee e (now (ticks .entry)) (now (costs .entry)) (now (instruments .entry)) (now (starts .entry)) (now (finishes .entry)) i j r ⌝ }
+    requires { let book = tablesWith fee e (now ticks) (now costs) (now arrives) (now leaves) (now starts) (now finishes) in
+        ⌜ HasTables book × (i ≤ e) × (1 ≤ j) × (j ≤ e) ⌝ }
+    ensures { λ r.
+        let book = tablesWith fee e (now (ticks .entry)) (now (costs .entry)) (now (arrives .entry)) (now (leaves .entry)) (now (starts .entry)) (now (finishes .entry)) in
+        ⌜ Joins book i j r ⌝ }
 {
     if i == 0 {
         return Join::At(fee);
@@ -70,8 +74,8 @@ pub fn join_of<'a>(
     if i == j {
         return Join::No;
     }
-    let a = instruments[i - 1];
-    let b = instruments[j - 1];
+    let a = leaves[i - 1];
+    let b = arrives[j - 1];
     let place = place_of(a, b);
     join_by(
         a,

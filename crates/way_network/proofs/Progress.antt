@@ -19,8 +19,9 @@ use Rattle.way_theory.proofs.Rows.{rows-length}
 use Rattle.way_theory.proofs.Accepted.{arc-cost-small}
 use Rattle.way_joins.specs.declared.Join.{Join}
 use Rattle.way_joins.specs.declared.Join.the-variants.{No, At}
-use Rattle.way_joins.specs.Tables.{Tables, HasTables}
+use Rattle.way_joins.specs.Tables.{Tables, TablesOf, HasTables}
 use Rattle.way_joins.specs.Joins.{joinOf, Joins}
+use Rattle.way_joins.proofs.Counts.{count-is}
 use Rattle.way_network.specs.declared.NetworkArc.{NetworkArc}
 use Rattle.way_network.specs.Arrays.{Arrays, Long, arcWith, arcOf, putArc, isJoin, joinCost, putIf, Progress, AddsJoins, endTo, lastTo, rowsBy, IsRow, AddsRows}
 
@@ -43,8 +44,7 @@ progress-put l A m a rest few p =
       is-ahead = rw add-one (n .later);
     }
 
-pub cost-small : {fee e : ℕ} {ticks costs instruments starts finishes : List ℕ} (i j : ℕ) (o : Join) → HasTables fee e ticks costs instruments starts finishes
-    → Joins fee e ticks costs instruments starts finishes i j o → joinCost o ≤ 1000000
+pub cost-small : {t : Tables} (i j : ℕ) (o : Join) → HasTables t → Joins t i j o → joinCost o ≤ 1000000
 cost-small i j o h w = rw (w .each (h .book) (h .tables)) (go (predecessorCost (h .book) i j) (arc-cost-small (h .book) (h .tables .limits) i j))
   where
     go : (x : Option ℕ) → orNone x ≤ 1000000 → joinCost (joinOf x) ≤ 1000000
@@ -92,7 +92,7 @@ module _ (e : ℕ) where
   }
 
 -- the joins of entry j, those of the i lowest predecessors ahead
-module _ (ticks costs instruments starts finishes : List ℕ) (fee e j : ℕ) where
+module _ (t : Tables) (j : ℕ) where
   abbrev below : ℕ → List ℕ
   below zero = []
   below (suc i) = down i
@@ -101,14 +101,14 @@ module _ (ticks costs instruments starts finishes : List ℕ) (fee e j : ℕ) wh
   left b i = map (joinArc b j) (keep (λ p. permits b p j) (below i))
 
   pub record JoinsAhead (A : Arrays) (m : ℕ) (B : Arrays) (r i : ℕ) : Type 0 where
-    pub upto : i ≤ e + 1
-    pub room : r + i ≤ m + e + 1
+    pub upto : i ≤ t .count + 1
+    pub room : r + i ≤ m + t .count + 1
     pub long : Long B
-    pub each : (b : Book) → Tables b fee e ticks costs instruments starts finishes
+    pub each : (b : Book) → TablesOf b t
         → (l rest : List BookArc) → length l ≤ 512 → Progress l A m (map (joinArc b j) (sources b j) ++ rest) → Progress l B r (left b i ++ rest)
 
-  pub going-start : (A : Arrays) (m : ℕ) → Long A → JoinsAhead A m A m (e + 1)
-  going-start A m h = record { upto = omega arith; room = omega arith; long = h; each = λ b T l rest few p. rw (add-one e, T .entries-are) p }
+  pub going-start : (A : Arrays) (m : ℕ) → Long A → JoinsAhead A m A m (t .count + 1)
+  going-start A m h = record { upto = omega arith; room = omega arith; long = h; each = λ b T l rest few p. rw (add-one (t .count), count-is b t T) p }
 
   keep-below : (b : Book) (i : ℕ) → keep (λ p. permits b p j) (below (suc i)) ≡ keepIf (given? (predecessorCost b i j)) i (keep (λ p. permits b p j) (below i))
   keep-below b zero = refl
@@ -134,7 +134,7 @@ module _ (ticks costs instruments starts finishes : List ℕ) (fee e j : ℕ) wh
       subst (λ c. Progress l (putArc B r (arcWith (2 * i) (2 * j - 1) c)) (r + 1) (left b i ++ rest)) d
       (progress-put l B r (joinArc b j i) (left b i ++ rest) few (subst (λ k. Progress l B r (map (joinArc b j) k ++ rest)) q p))
 
-  pub going-on : (A : Arrays) (m : ℕ) (B C : Arrays) (r s i : ℕ) (o : Join) → JoinsAhead A m B r i → 1 ≤ i → Joins fee e ticks costs instruments starts finishes (i - 1) j o
+  pub going-on : (A : Arrays) (m : ℕ) (B C : Arrays) (r s i : ℕ) (o : Join) → JoinsAhead A m B r i → 1 ≤ i → Joins t (i - 1) j o
       → C ≡ putIf o (i - 1) j B r → s ≡ r + oneIf (isJoin o) → JoinsAhead A m C s (i - 1)
   going-on A m B C r s i o g h w q n = record {
     upto = omega (arith, g .upto);
@@ -145,5 +145,5 @@ module _ (ticks costs instruments starts finishes : List ℕ) (fee e j : ℕ) wh
         rw (q, n, w .each b T) (one-join b (i - 1) l rest few B r (subst (λ i. Progress l B r (left b i ++ rest)) u (g .each b T l rest few p)) (predecessorCost b (i - 1) j) refl));
   }
 
-  pub going-done : (A : Arrays) (m : ℕ) (B : Arrays) (r i : ℕ) → JoinsAhead A m B r i → i ≡ 0 → AddsJoins fee e ticks costs instruments starts finishes j A m B r
+  pub going-done : (A : Arrays) (m : ℕ) (B : Arrays) (r i : ℕ) → JoinsAhead A m B r i → i ≡ 0 → AddsJoins t j A m B r
   going-done A m B r i g z = record { long = g .long; each = λ b T l rest few p. subst (λ i. Progress l B r (left b i ++ rest)) z (g .each b T l rest few p) }

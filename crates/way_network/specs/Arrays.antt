@@ -14,7 +14,7 @@ use Rattle.book_form.specs.declared.CheckedBook.{CheckedBook}
 use Rattle.way_theory.specs.BookNet.{BookArc, sources, joinArc, entryArc, bookArcs, bookNet}
 use Rattle.way_joins.specs.declared.Join.{Join}
 use Rattle.way_joins.specs.declared.Join.the-variants.{No, At}
-use Rattle.way_joins.specs.Tables.{Tables}
+use Rattle.way_joins.specs.Tables.{Tables, TablesOf}
 use Rattle.way_network.specs.declared.NetworkArc.{NetworkArc}
 use Rattle.way_network.specs.Held.{Holds}
 
@@ -64,9 +64,9 @@ pub record Progress (l : List BookArc) (A : Arrays) (m : ℕ) (ahead : List Book
   pub is-ahead : drop m l ≡ ahead
 
 -- the joins and the opening arc of entry j, of each book that the tables hold
-pub record AddsJoins (fee e : ℕ) (ticks costs instruments starts finishes : List ℕ) (j : ℕ) (A : Arrays) (m : ℕ) (B : Arrays) (r : ℕ) : Type 0 where
+pub record AddsJoins (t : Tables) (j : ℕ) (A : Arrays) (m : ℕ) (B : Arrays) (r : ℕ) : Type 0 where
   pub long : Long B
-  pub each : (b : Book) → Tables b fee e ticks costs instruments starts finishes
+  pub each : (b : Book) → TablesOf b t
       → (l rest : List BookArc) → length l ≤ 512 → Progress l A m (map (joinArc b j) (sources b j) ++ rest) → Progress l B r rest
 
 -- the arcs behind the joins of a book of e entries
@@ -91,9 +91,9 @@ abbrev pub blank : Arrays
 blank = arrays (replicate 512 0) (replicate 512 0) (replicate 512 (pos 0))
 
 -- all arcs of each book that the tables hold, r of them joins and openings
-pub record AddsAll (fee e : ℕ) (ticks costs instruments starts finishes : List ℕ) (B : Arrays) (r : ℕ) : Type 0 where
+pub record AddsAll (t : Tables) (B : Arrays) (r : ℕ) : Type 0 where
   pub long : Long B
-  pub each : (b : Book) → Tables b fee e ticks costs instruments starts finishes → Progress (bookArcs b) B (r + e + e + 1) []
+  pub each : (b : Book) → TablesOf b t → Progress (bookArcs b) B (r + t .count + t .count + 1) []
 
 -- the struct of the network of each book that the checked book holds
 pub record IsNetworkOf (s : CheckedBook) (r : Network) : Type 0 where

@@ -9,7 +9,7 @@ ghost use lib.IntN.{pos, negℤ};
 ghost use lib.ListN.{replicate};
 ghost use Rattle.laws.specs.Padded.{padded};
 ghost use Rattle.way_theory.specs.Ways.{oneIf};
-ghost use Rattle.way_joins.specs.Tables.{HasTables};
+ghost use Rattle.way_joins.specs.Tables.{tablesWith, HasTables};
 ghost use Rattle.way_network.specs.Held.{Held};
 ghost use Rattle.way_network.specs.Arrays.{arrays, arcWith, Long, putArc, isJoin, joinCost, putIf, IsRow, AddsRows, AddsJoins, blank, AddsAll, IsNetworkOf};
 
@@ -76,7 +76,8 @@ fn put_joins<'a>(
     e: usize,
     ticks: &'a [u32],
     move_costs: &'a [u32],
-    instruments: &'a [u32],
+    arrives: &'a [u32],
+    leaves: &'a [u32],
     starts: &'a [u32],
     finishes: &'a [u32],
     j: usize,
@@ -85,13 +86,13 @@ fn put_joins<'a>(
     costs: &mut [i32],
     m: usize,
 ) -> usize
-    requires { ⌜ HasTables fee e (now ticks) (now «move_costs») (now instruments) (now starts) (now finishes)
-        × (1 ≤ j) × (j ≤ e) × Long (arrays (now tails) (now heads) (now costs)) × (m ≤ 463) ⌝ }
+    requires { let book = tablesWith fee e (now ticks) (now «move_costs») (now arrives) (now leaves) (now starts) (now finishes) in
+        ⌜ HasTables book × (1 ≤ j) × (j ≤ e) × Long (arrays (now tails) (now heads) (now costs)) × (m ≤ 463) ⌝ }
     ensures { λ r.
+        let book = tablesWith fee e (now (ticks .entry)) (now («move_costs» .entry)) (now (arrives .entry)) (now (leaves .entry)) (now (starts .entry)) (now (finishes .entry)) in
         let before = arrays (now (tails .entry)) (now (heads .entry)) (now (costs .entry)) in
         let after = arrays (now (tails .exit)) (now (heads .exit)) (now (costs .exit)) in
-        ⌜ AddsJoins fee e (now (ticks .entry)) (now («move_costs» .entry)) (now (instruments .entry)) (now (starts .entry)) (now (finishes .entry))
-        j before m after r ⌝ }
+        ⌜ AddsJoins book j before m after r ⌝ }
 {
     let mut at = m;
     let mut i = e + 1;
@@ -102,7 +103,8 @@ fn put_joins<'a>(
             e,
             ticks,
             move_costs,
-            instruments,
+            arrives,
+            leaves,
             starts,
             finishes,
             i,
@@ -182,18 +184,20 @@ fn put_arcs<'a>(
     e: usize,
     ticks: &'a [u32],
     move_costs: &'a [u32],
-    instruments: &'a [u32],
+    arrives: &'a [u32],
+    leaves: &'a [u32],
     starts: &'a [u32],
     finishes: &'a [u32],
     tails: &mut [u8],
     heads: &mut [u8],
     costs: &mut [i32],
 ) -> usize
-    requires { ⌜ HasTables fee e (now ticks) (now «move_costs») (now instruments) (now starts) (now finishes)
-        × (arrays (now tails) (now heads) (now costs) ≡ blank) ⌝ }
+    requires { let book = tablesWith fee e (now ticks) (now «move_costs») (now arrives) (now leaves) (now starts) (now finishes) in
+        ⌜ HasTables book × (arrays (now tails) (now heads) (now costs) ≡ blank) ⌝ }
     ensures { λ r.
+        let book = tablesWith fee e (now (ticks .entry)) (now («move_costs» .entry)) (now (arrives .entry)) (now (leaves .entry)) (now (starts .entry)) (now (finishes .entry)) in
         let after = arrays (now (tails .exit)) (now (heads .exit)) (now (costs .exit)) in
-        ⌜ AddsAll fee e (now (ticks .entry)) (now («move_costs» .entry)) (now (instruments .entry)) (now (starts .entry)) (now (finishes .entry)) after r ⌝ }
+        ⌜ AddsAll book after r ⌝ }
 {
     let mut m = 0;
     let mut j = 1;
@@ -203,7 +207,8 @@ fn put_arcs<'a>(
             e,
             ticks,
             move_costs,
-            instruments,
+            arrives,
+            leaves,
             starts,
             finishes,
             j,
@@ -227,7 +232,8 @@ pub fn network_of(book: CheckedBook) -> Network
     let players = book.players;
     let ticks = book.ticks;
     let move_costs = book.costs;
-    let instruments = book.instruments;
+    let arrives = book.arrives;
+    let leaves = book.leaves;
     let starts = book.starts;
     let finishes = book.finishes;
     let mut tails = [0u8; 512];
@@ -238,7 +244,8 @@ pub fn network_of(book: CheckedBook) -> Network
         e,
         &ticks,
         &move_costs,
-        &instruments,
+        &arrives,
+        &leaves,
         &starts,
         &finishes,
         &mut tails,

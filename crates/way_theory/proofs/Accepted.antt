@@ -60,7 +60,7 @@ module _ (book : Book) (ok : WithinLimits book) where
   link-small a b = line-or-small (moveOf (book .moves) a b) (withoutLine a b) (move-small a b) (without-line-small (eqb a b))
 
   road-small : (i j : ℕ) → CostSmall (road book i j)
-  road-small i j = apart-small (eqb i j) _ (link-small (entryAt book i .instrument) (entryAt book j .instrument))
+  road-small i j = apart-small (eqb i j) _ (link-small (entryAt book i .leaves) (entryAt book j .arrives))
 
   pub arc-cost-small : (i j : ℕ) → arcCost book i j ≤ 1000000
   arc-cost-small zero j = ok .fee-high

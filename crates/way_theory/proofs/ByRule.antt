@@ -1,5 +1,5 @@
 -- The cost of a way and the full list of a book, as in specs/Ways.antt and specs/FullWays.antt, by any rule of who may follow whom.
-use mathlib.Core.Path.{_≡_, refl, ap, ap₂, fun-ext}
+use mathlib.Core.Path.{_≡_, refl, ap, ap₂, fun-ext, _∙_}
 use mathlib.Core.Bool.{Bool, true, _&&_}
 use mathlib.Core.Option.{Option, some}
 use mathlib.Core.List.{List, [], _∷_}
@@ -52,12 +52,25 @@ module _ (book : Book) where
   joins-cost-by j (zero ∷ w) = joins-cost-by (suc j) w
   joins-cost-by j (suc i ∷ w) = ap (λ n. orNone (mayFollow book (suc i) j) + n) (joins-cost-by (suc j) w)
 
-  pub way-cost-by : (w : List ℕ) → wayCost book w ≡ wayCostBy (mayFollow book) book w
+  way-cost-by : (w : List ℕ) → wayCost book w ≡ wayCostBy (mayFollow book) book w
   way-cost-by w = ap (λ n. book .fee * times 0 w + n) (joins-cost-by 1 w)
 
   is-way-by : (w : List ℕ) → isWay book w ≡ isWayBy (mayFollow book) book w
   is-way-by w = ap (λ t. t && (all (λ i. leb (times i w) 1) (numbers book) && leb (times 0 w) (book .players))) (joined-by 1 w)
 
-  pub full-ways-by : fullWays book ≡ fullWaysBy (mayFollow book) book
+  full-ways-by : fullWays book ≡ fullWaysBy (mayFollow book) book
   unfolding fullWays wayList
   full-ways-by = ap₂ (λ c p. best (λ w x. leb (c w) (c x)) (keep p (within (wayBounds book)))) (fun-ext way-cost-by) (fun-ext is-way-by)
+
+-- by another rule the book lists the same ways, at the same cost
+pub record SameWays (rule : Rule) (book : Book) : Type 0 where
+  pub listed : fullWays book ≡ fullWaysBy rule book
+  pub costed : (w : List ℕ) → wayCost book w ≡ wayCostBy rule book w
+
+pub same-ways : (rule : Rule) (book : Book) → ((i j : ℕ) → mayFollow book i j ≡ rule i j) → SameWays rule book
+same-ways rule book h =
+    let same : mayFollow book ≡ rule = fun-ext (λ i. fun-ext (h i)) in
+    record {
+      listed = full-ways-by book ∙ ap (λ rule. fullWaysBy rule book) same;
+      costed = λ w. way-cost-by book w ∙ ap (λ rule. wayCostBy rule book w) same;
+    }

@@ -25,9 +25,9 @@ use Rattle.net_model.specs.Residual.{Price}
 use Rattle.net_model.specs.FullList.{flowList, fullList}
 use Rattle.net_model.specs.Input.{netOf}
 use Rattle.net_model.proofs.Prices.{certifies, prices}
-use Rattle.text_read.specs.Reader.{thenRead, _>>=_, _>>_, give, guard, remaining, begins, text, front, run, valueFrom, number, word, row, more, upTo, many}
+use Rattle.text_read.specs.Reader.{thenRead, _>>=_, _>>_, _<|>_, give, guard, remaining, begins, text, front, run, valueFrom, number, word, row, more, upTo, many}
 use Rattle.text_read.specs.Heads.{bytes}
-use Rattle.book_lines.specs.Lines.{move, entry}
+use Rattle.book_lines.specs.Lines.{move, longForm, shortForm, entry}
 use Rattle.book_lines.specs.Questions as lines
 use Rattle.book_form.specs.Book as form
 use Rattle.book_form.specs.Book.{opening, whole, parse}
@@ -263,10 +263,32 @@ mallets-timpani-alone = record {
   walks = [];
 }
 
+-- 02, request 5: from the bells (1) to the cymbal (2) in one entry, then back to the bells, which wants a move from 2 to 1
+abbrev pub bells-to-cymbal : Example
+bells-to-cymbal = record {
+  input = book (bytes "(book\n(players 2)\n(fee 20)\n(move 2 1 48 2)\n(entry (name swell) 1 2 0 96)\n(entry (name crash) 2 96 144)\n(entry (name peal) 1 192 288)\n)\n");
+  items = (0 ∷ 1 ∷ 2 ∷ []) ∷ [];
+  answer = item (0 ∷ 1 ∷ 2 ∷ []);
+  cost = pos 22;
+  prices = [];
+  walks = [];
+}
+
+-- without it no one who has played the cymbal is back in time: where the first entry began is no help
+abbrev pub bells-to-cymbal-no-move : Example
+bells-to-cymbal-no-move = record {
+  input = book (bytes "(book\n(players 2)\n(fee 20)\n(move 1 2 48 2)\n(entry (name swell) 1 2 0 96)\n(entry (name crash) 2 96 144)\n(entry (name peal) 1 192 288)\n)\n");
+  items = (0 ∷ 1 ∷ 0 ∷ []) ∷ [];
+  answer = item (0 ∷ 1 ∷ 0 ∷ []);
+  cost = pos 40;
+  prices = [];
+  walks = [];
+}
+
 abbrev pub exampleTable : List Example
 exampleTable =
     no-arcs ∷ unbalanced ∷ loop ∷ cheap-loop ∷ parallel ∷ opposite ∷ fixed-arc ∷ negative-cycle ∷ zero-cycle ∷ two-players ∷ one-player ∷ too-late
-    ∷ mallets-too-short ∷ mallets-to-the-tick ∷ mallets-cost ∷ mallets-timpani-alone ∷ []
+    ∷ mallets-too-short ∷ mallets-to-the-tick ∷ mallets-cost ∷ mallets-timpani-alone ∷ bells-to-cymbal ∷ bells-to-cymbal-no-move ∷ []
 
 -- the same as tests
 abbrev isSmall : ℕ → ℤ → Bool
@@ -397,7 +419,7 @@ right-holds e q =
     }
 
 all-right : all right exampleTable ≡ true
-unfolding right fullList flowList at ℕ-discrete wayList fullWays bytes thenRead _>>=_ _>>_ give guard remaining begins text front run valueFrom number word row more upTo many move entry opening form.book whole parse lines.moves lines.allPass
+unfolding right fullList flowList at ℕ-discrete wayList fullWays bytes thenRead _>>=_ _>>_ _<|>_ give guard remaining begins text front run valueFrom number word row more upTo many move longForm shortForm entry opening form.book whole parse lines.moves lines.allPass
 all-right = refl
 
 pub examples : (e : Example) → e ∈ exampleTable → ExampleHolds e

@@ -16,4 +16,5 @@ pub mod Fair
 pub mod Size
 pub mod Accepted
 pub mod ByRule
+pub mod ShortForms
 pub mod OldRule

@@ -1,6 +1,6 @@
--- The rule as it stood before request 1 of 02: question 14, and who may follow whom. A book without a move from an instrument to itself is
--- judged as it was, and lists what it listed, at the cost that it had.
-use mathlib.Core.Path.{_≡_, refl, sym, ap, _∙_, fun-ext}
+-- The rule as it stood before request 1 of 02: question 14, and who may follow whom. A book without a move from an instrument to itself, and of
+-- short forms alone, is judged as it was, and lists what it listed, at the cost that it had.
+use mathlib.Core.Path.{_≡_, refl, sym, ap, _∙_}
 use mathlib.Core.Bool.{Bool, true, false, not, cond, _&&_}
 use mathlib.Core.Option.{Option, none, some}
 use mathlib.Core.List.{List, [], _∷_, _++_}
@@ -12,10 +12,9 @@ use Rattle.laws.specs.Members.{Every}
 use Rattle.book_lines.specs.declared.moves.Move.{Move}
 use Rattle.book_lines.specs.Questions.{moveOf, stands, moves, allPass}
 use Rattle.book_form.specs.Book.{Book}
-use Rattle.way_theory.specs.Follow.{entryAt, stay, lineOr, link, inTime, mayFollow}
-use Rattle.way_theory.specs.Ways.{wayCost}
-use Rattle.way_theory.specs.FullWays.{fullWays}
-use Rattle.way_theory.proofs.ByRule.{Rule, wayCostBy, fullWaysBy, way-cost-by, full-ways-by}
+use Rattle.way_theory.specs.Follow.{entryAt, stay, lineOr, link, mayFollow}
+use Rattle.way_theory.proofs.ByRule.{Rule, SameWays, same-ways}
+use Rattle.way_theory.proofs.ShortForms.{instrument, followBy, OneInstrumentEach, follow-before}
 
 -- 14: "In each move, are A and B 1 to 16 and different, T and C at most 1,000,000, and the pair A, B on no earlier line?"
 abbrev pub oldStands : List Move → Move → Bool
@@ -31,8 +30,7 @@ abbrev pub oldLink : List Move → ℕ → ℕ → Option Move
 oldLink ms a b = cond (eqb a b) (some stay) (moveOf ms a b)
 
 abbrev pub oldMayFollow : Book → Rule
-oldMayFollow book i j =
-    cond (eqb i j) none (inTime (oldLink (book .moves) (entryAt book i .instrument) (entryAt book j .instrument)) (entryAt book i .finish) (entryAt book j .start))
+oldMayFollow book = followBy (oldLink (book .moves)) book
 
 -- no line is a move from an instrument to itself
 abbrev pub NoneStays : List Move → Type 0
@@ -41,8 +39,7 @@ NoneStays ms = Every (λ m. ¬ (m .source ≡ m .target)) ms
 pub record AsBefore (book : Book) : Type 0 where
   -- each line of moves passes 14 if it passed
   pub judged : moves [] (book .moves) ≡ oldMoves [] (book .moves)
-  pub listed : fullWays book ≡ fullWaysBy (oldMayFollow book) book
-  pub costed : (w : List ℕ) → wayCost book w ≡ wayCostBy (oldMayFollow book) book w
+  pub ways : SameWays (oldMayFollow book) book
 
 same-answers : (earlier ms : List Move) → NoneStays ms → moves earlier ms ≡ oldMoves earlier ms
 unfolding moves oldMoves
@@ -70,27 +67,12 @@ same-link ms a b h = go (eqb a b) refl
     go true q = rw (no-line ms a b h (eqb-true a b q))
     go false q = alone (moveOf ms a b)
 
-module _ (book : Book) (h : NoneStays (book .moves)) where
-  same-follow : (i j : ℕ) → mayFollow book i j ≡ oldMayFollow book i j
-  same-follow i j = rw (same-link (book .moves) (entryAt book i .instrument) (entryAt book j .instrument) h) (go (eqb i j))
-    where
-      o : Option Move
-      o = oldLink (book .moves) (entryAt book i .instrument) (entryAt book j .instrument)
+module _ (book : Book) (one : OneInstrumentEach book) where
+  same-follow : NoneStays (book .moves) → (i j : ℕ) → mayFollow book i j ≡ oldMayFollow book i j
+  same-follow h i j = follow-before book one i j ∙ rw (same-link (book .moves) (instrument (entryAt book i)) (instrument (entryAt book j)) h)
 
-      go : (x : Bool) → inTime (cond x none o) (entryAt book i .finish) (entryAt book j .start) ≡ cond x none (inTime o (entryAt book i .finish) (entryAt book j .start))
-      go true = refl
-      go false = refl
-
-  same-rule : mayFollow book ≡ oldMayFollow book
-  same-rule = fun-ext (λ i. fun-ext (same-follow i))
-
-  pub as-before : AsBefore book
-  as-before =
-      record {
-        judged = same-answers [] (book .moves) h;
-        listed = full-ways-by book ∙ ap (λ rule. fullWaysBy rule book) same-rule;
-        costed = λ w. way-cost-by book w ∙ ap (λ rule. wayCostBy rule book w) same-rule;
-      }
+  pub as-before : NoneStays (book .moves) → AsBefore book
+  as-before h = record { judged = same-answers [] (book .moves) h; ways = same-ways _ book (same-follow h) }
 
 -- a book that passed 14 has no such move, so that it passes, and lists what it listed
 none-stayed : (earlier ms : List Move) → allPass (oldMoves earlier ms) ≡ true → NoneStays ms
@@ -101,5 +83,5 @@ none-stayed earlier (m ∷ ms) a =
     let y = and-true (not (eqb (m .source) (m .target))) (stands earlier m) (x .0) in
     (eqb-false _ _ (not-true _ (y .0)), none-stayed (earlier ++ (m ∷ [])) ms (x .1))
 
-pub passed-before : (book : Book) → allPass (oldMoves [] (book .moves)) ≡ true → AsBefore book
-passed-before book a = as-before book (none-stayed [] (book .moves) a)
+pub passed-before : (book : Book) → OneInstrumentEach book → allPass (oldMoves [] (book .moves)) ≡ true → AsBefore book
+passed-before book one a = as-before book one (none-stayed [] (book .moves) a)

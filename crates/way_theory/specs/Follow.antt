@@ -39,9 +39,10 @@ lineOr (some m) o = some m
 abbrev pub link : List Move → ℕ → ℕ → Option Move
 link moves a b = lineOr (moveOf moves a b) (withoutLine a b)
 
--- how a player goes from entry i to entry j; no entry follows itself
+-- how a player goes from entry i to entry j; no entry follows itself. 02, request 5: "A join leaves from the earlier entry's B and arrives at
+-- the later one's A."
 abbrev pub road : Book → ℕ → ℕ → Option Move
-road book i j = cond (eqb i j) none (link (book .moves) (entryAt book i .instrument) (entryAt book j .instrument))
+road book i j = cond (eqb i j) none (link (book .moves) (entryAt book i .leaves) (entryAt book j .arrives))
 
 -- when a player is there who goes at the tick `finish`: "F of i + T"
 abbrev pub arrival : Move → ℕ → ℕ

@@ -2,7 +2,7 @@
 use Prim.Native.Nat.{_+_}
 use native.Mathlib.Omega.{arith}
 use borrow.Author.Needs.{needs}
-use lib.ListN.{drop, getD}
+use lib.ListN.{getD}
 use Rattle.text_read.specs.Reader.{_>>=_, _>>_, give, row}
 use Rattle.text_read.specs.Heads.{bytes, playersHead, feeHead}
 use Rattle.book_form.specs.Book.{opening}
@@ -35,17 +35,17 @@ headed c = first _ _ (begin opening _) (c .before .read-text .ensures) (c .if1 .
 played : (c : tie.Else2)
     → let s = start-before-else2 c .args .book .now in
     let n = c .before .before .before .before .before .read-text .result in
-    let p = c .before .read-row .result in
-    From (opening s) (row feeHead 1 >>= (λ cs. give (getD (drop 3 (p .numbers)) 0 0, getD cs 0 0))) s (n + p .used)
+    let p = c .before .read-row in
+    From (opening s) (row feeHead 1 >>= (λ cs. give (getD (p .ensures .list) 0 0, getD cs 0 0))) s (n + p .result .used)
 unfolding bytes
 played c = next-right _ _ (headed (c .before .before .before .before)) (c .before .read-row .ensures .right) (c .if2 .left)
 
 ended : (c : tie.After-cs)
     → let s = start-before-cs c .args .book .now in
     let n = read-text-before-cs c .read-text .result in
-    let p = read-row-before-cs c .read-row .result in
-    let f = c .before .before .before .read-row2 .result in
-    From (opening s) (give (getD (drop 3 (p .numbers)) 0 0, getD (drop 3 (f .numbers)) 0 0)) s (n + p .used + f .used)
+    let p = read-row-before-cs c .read-row in
+    let f = c .before .before .before .read-row2 in
+    From (opening s) (give (getD (p .ensures .list) 0 0, getD (f .ensures .list) 0 0)) s (n + p .result .used + f .result .used)
 unfolding bytes
 ended c =
     let else2 : tie.Else2 = search in
@@ -66,9 +66,9 @@ returns-3 c = absent (stops _ _ (played (c .before .before .before .before)) (c 
 returns-4 : tie.Need-returns-4
 returns-4 c =
     let after-read-row : tie.After-read-row = search in
-    let p = after-read-row .read-row .result in
-    let f = c .before .before .before .read-row2 .result in
-    opening-present _ (p .numbers) (f .numbers) _ (ended c) (omega (arith, c .before .before .if3 .left))
+    let p = after-read-row .read-row .ensures in
+    let f = c .before .before .before .read-row2 .ensures in
+    opening-present _ (p .list) (f .list) _ (p .numbers-are) (f .numbers-are) (ended c) (omega (arith, c .before .before .if3 .left))
 
 pub read-opening-spec : {M : Type 1} → statement M
 read-opening-spec =

@@ -8,7 +8,7 @@ use Rattle.way_network.proofs.network_of.Tie as tie
 
 -- from one place to an earlier one
 abbrev start : tie.After-costs → tie.Start
-start c = c .before .before .before .before .before .before .before .before .before .before .before .before .before
+start c = c .before .before .before .before .before .before .before .before .before .before .before .before .before .before .before
 
 abbrev put : tie.After-costs2 → tie.After-put-arcs
 put c = c .before .before .before
@@ -34,7 +34,7 @@ network-of-spec =
     tie.close
     (tie.spec
     (λ c. search needs) (λ c. search needs) (λ c. search needs) (λ c. search needs) (λ c. search needs)
-    (λ c. search needs) (λ c. search needs) (λ c. search needs) put-arcs-requires
+    (λ c. search needs) (λ c. search needs) (λ c. search needs) (λ c. search needs) put-arcs-requires
     balances-of-requires
     (λ c κs. omega (arith, room (c .before)))
     (λ c. omega (arith, room (c .before .before)))

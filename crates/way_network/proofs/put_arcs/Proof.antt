@@ -1,21 +1,23 @@
 use mathlib.Core.Path.{sym, _∙_}
 use Prim.Native.Nat.{_+_, _-_, _≤_}
 use native.Mathlib.Omega.{arith}
+use Rattle.way_joins.specs.Tables.{tablesWith}
+use Rattle.way_joins.proofs.Counts.{few-of}
 use Rattle.way_network.specs.Arrays.{Long, arrays}
-use Rattle.way_network.proofs.Network.{Outer, outer-start, outer-on, outer-room, rows-room, all-done, few-of, blank-long}
+use Rattle.way_network.proofs.Network.{Outer, outer-start, outer-on, outer-room, rows-room, all-done, blank-long}
 use Rattle.way_network.proofs.put_arcs.Statement.{statement}
 use Rattle.way_network.proofs.put_arcs.Tie as tie
 
 abbrev Inv-loop : tie.InvT-loop
-Inv-loop fee e ticks move-costs instruments starts finishes tails₀ heads₀ costs₀ m₀ j₀ tails heads costs m j =
-    Outer fee e ticks move-costs instruments starts finishes (arrays tails heads costs) m j
+Inv-loop fee e ticks move-costs arrives leaves starts finishes tails₀ heads₀ costs₀ m₀ j₀ tails heads costs m j =
+    Outer (tablesWith fee e ticks move-costs arrives leaves starts finishes) (arrays tails heads costs) m j
 
 abbrev μ-loop : tie.MeasureT-loop
-μ-loop fee e ticks move-costs instruments starts finishes tails₀ heads₀ costs₀ m₀ j₀ tails heads costs m j = e + 1 - j
+μ-loop fee e ticks move-costs arrives leaves starts finishes tails₀ heads₀ costs₀ m₀ j₀ tails heads costs m j = e + 1 - j
 
 -- from one place to an earlier one
 abbrev start : tie.At-loop Inv-loop μ-loop → tie.Start Inv-loop μ-loop
-start c = c .before .before .before .before .before .before .before .before
+start c = c .before .before .before .before .before .before .before .before .before
 
 abbrev inside : tie.After-put-joins-arg3 Inv-loop μ-loop → tie.In-loop Inv-loop μ-loop
 inside c = c .before .before .before
@@ -33,31 +35,28 @@ finished c = c .before .before .before .before .before
 rows : (c : tie.After-loop Inv-loop μ-loop) → (c .before .loop .m + start (c .before) .args .e + start (c .before) .args .e + 1 ≤ 463) × (start (c .before) .args .e ≤ 28)
 rows c =
     let s = start (c .before) in
-    let x = s .args in
     let l = c .before .loop in
-    (rows-room (x .fee) (x .e) (x .ticks .now) (x .move-costs .now) (x .instruments .now) (x .starts .now) (x .finishes .now) (s .pre .0) (arrays (l .tails) (l .heads) (l .costs)) (l .m) (l .j) (l .inv) (omega (arith, c .loop-test .left)), few-of _ _ _ _ _ _ _ (s .pre .0))
+    (rows-room _ (s .pre .0) (arrays (l .tails) (l .heads) (l .costs)) (l .m) (l .j) (l .inv) (omega (arith, c .loop-test .left)), few-of (s .pre .0))
 
 loop-holds : tie.Need-loop-holds Inv-loop μ-loop
 loop-holds c =
     let s : tie.Start Inv-loop μ-loop = search in
-    let x = s .args in
-    outer-start (x .fee) (x .e) (x .ticks .now) (x .move-costs .now) (x .instruments .now) (x .starts .now) (x .finishes .now) _ (s .pre .1)
+    outer-start _ _ (s .pre .1)
 
 put-joins-requires : tie.Need-put-joins-requires Inv-loop μ-loop
 put-joins-requires c κs =
     let s = start (inside c .before) in
-    let x = s .args in
     let l = inside c .before .loop in
     let h = s .pre .0 in (
       h,
       l .inv .low,
       omega (arith, inside c .loop-test .taken),
       l .inv .long,
-      outer-room (x .fee) (x .e) (x .ticks .now) (x .move-costs .now) (x .instruments .now) (x .starts .now) (x .finishes .now) h (arrays (l .tails) (l .heads) (l .costs)) (l .m) (l .j) (l .inv),
+      outer-room _ h (arrays (l .tails) (l .heads) (l .costs)) (l .m) (l .j) (l .inv),
     )
 
 add-j : tie.Need-add-j Inv-loop μ-loop
-add-j c = let a = inside (joined c .before) .before in omega (arith, a .loop .inv .upto, few-of _ _ _ _ _ _ _ (start a .pre .0))
+add-j c = let a = inside (joined c .before) .before in omega (arith, a .loop .inv .upto, few-of (start a .pre .0))
 
 loop-less : tie.Need-loop-less Inv-loop μ-loop
 loop-less c = omega (arith, inside (joined c .before) .loop-test .taken)
@@ -65,9 +64,9 @@ loop-less c = omega (arith, inside (joined c .before) .loop-test .taken)
 loop-again : tie.Need-loop-again Inv-loop μ-loop
 loop-again c =
     let a = inside (joined c .before) in
-    let x = start (a .before) .args in
+    let s = start (a .before) in
     let l = a .before .loop in
-    outer-on (x .fee) (x .e) (x .ticks .now) (x .move-costs .now) (x .instruments .now) (x .starts .now) (x .finishes .now) (arrays (l .tails) (l .heads) (l .costs)) _ (l .m) _ (l .j) (l .inv) (omega (arith, a .loop-test .taken)) (joined c .put-joins .ensures)
+    outer-on _ (arrays (l .tails) (l .heads) (l .costs)) _ (l .m) _ (l .j) (l .inv) (omega (arith, a .loop-test .taken)) (joined c .put-joins .ensures)
 
 put-rows-requires : tie.Need-put-rows-requires Inv-loop μ-loop
 put-rows-requires c κs = (out c .before .loop .inv .long, rows (out c) .1, omega (arith, rows (out c)))
@@ -75,9 +74,9 @@ put-rows-requires c κs = (out c .before .loop .inv .long, rows (out c) .1, omeg
 returns : tie.Need-returns Inv-loop μ-loop
 returns c =
     let o = out (finished c .before) in
-    let x = start (o .before) .args in
+    let s = start (o .before) in
     let l = o .before .loop in
-    all-done (x .fee) (x .e) (x .ticks .now) (x .move-costs .now) (x .instruments .now) (x .starts .now) (x .finishes .now) (arrays (l .tails) (l .heads) (l .costs)) _ (l .m) (l .j) (l .inv) (omega (arith, o .loop-test .left)) (finished c .put-rows .ensures)
+    all-done _ (arrays (l .tails) (l .heads) (l .costs)) _ (l .m) (l .j) (l .inv) (omega (arith, o .loop-test .left)) (finished c .put-rows .ensures)
 
 blanked : (c : tie.Start Inv-loop μ-loop) → Long (arrays (c .args .tails .now) (c .args .heads .now) (c .args .costs .now))
 blanked c = blank-long _ (c .pre .1)

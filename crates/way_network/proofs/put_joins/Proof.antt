@@ -1,21 +1,23 @@
 use Prim.Native.Nat.{_≤_}
 use native.Mathlib.Omega.{arith}
 use borrow.Author.Needs.{needs}
+use Rattle.way_joins.specs.Tables.{tablesWith}
+use Rattle.way_joins.proofs.Counts.{few-of}
 use Rattle.way_network.specs.Arrays.{arrays}
 use Rattle.way_network.proofs.Progress.{cost-small, JoinsAhead, going-start, going-on, going-done}
 use Rattle.way_network.proofs.put_joins.Statement.{statement}
 use Rattle.way_network.proofs.put_joins.Tie as tie
 
 abbrev Inv-loop : tie.InvT-loop
-Inv-loop fee e ticks move-costs instruments starts finishes j tails₀ heads₀ costs₀ m at₀ i₀ tails heads costs at i =
-    JoinsAhead ticks move-costs instruments starts finishes fee e j (arrays tails₀ heads₀ costs₀) m (arrays tails heads costs) at i
+Inv-loop fee e ticks move-costs arrives leaves starts finishes j tails₀ heads₀ costs₀ m at₀ i₀ tails heads costs at i =
+    JoinsAhead (tablesWith fee e ticks move-costs arrives leaves starts finishes) j (arrays tails₀ heads₀ costs₀) m (arrays tails heads costs) at i
 
 abbrev μ-loop : tie.MeasureT-loop
-μ-loop fee e ticks move-costs instruments starts finishes j tails₀ heads₀ costs₀ m at₀ i₀ tails heads costs at i = i
+μ-loop fee e ticks move-costs arrives leaves starts finishes j tails₀ heads₀ costs₀ m at₀ i₀ tails heads costs at i = i
 
 -- from one place to an earlier one
 abbrev start : tie.At-loop Inv-loop μ-loop → tie.Start Inv-loop μ-loop
-start c = c .before .before .before .before .before .before .before .before
+start c = c .before .before .before .before .before .before .before .before .before
 
 abbrev found : tie.After-put-join-arg3 Inv-loop μ-loop → tie.After-join-of Inv-loop μ-loop
 found c = c .before .before .before
@@ -24,13 +26,12 @@ abbrev joined : tie.After-costs Inv-loop μ-loop → tie.After-put-join Inv-loop
 joined c = c .before .before .before .before .before
 
 few : (c : tie.Start Inv-loop μ-loop) → c .args .e ≤ 28
-few c = omega (arith, c .pre .0 .tables .limits .few, c .pre .0 .tables .entries-are)
+few c = few-of (c .pre .0)
 
 loop-holds : tie.Need-loop-holds Inv-loop μ-loop
 loop-holds c =
     let s : tie.Start Inv-loop μ-loop = search in
-    let x = s .args in
-    going-start (x .ticks .now) (x .move-costs .now) (x .instruments .now) (x .starts .now) (x .finishes .now) (x .fee) (x .e) (x .j) _ (x .m) (s .pre .3)
+    going-start _ (s .args .j) _ (s .args .m) (s .pre .3)
 
 join-of-requires : tie.Need-join-of-requires Inv-loop μ-loop
 join-of-requires c κs = let s = start (c .before) in (s .pre .0, omega (arith, c .before .loop .inv .upto), s .pre .1, s .pre .2)
@@ -53,15 +54,15 @@ loop-again : tie.Need-loop-again Inv-loop μ-loop
 loop-again c =
     let p = joined c in
     let f = found (p .before) in
-    let x = start (f .before .before) .args in
+    let s = start (f .before .before) in
     let l = f .before .before .loop in
-    going-on (x .ticks .now) (x .move-costs .now) (x .instruments .now) (x .starts .now) (x .finishes .now) (x .fee) (x .e) (x .j) _ (x .m) (arrays (l .tails) (l .heads) (l .costs)) _ (l .at) _ (l .i) (f .join-of .result) (l .inv) (omega (arith, f .before .loop-test .taken)) (f .join-of .ensures) (p .put-join .ensures .0) (p .put-join .ensures .1)
+    going-on _ (s .args .j) _ (s .args .m) (arrays (l .tails) (l .heads) (l .costs)) _ (l .at) _ (l .i) (f .join-of .result) (l .inv) (omega (arith, f .before .loop-test .taken)) (f .join-of .ensures) (p .put-join .ensures .0) (p .put-join .ensures .1)
 
 returns : tie.Need-returns Inv-loop μ-loop
 returns c =
-    let x = start (c .before) .args in
+    let s = start (c .before) in
     let l = c .before .loop in
-    going-done (x .ticks .now) (x .move-costs .now) (x .instruments .now) (x .starts .now) (x .finishes .now) (x .fee) (x .e) (x .j) _ (x .m) (arrays (l .tails) (l .heads) (l .costs)) (l .at) (l .i) (l .inv) (omega (arith, c .loop-test .left))
+    going-done _ (s .args .j) _ (s .args .m) (arrays (l .tails) (l .heads) (l .costs)) (l .at) (l .i) (l .inv) (omega (arith, c .loop-test .left))
 
 pub put-joins-spec : {M : Type 1} → statement M
 put-joins-spec =

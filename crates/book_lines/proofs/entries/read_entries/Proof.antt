@@ -22,8 +22,8 @@ abbrev μ-loop : tie.MeasureT-loop
 loop-holds : tie.Need-loop-holds Inv-loop μ-loop
 loop-holds c = ([], lines-none entry _, known-entries-none _ _)
 
-sub-t19 : tie.Need-sub-t19 Inv-loop μ-loop
-sub-t19 c = omega (arith, c .before .before .loop .inv .1 .shorter)
+sub-t20 : tie.Need-sub-t20 Inv-loop μ-loop
+sub-t20 c = omega (arith, c .before .before .loop .inv .1 .shorter)
 
 returns : tie.Need-returns Inv-loop μ-loop
 returns c =
@@ -98,7 +98,7 @@ read-entries-spec =
     μ-loop
     loop-holds
     (λ c κs. search needs)
-    sub-t19
+    sub-t20
     returns
     put-entry-requires
     (λ c κs. search needs)

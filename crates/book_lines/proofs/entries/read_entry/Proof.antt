@@ -3,10 +3,11 @@ use Prim.Native.Nat.{ℕ, _+_, _-_}
 use mathlib.Core.List.{List}
 use native.Mathlib.Omega.{arith}
 use borrow.Author.Needs.{needs}
-use lib.ListN.{length, take, drop, getD}
-use Rattle.text_read.specs.Reader.{Reader, _>>=_, _>>_, give, word, row}
-use Rattle.text_read.specs.Heads.{bytes, nameEnd}
-use Rattle.book_lines.specs.Lines.{Entry, entry}
+use lib.ListN.{length, take}
+use Rattle.text_read.specs.Reader.{Reader, _>>=_, _>>_, _<|>_, give, word}
+use Rattle.text_read.specs.Heads.{bytes}
+use Rattle.book_lines.specs.Lines.{Entry, shortForm, longForm, entryFrom, entry}
+use Rattle.book_lines.specs.Passes.{numbersOf}
 use Rattle.text_read.proofs.Sequence.{From, part, begin, first, first-stops, skip, next-right, stops}
 use Rattle.book_lines.proofs.EntryPass.{entry-absent, entry-present}
 use Rattle.book_lines.proofs.entries.read_entry.Statement.{statement}
@@ -16,14 +17,14 @@ use Rattle.book_lines.proofs.entries.read_entry.Tie as tie
 abbrev start-before-else2 : tie.Else2 → tie.Start
 start-before-else2 c = c .before .before .before .before .before .before .before
 
-abbrev start-before-n : tie.After-n → tie.Start
-start-before-n c = start-before-else2 (c .before .before .before .before .before)
+abbrev start-before-form : tie.Else3 → tie.Start
+start-before-form c = start-before-else2 (c .before .before .before)
 
-abbrev read-text-before-n : tie.After-n → tie.After-read-text
-read-text-before-n c = c .before .before .before .before .before .before .before .before .before
+abbrev read-text-before-form : tie.Else3 → tie.After-read-text
+read-text-before-form c = c .before .before .before .before .before .before .before
 
-abbrev read-word-before-n : tie.After-n → tie.After-read-word
-read-word-before-n c = c .before .before .before .before .before .before
+abbrev read-word-before-form : tie.Else3 → tie.After-read-word
+read-word-before-form c = c .before .before .before .before
 
 returns : tie.Need-returns
 unfolding entry bytes _>>_
@@ -31,7 +32,7 @@ returns c = entry-absent _ _ (first-stops _ _ (begin entry _) (c .before .before
 
 -- What is to be read after the name, after the head, after the word, and after the row.
 abbrev Rest : ℕ → List ℕ → Reader Entry
-Rest left w = row nameEnd 3 >>= (λ ns. give (record { name = w; left = left; instrument = getD ns 0 0; start = getD ns 1 0; finish = getD ns 2 0 }))
+Rest left w = (shortForm <|> longForm) >>= (λ ns. give (entryFrom w left ns))
 
 headed : (c : tie.Else1)
     → let s = c .before .before .before .before .args .rest .now in
@@ -45,16 +46,13 @@ worded : (c : tie.Else2)
     From (entry s) (Rest (length s - n) (take (c .before .read-word .result) (part s n))) s (n + c .before .read-word .result)
 worded c = next-right _ _ (headed (c .before .before .before)) (c .before .read-word .ensures) (c .if2 .left)
 
-ended : (c : tie.After-n)
-    → let s = start-before-n c .args .rest .now in
-    let n = read-text-before-n c .read-text .result in
-    let ns = drop 1 (c .before .before .read-row .result .numbers) in
-    From (entry s)
-    (give (record { name = take (read-word-before-n c .read-word .result) (part s n); left = length s - n; instrument = getD ns 0 0; start = getD ns 1 0; finish = getD ns 2 0 }))
-    s
-    (n + read-word-before-n c .read-word .result + c .before .before .read-row .result .used)
-unfolding bytes
-ended c = next-right _ _ (worded (c .before .before .before .before .before)) (c .before .before .read-row .ensures .right) (c .before .if3 .left)
+ended : (c : tie.Else3)
+    → let s = start-before-form c .args .rest .now in
+    let n = read-text-before-form c .read-text .result in
+    let r = c .before .read-form in
+    From (entry s) (give (entryFrom (take (read-word-before-form c .read-word .result) (part s n)) (length s - n) (numbersOf (r .result)))) s
+    (n + read-word-before-form c .read-word .result + r .result .used)
+ended c = next-right _ _ (worded (c .before .before .before)) (c .before .read-form .ensures) (c .if3 .left)
 
 sub-read-word : tie.Need-sub-read-word
 sub-read-word c = headed c .within
@@ -68,26 +66,26 @@ returns-2 c = entry-absent _ _ (stops _ _ (headed (c .before .before .before .be
 add-at : tie.Need-add-at
 add-at c = omega (arith, worded c)
 
-sub-read-row : tie.Need-sub-read-row
-sub-read-row c = worded c .within
+sub-read-form : tie.Need-sub-read-form
+sub-read-form c = worded c .within
 
-part-read-row-start : tie.Need-part-read-row-start
-part-read-row-start c = worded c .within
+part-read-form-start : tie.Need-part-read-form-start
+part-read-form-start c = worded c .within
 
 returns-3 : tie.Need-returns-3
 unfolding bytes
-returns-3 c = entry-absent _ _ (stops _ _ (worded (c .before .before .before .before .before)) (c .before .before .read-row .ensures .right) (c .before .if3 .taken)) (c .no-entry3 .ensures)
+returns-3 c = entry-absent _ _ (stops _ _ (worded (c .before .before .before .before)) (c .before .before .read-form .ensures) (c .before .if3 .taken)) (c .no-entry3 .ensures)
 
-sub-t22 : tie.Need-sub-t22
-sub-t22 c =
+sub-t18 : tie.Need-sub-t18
+sub-t18 c =
     let else1 : tie.Else1 = search in
     headed else1 .within
 
-add-t32 : tie.Need-add-t32
-add-t32 c = omega (arith, ended c)
+add-t19 : tie.Need-add-t19
+add-t19 c = omega (arith, ended c)
 
 returns-4 : tie.Need-returns-4
-returns-4 c = entry-present _ (c .before .before .read-row .result .numbers) _ _ _ (worded (c .before .before .before .before .before) .within) (ended c) (omega (arith, c .before .if3 .left))
+returns-4 c = entry-present _ _ _ _ (c .before .read-form .result) (worded (c .before .before .before) .within) (ended c) (omega (arith, c .if3 .left))
 
 pub read-entry-spec : {M : Type 1} → statement M
 read-entry-spec =
@@ -104,16 +102,12 @@ read-entry-spec =
     (λ c κs. search needs)
     returns-2
     add-at
-    sub-read-row
-    part-read-row-start
-    (λ c. search needs)
+    sub-read-form
+    part-read-form-start
     (λ c. search needs)
     (λ c κs. search needs)
     (λ c κs. search needs)
     returns-3
-    sub-t22
-    (λ c. search needs)
-    (λ c. search needs)
-    (λ c. search needs)
-    add-t32
+    sub-t18
+    add-t19
     returns-4)

@@ -4,12 +4,11 @@ use native.Mathlib.Omega.{arith}
 use borrow.Author.Needs.{needs}
 use lib.ListN.{length}
 use Rattle.book_lines.specs.declared.moves.Move.{Move}
-use Rattle.text_read.specs.Reader.{row, ReadsFront}
-use Rattle.text_read.specs.Heads.{bytes, moveHead}
+use Rattle.text_read.specs.Reader.{ReadsFront}
+use Rattle.text_read.specs.Heads.{bytes}
 use Rattle.book_lines.specs.Lines.{move, moveFrom}
-use Rattle.text_read.proofs.Sequence.{mapped}
 use Rattle.text_read.proofs.Lines.{Lines, lines-none, lines-more, lines-fall, lines-all}
-use Rattle.book_lines.proofs.MovePass.{KnownMoves, known-moves-none, known-moves-more}
+use Rattle.book_lines.proofs.MovePass.{move-read, KnownMoves, known-moves-none, known-moves-more}
 use Rattle.book_lines.proofs.moves.read_moves.Statement.{statement}
 use Rattle.book_lines.proofs.moves.read_moves.Tie as tie
 
@@ -25,8 +24,8 @@ loop-holds c = ([], lines-none move _, known-moves-none)
 -- the line of a turn
 got : (c : tie.After-read-row Inv-loop μ-loop)
     → ReadsFront (c .before .before .loop .rest .now) (move (c .before .before .loop .rest .now)) (c .read-row .result .used) (moveFrom (c .read-row .result .numbers))
-unfolding move bytes
-got c = mapped (row moveHead 4) moveFrom _ (c .read-row .ensures .right)
+unfolding bytes
+got c = move-read (c .read-row .ensures)
 
 sub-t20 : tie.Need-sub-t20 Inv-loop μ-loop
 sub-t20 c = omega (arith, c .before .before .before .loop .inv .1 .shorter)
