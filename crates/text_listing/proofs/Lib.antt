@@ -1,3 +1,4 @@
+mod Examples
 mod Spaced
 pub mod Sizes
-mod Examples
+pub mod WithoutParts
