@@ -21,22 +21,13 @@ short c =
     omega (arith, ap (λ v. length (lineOfWay v)) (told (h .book) (s .args .ways) (s .pre .1) (h .enumerates) (c .way .result) (c .way .ensures)), line-short (h .book) (s .args .ways) (s .pre .1) (h .enumerates))
 
 slice-aggregate-times : tie.Need-slice-aggregate-times
-slice-aggregate-times c =
-    let told : tie.After-way = search in
-    let s : tie.Start = search in
-    sym (length-take-le (s .args .ways .entries) (told .way .result) (in-way told))
+slice-aggregate-times c = sym (length-take-le _ _ (search needs))
 
 times-requires : tie.Need-times-requires
-times-requires c κs =
-    let told : tie.After-way = search in
-    let s : tie.Start = search in
-    omega (arith, length-take-le (s .args .ways .entries) (told .way .result) (in-way told), in-way told)
+times-requires c κs = omega (arith, slice-aggregate-times c, in-way (c .before))
 
 slice-aggregate-put-way : tie.Need-slice-aggregate-put-way
-slice-aggregate-put-way c =
-    let told : tie.After-way = search in
-    let s : tie.Start = search in
-    sym (length-take-le (s .args .ways .entries) (told .way .result) (in-way told))
+slice-aggregate-put-way c = sym (length-take-le _ _ (search needs))
 
 put-way-requires : tie.Need-put-way-requires
 put-way-requires c κs =
