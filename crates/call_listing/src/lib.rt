@@ -13,7 +13,7 @@ struct Written {
     line: u32,
 }
 
-// The longest listing has so many bytes.
+// Room for the longest listing, in bytes.
 pub const LISTING_ROOM: usize = 91028;
 
 fn blank() -> [u8; LISTING_ROOM]

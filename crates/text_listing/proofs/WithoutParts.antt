@@ -62,19 +62,23 @@ end-whole : Whole lineEnd
 unfolding cut begins bytes
 end-whole t = refl
 
--- the lines
+-- the lines with one number
+row-whole : (w : List ℕ) (n : ℕ) → Whole w → Whole (w ++ (space ++ decimal n ++ lineEnd))
+row-whole w n f = whole-then w (space ++ decimal n ++ lineEnd) f (whole-then (space ++ decimal n) lineEnd (number-whole n) end-whole)
+
 pub cost-whole : (n : ℕ) → Whole (costLine n)
 unfolding cut begins bytes costLine
-cost-whole n t = ap (λ r. bytes "(cost" ++ r) (whole-then (space ++ decimal n) lineEnd (number-whole n) end-whole t)
+cost-whole n = row-whole (bytes "(cost") n (λ t. refl)
 
 pub end-line-whole : (n : ℕ) → Whole (endLine n)
 unfolding cut begins bytes endLine
-end-line-whole n t = ap (λ r. bytes "(end" ++ r) (whole-then (space ++ decimal n) lineEnd (number-whole n) end-whole t)
+end-line-whole n = row-whole (bytes "(end") n (λ t. refl)
 
 pub refused-whole : (n : ℕ) → Whole (refusedLine n)
 unfolding cut begins bytes refusedLine
-refused-whole n t = ap (λ r. bytes "(refused" ++ r) (whole-then (space ++ decimal n) lineEnd (number-whole n) end-whole t)
+refused-whole n = row-whole (bytes "(refused") n (λ t. refl)
 
+-- and without
 pub more-whole : Whole moreLine
 unfolding cut begins bytes moreLine
 more-whole t = refl

@@ -1,4 +1,4 @@
--- How many bytes a listing has at most. A book of 28 entries with that many is in tests/test_way_calls.py.
+-- How many bytes a listing has at most; that of `LONGEST` in tests/way_books.py has so many.
 use Prim.Native.Nat.{ℕ, _+_, _*_}
 
 -- the line of a way: 12 bytes, N in one digit as at most 8 players are called, a byte; 28 predecessors with a space before each, of which 19 at

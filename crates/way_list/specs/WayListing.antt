@@ -34,6 +34,7 @@ abbrev pub listBy : (List ℕ → List ℕ) → (List ℕ → ℕ) → List (Lis
 listBy line cost [] = noneLine
 listBy line cost (w ∷ l) = costLine (cost w) ++ (linesBy line (take 1000 (w ∷ l)) ++ lastLine (counted 1000 (length (w ∷ l))))
 
+-- the listing, in the lines of request 6
 abbrev pub listWays : (List ℕ → ℕ) → List (List ℕ) → List ℕ
 listWays cost l = listBy lineOfWay cost l
 
