@@ -6,7 +6,7 @@ use Prim.Native.Nat.{ℕ, zero, suc}
 use lib.ListN.{length, take}
 use Rattle.laws.specs.Count.{Count, exactly, more, counted}
 use Rattle.text_listing.specs.Lines.{costLine}
-use Rattle.text_listing.proofs.WithoutParts.{withoutParts, oldLine, Whole, whole-alone, cost-whole, end-line-whole, refused-whole, more-whole, none-whole, way-cut}
+use Rattle.text_listing.proofs.WithoutParts.{withoutParts, oldLine, Whole, whole-alone, cost-whole, end-whole, refused-whole, more-whole, none-whole, way-cut}
 use Rattle.book_form.specs.Book.{parse}
 use Rattle.book_form.specs.Questions.{bookRefusal}
 use Rattle.way_theory.specs.BookBytes.{ways, wayCostOrZero}
@@ -26,7 +26,7 @@ lines-cut (w ∷ l) t =
     ∙ rw (lines-cut l t, append-assoc (oldLine w) (linesBy oldLine l) (withoutParts t)) refl
 
 last-whole : (n : Count) → Whole (lastLine n)
-last-whole (exactly n) = end-line-whole n
+last-whole (exactly n) = end-whole n
 last-whole more = more-whole
 
 list-cut : (cost : List ℕ → ℕ) (l : List (List ℕ)) → withoutParts (listBy lineOfWay cost l) ≡ listBy oldLine cost l

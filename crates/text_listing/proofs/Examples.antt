@@ -2,8 +2,8 @@
 use mathlib.Core.Path.{_≡_, refl}
 use mathlib.Core.List.{[], _∷_, _++_}
 use Rattle.text_read.specs.Heads.{bytes}
-use Rattle.text_write.specs.Decimal.{digits, decimal}
 use Rattle.text_read.specs.Reader.{begins}
+use Rattle.text_write.specs.Decimal.{digits, decimal}
 use Rattle.text_listing.specs.Lines.{spaced, costLine, wayLine, endLine, moreLine, noneLine, refusedLine}
 use Rattle.text_listing.proofs.WithoutParts.{cut, withoutParts}
 

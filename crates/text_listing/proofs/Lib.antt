@@ -1,4 +1,4 @@
-mod Examples
 mod Spaced
 pub mod Sizes
 pub mod WithoutParts
+mod Examples

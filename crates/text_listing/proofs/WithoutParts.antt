@@ -14,7 +14,7 @@ use Rattle.text_write.specs.Decimal.{decimal}
 use Rattle.text_write.proofs.Decimal.{decimal-bytes, decimal-some}
 use Rattle.text_listing.specs.Lines.{spaced, costLine, wayLine, endLine, moreLine, noneLine, refusedLine}
 
--- from ` (parts ` on all is left out, up to the `)` that closes it; whether that has begun
+-- from ` (parts ` on all is left out, up to the `)`, byte 41, that closes it; whether that has begun
 unfoldable pub cut : Bool → List ℕ → List ℕ
 cut b [] = []
 cut true (c ∷ t) = cut (not (eqb c 41)) t
@@ -58,21 +58,21 @@ space-whole (c ∷ p) e h t = rw (cut, ne-eqb c 40 (λ q. omega (arith, e .0))) 
 number-whole : (n : ℕ) → Whole (space ++ decimal n)
 number-whole n = space-whole (decimal n) (decimal-bytes n) (decimal-some n)
 
-end-whole : Whole lineEnd
+line-end-whole : Whole lineEnd
 unfolding cut begins bytes
-end-whole t = refl
+line-end-whole t = refl
 
 -- the lines with one number
 row-whole : (w : List ℕ) (n : ℕ) → Whole w → Whole (w ++ (space ++ decimal n ++ lineEnd))
-row-whole w n f = whole-then w (space ++ decimal n ++ lineEnd) f (whole-then (space ++ decimal n) lineEnd (number-whole n) end-whole)
+row-whole w n f = whole-then w (space ++ decimal n ++ lineEnd) f (whole-then (space ++ decimal n) lineEnd (number-whole n) line-end-whole)
 
 pub cost-whole : (n : ℕ) → Whole (costLine n)
 unfolding cut begins bytes costLine
 cost-whole n = row-whole (bytes "(cost") n (λ t. refl)
 
-pub end-line-whole : (n : ℕ) → Whole (endLine n)
+pub end-whole : (n : ℕ) → Whole (endLine n)
 unfolding cut begins bytes endLine
-end-line-whole n = row-whole (bytes "(end") n (λ t. refl)
+end-whole n = row-whole (bytes "(end") n (λ t. refl)
 
 pub refused-whole : (n : ℕ) → Whole (refusedLine n)
 unfolding cut begins bytes refusedLine
@@ -103,4 +103,4 @@ pub way-cut : (n : ℕ) (ns t : List ℕ) → withoutParts (wayLine n ns ++ t) �
 unfolding cut begins bytes wayLine oldLine
 way-cut n ns t =
     ap (λ r. bytes "(way" ++ r)
-    (ap (cut true) (closed n ns t) ∙ digits-cut (decimal n) _ (decimal-bytes n) ∙ whole-then (spaced ns) lineEnd (spaced-whole ns) end-whole t)
+    (ap (cut true) (closed n ns t) ∙ digits-cut (decimal n) _ (decimal-bytes n) ∙ whole-then (spaced ns) lineEnd (spaced-whole ns) line-end-whole t)
