@@ -10,13 +10,14 @@ INSTALL ?= install
 CFLAGS ?= -O2
 
 VERSION := $(shell sed -n 's/^.define DESK_VERSION "\(.*\)"$$/\1/p' include/desk.h)
+LISTING_ROOM := $(shell sed -n 's/^.define DESK_LISTING_ROOM //p' include/desk.h)
 LIBRARY := target/staticlib/libdesk.a
 PROGRAM := target/bin/ways
 EXAMPLES := $(patsubst examples/c/%.c,target/examples/%,$(wildcard examples/c/*.c))
 SOURCES := crates.txt $(shell find crates -name '*.rt' -o -name '*.antt')
 
 INSTALLED = $(libdir)/libdesk.a $(includedir)/desk.h $(pkgconfigdir)/desk.pc $(bindir)/ways $(mandir)/man1/ways.1 $(mandir)/man3/desk.3
-FILL = sed -e 's|@VERSION@|$(VERSION)|' -e 's|@PREFIX@|$(PREFIX)|' -e 's|@includedir@|$(includedir)|' -e 's|@libdir@|$(libdir)|'
+FILL = sed -e 's|@VERSION@|$(VERSION)|' -e 's|@LISTING_ROOM@|$(LISTING_ROOM)|' -e 's|@PREFIX@|$(PREFIX)|' -e 's|@includedir@|$(includedir)|' -e 's|@libdir@|$(libdir)|'
 
 .PHONY: all install uninstall examples test
 

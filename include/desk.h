@@ -11,7 +11,7 @@
 #define DESK_H
 
 /* The version of the library and of the program ways. */
-#define DESK_VERSION "2.4.0"
+#define DESK_VERSION "3.0.0"
 
 #include <stddef.h>
 #include <stdint.h>
@@ -28,13 +28,13 @@ enum {
     DESK_MORE = 102  /* there are more than the cap */
 };
 
-/* The most that an accepted book or network has, for lists of a fixed size; and room for every listing and for the sheets of any book, in
- * bytes. */
+/* The most that an accepted book or network has, for lists of a fixed size; and room for the longest listing and for the sheets of any book,
+ * in bytes. */
 #define DESK_BOOK_BYTES 16384
 #define DESK_ENTRIES 28
 #define DESK_NODES 64
 #define DESK_ARCS 512
-#define DESK_LISTING_ROOM 98304
+#define DESK_LISTING_ROOM 91028
 #define DESK_SHEETS_ROOM 1988
 
 /* value: with DESK_OK the cost, the count, the length of the listing, the room for the sheets or their length, and otherwise 0.
@@ -95,10 +95,16 @@ desk_reply desk_next(const uint8_t *book, size_t book_len, const uint8_t *given,
  * Codes: DESK_OK, DESK_MORE, 11 to 16. */
 desk_reply desk_count(const uint8_t *book, size_t book_len, uint16_t cap);
 
-/* The listing of a book: `(cost C)`, `(way ..)` with its E numbers for each least-cost way in order, then `(end N)` with their count; after
- * 1000 ways, if there are more, `(more 1000)`. Each line ends in byte 10; no byte 0 follows the last. The value is the length of the whole
- * text, at most DESK_LISTING_ROOM. The text is written to the front of a list that has room for all of it, and the bytes after it keep what
- * they held; a shorter list does not change, and the code is DESK_OK all the same.
+/* The listing of a book: `(cost C)`, `(way (parts N) ..)` with N, the number of its parts, and its E numbers for each least-cost way in order,
+ * then `(end N)` with the count of ways; after 1000 ways, if there are more, `(more 1000)`. Each line ends in byte 10; no byte 0 follows the
+ * last. If snare and snare2 are one part and xylo is another, or all three are one part:
+ *   (cost 12)
+ *   (way (parts 2) 0 0 1)
+ *   (way (parts 1) 0 1 2)
+ *   (end 2)
+ * Without entries there is one way, and its line is `(way (parts 0))`. The value is the length of the whole text, at most DESK_LISTING_ROOM.
+ * The text is written to the front of a list that has room for all of it, and the bytes after it keep what they held; a shorter list does
+ * not change, and the code is DESK_OK all the same.
  * Codes: DESK_OK, DESK_NONE, 11 to 16. */
 desk_reply desk_listing(const uint8_t *book, size_t book_len, uint8_t *text, size_t text_len);
 

@@ -30,7 +30,7 @@ def arguments(entry, a):
 def fair(entry, rng):
     """Arguments that the entry does not refuse."""
     if "network" in entry: a = dict(balances=BALANCES, arcs=ALL_ARCS, given=LINES[0], flows=rng.randbytes(16), prices=rng.randbytes(12), cap=6)
-    else: a = dict(book=EXAMPLE, given=WAYS[0], way=rng.randbytes(12), text=rng.randbytes(ROOM if entry == "desk_sheets" else 48), cap=2, entry=2)
+    else: a = dict(book=EXAMPLE, given=WAYS[0], way=rng.randbytes(12), text=rng.randbytes(ROOM if entry == "desk_sheets" else 68), cap=2, entry=2)
     return arguments(entry, a)
 
 
@@ -157,7 +157,7 @@ class Boundary(unittest.TestCase):
     def test_listing(self):
         """Lent lists of every length to a book with ways, one without and those that are refused: only a listing that fits is written."""
         for book in (EXAMPLE, made(), made(1, 0, [], [(b"a", 1, 0, 2), (b"b", 1, 1, 3)]), *REFUSED):
-            for size in range(60): self.compare("desk_listing", dict(book=book, text=self.rng.randbytes(size)))
+            for size in range(80): self.compare("desk_listing", dict(book=book, text=self.rng.randbytes(size)))
         self.assertEqual(self.seen, {"desk_listing": {OK, NONE, *range(11, 17)}})
 
     def test_sheets(self):

@@ -12,7 +12,7 @@ import desk_library
 import sheet_writer
 import trial
 from test_sheets import stored
-from test_way_trial import EXAMPLES, examples
+from test_way_trial import EXAMPLES, counted, examples
 from way_books import ENTRIES, MOVES, bad_lines, made, refused
 
 ROOT = desk_library.ROOT
@@ -39,8 +39,8 @@ def run(command, data=b"", out=subprocess.PIPE):
 def listed(text):
     """A stored listing: the cost, the ways and the last line as list_ways prints it; None where it has no ways."""
     if not text.startswith(b"(cost "): return None
-    first, *lines, last = [line[1:-1].split() for line in text.decode().splitlines()]
-    return int(first[1]), [tuple(map(int, w[1:])) for w in lines], {"end": "%s in all", "more": "%s shown, and there are more"}[last[0]] % last[1]
+    first, *_, last = [line[1:-1].split() for line in text.decode().splitlines()]
+    return int(first[1]), [way for _, way in counted(text)], {"end": "%s in all", "more": "%s shown, and there are more"}[last[0]] % last[1]
 
 
 def printed(text, book):
@@ -209,7 +209,7 @@ class Header(unittest.TestCase):
 
     def test_limits(self):
         limits = {name: int(value) for name, value in re.findall(r"^#define DESK_(\w+) (\d+)$", HEADER.read_text(), re.M)}
-        self.assertEqual(limits, {"BOOK_BYTES": book_reader.LONGEST, "ENTRIES": 28, "NODES": trial.NODES, "ARCS": trial.ARCS, "LISTING_ROOM": 98304, "SHEETS_ROOM": 28 * sheet_writer.ROOM})
+        self.assertEqual(limits, {"BOOK_BYTES": book_reader.LONGEST, "ENTRIES": 28, "NODES": trial.NODES, "ARCS": trial.ARCS, "LISTING_ROOM": 16 + 1000 * 91 + 12, "SHEETS_ROOM": 28 * sheet_writer.ROOM})
 
 
 if __name__ == "__main__":

@@ -59,11 +59,13 @@ class Documents(unittest.TestCase):
                 if re.match(r" *\|", line) and not re.match(r" *\|", before): self.assertRegex(lines[k + 1], r"^ *\|[-|: ]+\|$", "%s:%d" % (path, k))
 
     def test_example(self):
-        """The book that the rule shows is the stored one, with its listing and, where the rule shows them, sheets of it."""
+        """The book that the rule and ways(1) show is the stored one, with its listing, which the header shows too, and, where the rule shows them, sheets of it."""
         book, listing, *sheets = re.findall(r"^```\n(.*?)^```$", (ROOT / "docs/RULE.md").read_text(), re.M | re.S)
         self.assertEqual(book, (EXAMPLES / "document.book").read_text())
         self.assertEqual(listing, (EXAMPLES / "document.listing").read_text())
-        self.assertIn("".join("    " + line for line in listing.splitlines(True)), (ROOT / "README.md").read_text())
+        for before, path in ("    ", "README.md"), (" *   ", "include/desk.h"):
+            self.assertIn("".join(before + line for line in listing.splitlines(True)), (ROOT / path).read_text())
+        for text in (book, listing): self.assertIn(".nf\n%s.fi\n" % text, (ROOT / "packaging/ways.1.in").read_text())
         for text in sheets: self.assertIn(text, [path.read_text() for path in EXAMPLES.glob("document-[12].sheets")])
 
     def test_questions(self):

@@ -84,6 +84,13 @@ class Install(unittest.TestCase):
         self.assertEqual(len(declared), 14)
         self.assertEqual(shown, "SYNOPSIS#include<desk.h>" + re.sub(r"\s", "", "".join(declared)))
 
+    def test_listing_room(self):
+        """The room for the longest listing is one number: in the header, in the library, where it is proved, and in desk(3)."""
+        room = re.search(r"^#define DESK_LISTING_ROOM (\d+)$", HEADER.read_text(), re.M)[1]
+        library, page = ROOT / "crates/call_listing/src/lib.rt", self.prefix / "share/man/man3/desk.3"
+        self.assertEqual(re.findall(r"^pub const LISTING_ROOM: usize = (\d+);$", library.read_text(), re.M), [room])
+        self.assertEqual(re.findall(r"^\.B DESK_LISTING_ROOM\n\((\d+)\) bytes", page.read_text(), re.M), [room])
+
     def test_build(self):
         """Installing builds what is not there, the library first and the program after it."""
         told = make("-n", "-W", "crates.txt", "install", "DESTDIR=%s" % self.folder)

@@ -9,7 +9,7 @@ import sheet_writer
 import way_library
 import way_trial
 from desk_library import NONE, OK, ROOT, numbers
-from test_way_trial import EXAMPLES
+from test_way_trial import EXAMPLES, counted
 from way_books import EXAMPLE, MOST, THOUSAND, large, made, named, paired, refused, small
 
 SHEET = re.compile(rb"\(part (\d+)\n((?:\(play .*\)\n\(gap .*\)\n)*\(play .*\)\n)\)\n")
@@ -21,8 +21,8 @@ def stored():
     """Each stored text of sheets: its name, the book, the way and the text. NAME-N.sheets is of way N of NAME.listing."""
     for path in sorted(EXAMPLES.glob("*.sheets")):
         name, _, place = path.stem.rpartition("-")
-        row = re.findall(r"^\(way(.*)\)$", (EXAMPLES / (name + ".listing")).read_text(), re.M)[int(place) - 1]
-        yield path.stem, (EXAMPLES / (name + ".book")).read_bytes(), [int(word) for word in row.split()], path.read_bytes()
+        _, way = counted((EXAMPLES / (name + ".listing")).read_bytes())[int(place) - 1]
+        yield path.stem, (EXAMPLES / (name + ".book")).read_bytes(), way, path.read_bytes()
 
 
 def read_back(text):

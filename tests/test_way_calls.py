@@ -11,10 +11,10 @@ import network_library
 import trial
 import way_library
 import way_trial
-from desk_library import END, MORE, NONE, OK, numbers
+from desk_library import END, MORE, NONE, OK, ROOT, numbers
 from test_network_calls import CAP, Session, caps
-from test_way_trial import doubled, examples, old_list, shortened
-from way_books import EXAMPLE, HALVES, MOST, THOUSAND, bad_lines, damaged, large, made, named, paired, refused, sized, small
+from test_way_trial import PARTS, cost_of, counted, doubled, examples, old_list, old_listing, shortened, without_parts
+from way_books import EXAMPLE, HALVES, LONGEST, MOST, THOUSAND, bad_lines, damaged, large, layered_ways, made, named, paired, refused, sized, small
 
 ONE = EXAMPLE.replace(b"(players 2)", b"(players 1)")
 LATE = (b"1 0 96)", b"1 0 97)")
@@ -182,7 +182,7 @@ class WayCalls(unittest.TestCase):
                         else: self.assertEqual(self.desk.first(book, lent), ((NONE, 0) if line is None else (OK, cost), [wanted]))
                 if not ways: self.assertEqual(self.desk.next(book, numbers([0] * e), lent), ((18, 0), [lent]))
                 for cap in caps(len(ways)): self.assertEqual(self.desk.count(book, cap), (OK, len(ways)) if len(ways) <= cap else (MORE, 0))
-                text = "".join("(way%s)\n" % "".join(" %d" % i for i in w) for w in ways)
+                text = "".join("(way (parts %d)%s)\n" % (w.count(0), "".join(" %d" % i for i in w)) for w in ways)
                 self.listed(book, ("(cost %d)\n%s(end %d)\n" % (cost, text, len(ways)) if ways else "(none)\n").encode())
                 run = self.session(book, name)
                 run.walk(0.4)
@@ -198,7 +198,7 @@ class WayCalls(unittest.TestCase):
                     self.assertEqual(self.desk.count(book, 1), (int(rows[0][9:-1]), 0))
                     continue
                 code, cost, lines = self.walked(book, 1000)
-                self.assertEqual(["(way%s)" % "".join(" %d" % i for i in w) for w in lines], rows[1:-2])
+                self.assertEqual(["(way (parts %d)%s)" % (w.count(0), "".join(" %d" % i for i in w)) for w in lines], rows[1:-2])
                 if rows[0] == "(none)": self.assertEqual((code, cost, self.desk.count(book, 0)), (NONE, 0, (OK, 0)))
                 else:
                     self.assertEqual(rows[0], "(cost %d)" % cost)
@@ -471,6 +471,41 @@ class WayCalls(unittest.TestCase):
             self.listed(book, listing)
             self.assertEqual(self.walked(book, 2000), (END, cost, lines))
             self.assertEqual([self.desk.count(book, cap) for cap in (length - 1, length)], [(MORE, 0), (OK, length)])
+
+    def test_told(self):
+        """The numbers of parts of request 6, each listing word by word."""
+        for name, book, listing in PARTS:
+            with self.subTest(name): self.listed(book, listing)
+
+    def test_parts(self):
+        """A way line tells the zeros on it, which are the sheets of that way: from 1 to P where there are entries. Without these words the listing is as it was."""
+        rng, told = random.Random(18), {}
+        for text in [book for _, book, _ in (*examples(), *PARTS)] + [small(rng) for _ in range(600)] + [kind(rng) for kind in (large, paired) for _ in range(10)]:
+            listing, (code, cost, lines) = self.desk.listed(text), self.walked(text, 1001)
+            self.assertEqual(without_parts(listing), old_listing(lines, cost) if lines or code == NONE else b"(refused %d)\n" % code, text)
+            for parts, way in counted(listing):
+                (code, length), (sheets,) = self.desk.sheets(text, numbers(way), bytes(71 * len(way)))
+                self.assertEqual((code, way.count(0), sheets[:length].count(b"(part ")), (OK, parts, parts), text)
+                self.assertTrue(1 <= parts <= book_reader.read(text).players or not way, text)
+                told[parts] = told.get(parts, 0) + 1
+        self.assertTrue(all(told[parts] > 20 for parts in range(9)), told)
+
+    def test_longest(self):
+        """A line of a way has at most 91 bytes, that of the cost 16 and the last 12. A listing with 1,000 such lines is written to a list of 91,028 bytes, and to
+        no shorter one."""
+        book, listing = book_reader.read(LONGEST), self.desk.listed(LONGEST)
+        first, *rows, last = listing.splitlines(True)
+        self.assertEqual((first, len(rows), {len(row) for row in rows}, last), (b"(cost 28000000)\n", 1000, {91}, b"(more 1000)\n"))
+        ways = [way for _, way in counted(listing)]
+        self.assertEqual({(parts, cost_of(book, way)) for parts, way in counted(listing)}, {(3, 28000000)})
+        self.assertTrue(all(a < b for a, b in zip(ways, ways[1:])))
+        self.assertTrue(ways == list(itertools.islice(layered_ways(9), 1000)))
+        self.assertEqual(re.findall(r"^#define DESK_LISTING_ROOM (\d+)$", (ROOT / "include/desk.h").read_text(), re.M), [str(len(listing))])
+        for room in (0, 90031, 91027, 91028, 91029, 98304):
+            lent = bytes(k % 251 for k in range(room))
+            answer, (text,) = self.desk.listing(LONGEST, lent)
+            self.assertEqual(answer, (OK, 16 + 1000 * 91 + 12))
+            self.assertEqual(text, listing + lent[91028:] if room >= 91028 else lent)
 
     def test_counts(self):
         """Two players are both needed at the start, and each later entry may go to either: twice as many ways for each."""

@@ -1,5 +1,5 @@
-"""The search by trial for ways: beside all lists of E numbers, beside the flows of the book's network, beside the rule before the long form of an entry, and on
-the stored examples."""
+"""The search by trial for ways: beside all lists of E numbers, beside the flows of the book's network, beside the rule before the long form of an entry, beside
+the listing before it told the parts, and on the stored examples."""
 import itertools
 import pathlib
 import random
@@ -7,11 +7,23 @@ import re
 import unittest
 
 import book_reader
+import sheet_writer
 import trial
 import way_trial
-from way_books import large, paired, small
+from way_books import large, layered, layered_ways, made, named, paired, small
 
 EXAMPLES = pathlib.Path(__file__).parents[1] / "examples"
+PARTS = [                              # request 6 of 02: name, book, listing
+    ("no entries", made(8, 6), b"(cost 0)\n(way (parts 0))\n(end 1)\n"),
+    ("one part", made(1, 6, [], named([(1, 0, 96)])), b"(cost 6)\n(way (parts 1) 0)\n(end 1)\n"),
+    ("one part, eight players", made(8, 6, [], named([(1, 0, 96), (1, 96, 192)])), b"(cost 6)\n(way (parts 1) 0 1)\n(end 1)\n"),
+    ("the last entry opens", made(8, 6, [], named([(1, 96, 192), (1, 0, 96)])), b"(cost 6)\n(way (parts 1) 2 0)\n(end 1)\n"),
+    ("predecessors 10 and 20", made(1, 6, [], named([(1, j, j + 1) for j in range(21)])),
+     b"(cost 6)\n(way (parts 1) 0 1 2 3 4 5 6 7 8 9 10 11 12 13 14 15 16 17 18 19 20)\n(end 1)\n"),
+    ("eight parts", made(8, 6, [], named([(1, 0, 96)] * 8)), b"(cost 48)\n(way (parts 8) 0 0 0 0 0 0 0 0)\n(end 1)\n"),
+    ("parts of all numbers", made(3, 0, [], named([(1, 0, 96), (1, 96, 192), (1, 192, 288)])),
+     b"(cost 0)\n(way (parts 3) 0 0 0)\n(way (parts 2) 0 0 1)\n(way (parts 2) 0 0 2)\n(way (parts 2) 0 1 0)\n(way (parts 1) 0 1 2)\n(end 5)\n"),
+]
 
 
 def examples():
@@ -20,15 +32,38 @@ def examples():
         yield path.stem, path.read_bytes(), path.with_suffix(".listing").read_bytes()
 
 
+def cost_of(book, way):
+    """What a list of E numbers from 0 to E costs, or None if it is no way."""
+    joins = [way_trial.join(book, i, j) for j, i in enumerate(way, 1) if i]
+    twice = any(way.count(i) > 1 for i in way if i)
+    return None if None in joins or twice or way.count(0) > book.players else book.fee * way.count(0) + sum(joins)
+
+
 def plain(book):
     """The least-cost ways and their cost, from all lists of E numbers from 0 to E."""
-    e, found = len(book.entries), []
-    for way in itertools.product(range(e + 1), repeat=e):
-        joins = [way_trial.join(book, i, j) for j, i in enumerate(way, 1) if i]
-        twice = any(way.count(i) > 1 for i in way if i)
-        if None not in joins and not twice and way.count(0) <= book.players:
-            found.append((book.fee * way.count(0) + sum(joins), way))
-    return way_trial.cheapest(found)
+    e = len(book.entries)
+    found = [(cost_of(book, way), way) for way in itertools.product(range(e + 1), repeat=e)]
+    return way_trial.cheapest([(cost, way) for cost, way in found if cost is not None])
+
+
+def counted(listing):
+    """The parts that each way line of a listing tells, and its predecessors."""
+    rows = [re.fullmatch(rb"\(way \(parts (\d)\)((?: \d+)*)\)", row) for row in listing.split(b"\n")[1:-2]]
+    assert all(rows), listing
+    return [(int(row[1]), tuple(int(i) for i in row[2].split())) for row in rows]
+
+
+def without_parts(listing):
+    """The listing without the words that tell the parts."""
+    return re.sub(rb"^\(way \(parts \d\)", b"(way", listing, flags=re.M)
+
+
+def old_listing(lines, cost):
+    """The listing of these ways as it was before request 6: no line tells the parts."""
+    if not lines: return b"(none)\n"
+    text = "(cost %d)\n" % cost
+    for way in lines[:1000]: text += "(way" + "".join(" " + str(i) for i in way) + ")\n"
+    return (text + ("(end %d)\n" % len(lines) if len(lines) <= 1000 else "(more 1000)\n")).encode()
 
 
 def doubled(text):
@@ -179,7 +214,32 @@ class WayTrial(unittest.TestCase):
         book = book_reader.read((EXAMPLES / "ballet.book").read_bytes())
         lines, _ = way_trial.full_list(book)
         self.assertEqual((len(book.entries), book.players, len(lines)), (14, 3, 5))
-        self.assertEqual((EXAMPLES / "ballet.listing").read_text().split("\n")[1:-1], ["(way %s)" % " ".join(map(str, w)) for w in lines] + ["(end 5)"])
+        self.assertEqual((EXAMPLES / "ballet.listing").read_text().split("\n")[1:-1], ["(way (parts 3) %s)" % " ".join(map(str, w)) for w in lines] + ["(end 5)"])
+
+    def test_told(self):
+        """The numbers of parts of request 6, each listing word by word."""
+        for name, book, listing in PARTS:
+            with self.subTest(name): self.assertEqual(way_trial.listing(book), listing)
+
+    def test_parts(self):
+        """A way line of a stored listing, and of a small book's, tells the zeros on it, which are the sheets of that way: from 1 to P where there are entries.
+        Without these words the listing is as it was."""
+        rng, told = random.Random(7), {}
+        for text, listing in [(book, listing) for _, book, listing in examples()] + [(book, way_trial.listing(book)) for book in (small(rng) for _ in range(600))]:
+            refused, _, book = book_reader.refusal(text)
+            self.assertEqual(without_parts(listing), b"(refused %d)\n" % refused if refused else old_listing(*way_trial.full_list(book)), text)
+            for parts, way in counted(listing):
+                self.assertEqual((way.count(0), sheet_writer.sheets(text, book, way).count(b"(part ")), (parts, parts), text)
+                self.assertTrue(1 <= parts <= book.players or not book.entries, text)
+                told[parts] = told.get(parts, 0) + 1
+        self.assertTrue(all(told[parts] > 20 for parts in range(7)), told)
+
+    def test_layered(self):
+        """The ways of books in layers, of which the largest is too large to try."""
+        for layers in (1, 2, 3):
+            ways = list(layered_ways(layers))
+            self.assertEqual(way_trial.full_list(book_reader.read(layered(layers))), (ways, (3 * layers + 1) * 1000000))
+            self.assertEqual((len(ways), {way.count(0) for way in ways}), (3 * 6 ** (layers - 1), {3}))
 
 
 if __name__ == "__main__":

@@ -1,4 +1,5 @@
 """The program `ways`: stored examples, damaged books and any bytes on standard input, beside the search by trial and desk_listing."""
+import itertools
 import os
 import pathlib
 import random
@@ -7,8 +8,8 @@ import unittest
 
 import way_library
 import way_trial
-from test_way_trial import examples
-from way_books import EXAMPLE, THOUSAND, damaged, large, refused, sized, small
+from test_way_trial import PARTS, examples
+from way_books import EXAMPLE, LONGEST, THOUSAND, damaged, large, layered_ways, refused, sized, small
 
 PROGRAM = os.environ.get("WAYS_PROGRAM") or pathlib.Path(__file__).parents[1] / "target/bin/ways"     # WAYS_PROGRAM names another one to try
 
@@ -36,6 +37,17 @@ class WaysProgram(unittest.TestCase):
 
     def test_thousand(self):
         for book in THOUSAND.values(): self.same(book)
+
+    def test_told(self):
+        """The numbers of parts of request 6, each listing word by word."""
+        for name, book, listing in PARTS:
+            with self.subTest(name): self.same(book, listing)
+
+    def test_longest(self):
+        """A listing of 91,028 bytes, which no other exceeds."""
+        listing = way_trial.shown(list(itertools.islice(layered_ways(9), 1001)), 28000000)
+        self.assertEqual((len(listing), listing[-12:]), (91028, b"(more 1000)\n"))
+        self.same(LONGEST, listing)
 
     def test_refused(self):
         for question, book in refused(): self.same(book, b"(refused %d)\n" % question)

@@ -77,6 +77,20 @@ def paired(rng):
     return made(2, rng.choice((0, 3, 50)), moves, named(entries))
 
 
+def layered(layers):
+    """For three players, entries in layers that follow one another in time: one entry, then so many layers of three that overlap. Entries 1 to 3 are the last
+    layer, and the last entry is the first. Opening a part costs as much as joining, so that all ways cost the same."""
+    return made(3, 1000000, [(1, 1, 0, 1000000)], named([(1, time, time + 1) for time in range(layers, 0, -1) for _ in range(3)] + [(1, 0, 1)]))
+
+
+def layered_ways(layers):
+    """All ways of that book, in order. Each layer of three has all players, so that the predecessors of its entries are the three of the layer before; one of
+    the second layer follows the first entry, and the other two open."""
+    last = 3 * layers + 1
+    before = [(j + 3, j + 4, j + 5) for j in range(1, last - 3, 3)] + [(0, 0, last)]
+    for choice in itertools.product(*(sorted(set(itertools.permutations(numbers))) for numbers in before)): yield (*itertools.chain(*choice), 0)
+
+
 def refused():
     """Books that fail a question, with its number."""
     entry, long = (b"a", 1, 0, 1), (b"b", 1, 2, 0, 1)
@@ -171,3 +185,4 @@ HALVES = {
           [(6, 1, 3), (7, 2, 3), (5, 3, 4), (7, 5, 7), (5, 9, 10), (7, 10, 11), (5, 11, 13), (6, 12, 14), (5, 13, 14), (6, 13, 14), (7, 14, 15)]),
 }
 MOST = made(8, 1000, HALVES[255][0] + HALVES[257][0], named(HALVES[255][1] + HALVES[257][1]))
+LONGEST = layered(9)                   # no listing is longer than that of this book

@@ -44,8 +44,8 @@ def full_list(book):
 
 
 def shown(lines, cost):
-    """The listing of these ways."""
-    rows = [b"(way%s)\n" % b"".join(b" %d" % i for i in way) for way in lines[:SHOWN]]
+    """The listing of these ways, each with the number of its openings and its predecessors."""
+    rows = [b"(way (parts %d)%s)\n" % (sum(1 for i in way if i == 0), b"".join(b" %d" % i for i in way)) for way in lines[:SHOWN]]
     last = b"(more %d)\n" % SHOWN if len(lines) > SHOWN else b"(end %d)\n" % len(lines)
     return b"(cost %d)\n" % cost + b"".join(rows) + last
 

@@ -1,2 +1,3 @@
 mod Texts
+mod AsBefore
 mod ListingExamples

@@ -25,7 +25,7 @@ abbrev unclosed : List ℕ
 unclosed = bytes "(book\n(players 1)\n(fee 6)\n"
 
 -- "prints"
-prints : listing sample ≡ bytes "(cost 12)\n(way 0 0 1)\n(way 0 1 2)\n(end 2)\n"
+prints : listing sample ≡ bytes "(cost 12)\n(way (parts 2) 0 0 1)\n(way (parts 1) 0 1 2)\n(end 2)\n"
 unfolding wayList fullWays bytes thenRead _>>=_ _>>_ _<|>_ give guard remaining begins text front run valueFrom number word row more upTo many move longForm shortForm entry opening book whole parse lines.moves lines.allPass digits decimal spaced costLine wayLine endLine moreLine noneLine refusedLine
 prints = refl
 
@@ -34,8 +34,8 @@ prints-none : listing late ≡ bytes "(none)\n"
 unfolding wayList fullWays bytes thenRead _>>=_ _>>_ _<|>_ give guard remaining begins text front run valueFrom number word row more upTo many move longForm shortForm entry opening book whole parse lines.moves lines.allPass digits decimal spaced costLine wayLine endLine moreLine noneLine refusedLine
 prints-none = refl
 
--- "No entries: `(cost 0)`, `(way)`, `(end 1)`."
-no-entries : listing (bytes "(book\n(players 1)\n(fee 6)\n)\n") ≡ bytes "(cost 0)\n(way)\n(end 1)\n"
+-- 02: "For a book without entries the line is `(way (parts 0))`."
+no-entries : listing (bytes "(book\n(players 1)\n(fee 6)\n)\n") ≡ bytes "(cost 0)\n(way (parts 0))\n(end 1)\n"
 unfolding wayList fullWays bytes thenRead _>>=_ _>>_ _<|>_ give guard remaining begins text front run valueFrom number word row more upTo many move longForm shortForm entry opening book whole parse lines.moves lines.allPass digits decimal spaced costLine wayLine endLine moreLine noneLine refusedLine
 no-entries = refl
 

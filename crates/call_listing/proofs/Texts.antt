@@ -19,6 +19,7 @@ use Rattle.book_form.specs.Book.{Book, parse}
 use Rattle.book_form.specs.Questions.{header, askForm, bookRefusal}
 use Rattle.way_theory.specs.Ways.{wayCost}
 use Rattle.way_theory.specs.FullWays.{fullWays, firstWay}
+use Rattle.way_list.specs.Room.{listingRoom}
 use Rattle.way_list.specs.WayListing.{listWays, waysText}
 use Rattle.call_reply.specs.declared.Reply.{Reply}
 use Rattle.call_reply.specs.Replies.{refusedAt, valueReply}
@@ -78,14 +79,14 @@ module _ (s before after : List ℕ) (n : ℕ) where
     writes-ways w e a = record { text = rw (ok, is) a; code-is = rw (ok, is, some-code (fullWays b) w e); line-is = accepted-untold s ok }
 
 -- what is handed over of it
-module _ (s room room′ : List ℕ) (large : 98304 ≡ length room) (w : Written) (h : WritesListing s room w room′) where
+module _ (s room room′ : List ℕ) (large : listingRoom ≡ length room) (w : Written) (h : WritesListing s room w room′) where
   pub in-room : w .len ≤ length room′
   in-room = omega (arith, appended-long (h .text), h .text .within)
 
   long : w .len ≡ length (listing s)
   long = h .text .end ∙ omega arith
 
-  pub few : w .len ≤ 98304
+  pub few : w .len ≤ listingRoom
   few = omega (arith, h .text .within)
 
   taken : take (w .len) room′ ≡ listing s

@@ -8,6 +8,7 @@ use Rattle.book_form.specs.Questions.{bookRefusal}
 use Rattle.laws.specs.Appended.{Appended}
 use Rattle.text_listing.specs.Lines.{refusedLine}
 use Rattle.text_write.specs.Fit.{fit}
+use Rattle.way_list.specs.Room.{listingRoom}
 use Rattle.way_list.specs.WayListing.{listWays}
 use Rattle.way_theory.specs.BookBytes.{ways, wayCostOrZero}
 use Rattle.call_reply.specs.declared.Reply.{Reply}
@@ -27,7 +28,7 @@ listing s = orRefusedLine (bookRefusal s) (listWays (wayCostOrZero (parse s)) (w
 -- the text that `ways` prints: its length, and the lent list at exit
 pub record Printed (s before after : List ℕ) (r : ℕ) : Type 0 where
   pub long : r ≡ length (listing s)
-  pub few : r ≤ 98304
+  pub few : r ≤ listingRoom
   pub text : after ≡ fit (listing s) before
 
 -- "A 'no' gives its number." Without a way 100, which is "none", else 0.
@@ -42,7 +43,7 @@ listingCode s = orElse (bookRefusal s) (noneCode (ways s))
 pub record BookListing (s before : List ℕ) (r : Reply) (after : List ℕ) : Type 0 where
   pub reply-is : r ≡ valueReply (listingCode s) (lineTold s (bookRefusal s)) (length (listing s))
   pub text-is : after ≡ ifOk (listingCode s) (fit (listing s) before) before
-  pub few : length (listing s) ≤ 98304
+  pub few : length (listing s) ≤ listingRoom
 
 -- what both take: the text that `ways` prints at the front of a list, and the code and the line of the reply
 pub record WritesListing (s before : List ℕ) (w : Written) (after : List ℕ) : Type 0 where

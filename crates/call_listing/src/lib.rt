@@ -3,6 +3,7 @@ use call_reply::Reply;
 ghost use mathlib.Core.Path.{_≡_};
 ghost use Prim.Native.Nat.{_≤_};
 ghost use lib.ListN.{length};
+ghost use Rattle.way_list.specs.Room.{listingRoom};
 ghost use Rattle.call_listing.specs.Listing.{Printed, BookListing, WritesListing};
 
 // A text that is written, so many bytes, and the code and the line of the reply.
@@ -12,16 +13,18 @@ struct Written {
     line: u32,
 }
 
-// Room for every text: the line of the cost has at most 19 bytes, each of 1,000 ways 90 and the last line 12, 90,031 in all.
-fn blank() -> [u8; 98304]
-    ensures { λ r. ⌜ 98304 ≡ length r ⌝ }
+// Room for the longest listing, in bytes.
+pub const LISTING_ROOM: usize = 91028;
+
+fn blank() -> [u8; LISTING_ROOM]
+    ensures { λ r. ⌜ listingRoom ≡ length r ⌝ }
 {
-    [0; 98304]
+    [0; LISTING_ROOM]
 }
 
 // The text that `ways` prints, at the front of a list that has room for the longest.
 fn write_listing(book: &[u8], out: &mut [u8]) -> Written
-    requires { ⌜ 98304 ≤ length (now out) ⌝ }
+    requires { ⌜ listingRoom ≤ length (now out) ⌝ }
     ensures { λ r. ⌜ WritesListing (now (book .entry)) (now (out .entry)) r (now (out .exit)) ⌝ }
 {
     let admitted = call_way_bytes::admit_book(book);

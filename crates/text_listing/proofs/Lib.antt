@@ -1,3 +1,4 @@
 mod Spaced
 pub mod Sizes
+pub mod WithoutParts
 mod Examples

@@ -1,7 +1,7 @@
 -- The lines of a listing as bytes. Document 01: "The program `ways` reads a book from standard input and prints ..".
 use mathlib.Core.List.{List, [], _∷_, _++_}
 use Prim.Native.Nat.{ℕ}
-use Rattle.text_read.specs.Heads.{bytes, space, lineEnd, costHead, wayHead, endHead, refusedHead}
+use Rattle.text_read.specs.Heads.{bytes, space, lineEnd, costHead, wayHead, partsEnd, endHead, refusedHead}
 use Rattle.text_write.specs.Decimal.{decimal}
 
 -- a space and the number, for each number
@@ -13,9 +13,9 @@ spaced (n ∷ ns) = space ++ decimal n ++ spaced ns
 unfoldable pub costLine : ℕ → List ℕ
 costLine n = costHead ++ decimal n ++ lineEnd
 
--- "`(way ..)` with the E predecessors for each way"
-unfoldable pub wayLine : List ℕ → List ℕ
-wayLine ns = wayHead ++ spaced ns ++ lineEnd
+-- a way, with its number of parts before its predecessors. Document 02, request 6: "`(way (parts N) ..)`"
+unfoldable pub wayLine : ℕ → List ℕ → List ℕ
+wayLine n ns = wayHead ++ decimal n ++ partsEnd ++ spaced ns ++ lineEnd
 
 -- "`(end N)` with the count of ways"
 unfoldable pub endLine : ℕ → List ℕ

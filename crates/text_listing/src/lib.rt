@@ -6,7 +6,7 @@ ghost use lib.ListN.{length};
 ghost use Rattle.laws.specs.Appended.{Appended};
 ghost use Rattle.text_read.specs.Heads.{space};
 ghost use Rattle.text_write.specs.Decimal.{decimal};
-ghost use Rattle.text_listing.specs.Lines.{costLine, wayLine, endLine, moreLine, noneLine, refusedLine};
+ghost use Rattle.text_listing.specs.Lines.{spaced, costLine, wayLine, endLine, moreLine, noneLine, refusedLine};
 
 pub fn put_cost(out: &mut [u8], at: usize, cost: u64) -> usize
     requires { ⌜ at + length (costLine cost) ≤ length (now out) ⌝ }
@@ -51,13 +51,25 @@ fn put_spaced(out: &mut [u8], at: usize, n: u32) -> usize
     text_write::put_item(out, at, &heads::SPACE, n as u64)
 }
 
-pub fn put_way(out: &mut [u8], at: usize, way: &[u32]) -> usize
-    requires { ⌜ at + length (wayLine (now way)) ≤ length (now out) ⌝ }
-    ensures { λ r. ⌜ Appended (now (out .entry)) at (wayLine (now (way .entry))) (now (out .exit)) r ⌝ }
+// A space and a number, for each number of the list.
+fn put_all_spaced(out: &mut [u8], at: usize, ns: &[u32]) -> usize
+    requires { ⌜ at + length (spaced (now ns)) ≤ length (now out) ⌝ }
+    ensures { λ r. ⌜ Appended (now (out .entry)) at (spaced (now (ns .entry))) (now (out .exit)) r ⌝ }
 {
-    let mut k = text_write::put_text(out, at, &heads::WAY);
-    for i in 0..way.len() {
-        k = put_spaced(out, k, way[i]);
+    let mut k = at;
+    for i in 0..ns.len() {
+        k = put_spaced(out, k, ns[i]);
     }
+    k
+}
+
+// A way and its number of parts.
+pub fn put_way(out: &mut [u8], at: usize, parts: u32, way: &[u32]) -> usize
+    requires { ⌜ at + length (wayLine parts (now way)) ≤ length (now out) ⌝ }
+    ensures { λ r. ⌜ Appended (now (out .entry)) at (wayLine parts (now (way .entry))) (now (out .exit)) r ⌝ }
+{
+    let k = text_write::put_item(out, at, &heads::WAY, parts as u64);
+    let k = text_write::put_text(out, k, &heads::PARTS_END);
+    let k = put_all_spaced(out, k, way);
     text_write::put_text(out, k, &heads::LINE_END)
 }

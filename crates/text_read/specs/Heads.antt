@@ -38,12 +38,16 @@ entryHead = bytes "(entry (name "
 abbrev pub nameEnd : List ℕ
 nameEnd = bytes ") "
 
--- `(cost C)`, `(way ..)`, `(end N)`, `(refused R)`
+-- `(cost C)`, `(way (parts N) ..)`, `(end N)`, `(refused R)`
 abbrev pub costHead : List ℕ
 costHead = bytes "(cost "
 
 abbrev pub wayHead : List ℕ
-wayHead = bytes "(way"
+wayHead = bytes "(way (parts "
+
+-- what stands between the number of parts and the predecessors
+abbrev pub partsEnd : List ℕ
+partsEnd = bytes ")"
 
 abbrev pub endHead : List ℕ
 endHead = bytes "(end "

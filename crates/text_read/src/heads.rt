@@ -19,7 +19,9 @@ pub const NAME_END: [u8; 2] = *b") ";
 // The lines of a listing.
 pub const COST: [u8; 6] = *b"(cost ";
 
-pub const WAY: [u8; 4] = *b"(way";
+pub const WAY: [u8; 12] = *b"(way (parts ";
+
+pub const PARTS_END: [u8; 1] = *b")";
 
 pub const END: [u8; 5] = *b"(end ";
 

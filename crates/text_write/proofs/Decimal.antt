@@ -8,6 +8,7 @@ use native.Mathlib.Nat.{pow-suc}
 use lib.ListN.{length, length-append}
 use lib.Dec.{ltb}
 use borrow.Author.Tests.{lt-ltb, le-ltb, ltb-true, ltb-false}
+use Rattle.laws.specs.Members.{Every, every-append}
 use Rattle.text_read.specs.Heads.{bytes, lineEnd}
 use Rattle.text_write.specs.Decimal.{digits, decimal}
 
@@ -41,6 +42,27 @@ decimal-size (suc k) n h = go (ltb n 10) refl (λ g. decimal-size k (n / 10) g)
     go : (x : Bool) → ltb n 10 ≡ x → (n / 10 < 10 ^ suc k → length (decimal (n / 10)) ≤ suc k) → length (decimal n) ≤ suc (suc k)
     go true e f = omega (arith, ap length (decimal-one n (ltb-true n 10 e)))
     go false e f = omega (arith, decimal-longer n (ltb-false n 10 e), f (omega (arith, rw pow-suc at h)))
+
+-- a number has a digit, and the bytes of its digits are from 48 on
+pub decimal-some : (n : ℕ) → 1 ≤ length (decimal n)
+decimal-some n = go (ltb n 10) refl
+  where
+    go : (x : Bool) → ltb n 10 ≡ x → 1 ≤ length (decimal n)
+    go true e = omega (arith, ap length (decimal-one n (ltb-true n 10 e)))
+    go false e = omega (arith, decimal-longer n (ltb-false n 10 e))
+
+digits-bytes : (k n : ℕ) → Every (λ c. 48 ≤ c) (digits k n)
+unfolding digits
+digits-bytes zero n = tt
+digits-bytes (suc k) n = go (ltb n 10) (digits-bytes k (n / 10))
+  where
+    go : (x : Bool) → Every (λ c. 48 ≤ c) (digits k (n / 10)) → Every (λ c. 48 ≤ c) (elim x [ true ↦ (48 + n) ∷ [] | false ↦ digits k (n / 10) ++ ((48 + n % 10) ∷ []) ])
+    go true e = (omega arith, tt)
+    go false e = every-append (λ c. 48 ≤ c) (digits k (n / 10)) ((48 + n % 10) ∷ []) e (omega arith, tt)
+
+pub decimal-bytes : (n : ℕ) → Every (λ c. 48 ≤ c) (decimal n)
+unfolding decimal
+decimal-bytes n = digits-bytes (suc n) n
 
 -- a line with one number
 pub row-size : (head : List ℕ) (n k : ℕ) → n < 10 ^ suc k → length (head ++ decimal n ++ lineEnd) ≤ length head + suc k + 2

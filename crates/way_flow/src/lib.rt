@@ -39,7 +39,7 @@ fn one_if_same(a: u32, b: u32) -> u32
 }
 
 // How often i stands in the way.
-fn times(way: &[u32], i: u32) -> u32
+pub fn times(way: &[u32], i: u32) -> u32
     requires { ⌜ length (now way) ≤ 28 ⌝ }
     ensures { λ r. ⌜ r ≡ times i (now (way .entry)) ⌝ }
 {

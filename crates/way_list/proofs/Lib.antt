@@ -1,3 +1,4 @@
+mod Digits
 mod Progress
 mod Standing
 mod Turn

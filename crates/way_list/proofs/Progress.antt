@@ -14,11 +14,11 @@ use Rattle.laws.specs.Equality.{same-list}
 use Rattle.laws.specs.Lexicographic.{_<lex_, lex-irrefl, lex-trans}
 use Rattle.laws.specs.Members.{first?, none-some}
 use Rattle.laws.specs.Appended.{Appended, appended-none, appended-then}
-use Rattle.text_listing.specs.Lines.{wayLine, endLine, moreLine}
+use Rattle.text_listing.specs.Lines.{endLine, moreLine}
 use Rattle.book_form.specs.Book.{Book}
 use Rattle.way_theory.specs.FullWays.{fullWays, firstWay, nextWay}
 use Rattle.way_theory.proofs.FullWays.{full-ways-ascending}
-use Rattle.way_list.specs.WayListing.{wayLines, lastLine}
+use Rattle.way_list.specs.WayListing.{lineOfWay, linesBy, lastLine}
 
 pub record ListedSoFar (b : Book) (before : List ℕ) (at : ℕ) (o : Option (List ℕ)) (out : List ℕ) (k n : ℕ) : Type 0 where
   pub done : List (List ℕ)
@@ -26,15 +26,15 @@ pub record ListedSoFar (b : Book) (before : List ℕ) (at : ℕ) (o : Option (Li
   pub whole : done ++ left ≡ fullWays b
   pub count : length done ≡ n
   pub stands : o ≡ first? left
-  pub written : Appended before at (wayLines done) out k
+  pub written : Appended before at (linesBy lineOfWay done) out k
 
 -- what is to be written
 abbrev pub allLines : Book → List ℕ
-allLines b = wayLines (take 1000 (fullWays b)) ++ lastLine (counted 1000 (length (fullWays b)))
+allLines b = linesBy lineOfWay (take 1000 (fullWays b)) ++ lastLine (counted 1000 (length (fullWays b)))
 
-lines-more : (l : List (List ℕ)) (w : List ℕ) → wayLines (l ++ (w ∷ [])) ≡ wayLines l ++ wayLine w
-lines-more [] w = append-nil (wayLine w)
-lines-more (v ∷ l) w = ap (λ r. wayLine v ++ r) (lines-more l w) ∙ sym (append-assoc (wayLine v) (wayLines l) (wayLine w))
+lines-more : (l : List (List ℕ)) (w : List ℕ) → linesBy lineOfWay (l ++ (w ∷ [])) ≡ linesBy lineOfWay l ++ lineOfWay w
+lines-more [] w = append-nil (lineOfWay w)
+lines-more (v ∷ l) w = ap (λ r. lineOfWay v ++ r) (lines-more l w) ∙ sym (append-assoc (lineOfWay v) (linesBy lineOfWay l) (lineOfWay w))
 
 apart : (b : Book) → Apart (λ (w : List ℕ). w) (fullWays b)
 apart b = ascending-apart _<lex_ lex-irrefl lex-trans (fullWays b) (full-ways-ascending b)
@@ -43,7 +43,7 @@ pub starts : (b : Book) (before : List ℕ) (at : ℕ) (o : Option (List ℕ)) �
 starts b before at o e h = record { done = []; left = fullWays b; whole = refl; count = refl; stands = e; written = appended-none before at h }
 
 module _ (b : Book) (before : List ℕ) (at : ℕ) (out : List ℕ) (k n : ℕ) where
-  pub goes-on : (w : List ℕ) → ListedSoFar b before at (some w) out k n → (out′ : List ℕ) (k′ : ℕ) → Appended out k (wayLine w) out′ k′ → ListedSoFar b before at (nextWay b w) out′ k′ (n + 1)
+  pub goes-on : (w : List ℕ) → ListedSoFar b before at (some w) out k n → (out′ : List ℕ) (k′ : ℕ) → Appended out k (lineOfWay w) out′ k′ → ListedSoFar b before at (nextWay b w) out′ k′ (n + 1)
   goes-on w p out′ k′ a = go (p .left) (p .whole) (p .stands)
     where
       go : (l : List (List ℕ)) → p .done ++ l ≡ fullWays b → some w ≡ first? l → ListedSoFar b before at (nextWay b w) out′ k′ (n + 1)
@@ -71,7 +71,7 @@ module _ (b : Book) (before : List ℕ) (at : ℕ) (out : List ℕ) (k n : ℕ) 
           long : 1000 < length (fullWays b)
           long = omega (arith, ap length (sym e), length-append (p .done) (v ∷ l), p .count, h)
 
-          same : wayLines (p .done) ++ moreLine ≡ allLines b
+          same : linesBy lineOfWay (p .done) ++ moreLine ≡ allLines b
           same = rw (lt-leb (length (fullWays b)) 1000 long, sym e, take-at (p .done) (v ∷ l) 1000 (p .count ∙ h)) refl
 
   -- no way is left
@@ -88,5 +88,5 @@ module _ (b : Book) (before : List ℕ) (at : ℕ) (out : List ℕ) (k n : ℕ) 
           long : length (fullWays b) ≡ n
           long = ap length (sym all) ∙ p .count
 
-          same : wayLines (p .done) ++ endLine n ≡ allLines b
+          same : linesBy lineOfWay (p .done) ++ endLine n ≡ allLines b
           same = rw (le-leb (length (fullWays b)) 1000 (omega (arith, long)), long, all, take-all 1000 (fullWays b) (omega (arith, long))) refl

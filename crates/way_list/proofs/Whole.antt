@@ -21,11 +21,11 @@ use Rattle.way_theory.proofs.Accepted.{arc-cost-small}
 use Rattle.way_enumerate.specs.WayEnumerator.{Enumerates, wayItemCost}
 use Rattle.way_enumerate.specs.declared.WayEnumerator.{WayEnumerator}
 use Rattle.way_enumerate.proofs.Enumerating.{cost-held}
-use Rattle.way_list.specs.WayListing.{wayLines, lastLine, listWays, waysText}
+use Rattle.way_list.specs.WayListing.{lineOfWay, linesBy, lastLine, listWays, waysText}
 use Rattle.way_list.proofs.Progress.{allLines}
 use Rattle.way_list.proofs.Standing.{standingWay, on-way, standing-few}
 
-some-text : (cost : List ℕ → ℕ) (l : List (List ℕ)) (w : List ℕ) → first? l ≡ some w → costLine (cost w) ++ (wayLines (take 1000 l) ++ lastLine (counted 1000 (length l))) ≡ listWays cost l
+some-text : (cost : List ℕ → ℕ) (l : List (List ℕ)) (w : List ℕ) → first? l ≡ some w → costLine (cost w) ++ (linesBy lineOfWay (take 1000 l) ++ lastLine (counted 1000 (length l))) ≡ listWays cost l
 some-text cost [] w e = absurd (none-some w e)
 some-text cost (v ∷ l) w e = let q : v ≡ w = cc in rw q refl
 

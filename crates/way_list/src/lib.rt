@@ -6,21 +6,23 @@ ghost use Prim.Native.Nat.{_+_, _≤_};
 ghost use lib.ListN.{length};
 ghost use Rattle.flow_enumerate.specs.declared.Place.the-variants.{Item};
 ghost use Rattle.way_enumerate.specs.WayEnumerator.{EnumeratesSome};
+ghost use Rattle.way_list.specs.Room.{wayRoom, waysRoom, listingRoom};
 ghost use Rattle.way_list.specs.WayListing.{OnFirst, ListsOne, ListsFrom, Lists};
 
 // The line of the way that an enumerator stands on.
 fn list_one(ways: WayEnumerator, out: &mut [u8], at: usize) -> usize
-    requires { ⌜ EnumeratesSome ways × (ways .flows .place ≡ Item) × (at + 90 ≤ length (now out)) ⌝ }
-    ensures { λ r. ⌜ (r ≤ at + 90) × ListsOne ways (now (out .entry)) at (now (out .exit)) r ⌝ }
+    requires { ⌜ EnumeratesSome ways × (ways .flows .place ≡ Item) × (at + wayRoom ≤ length (now out)) ⌝ }
+    ensures { λ r. ⌜ ListsOne ways (now (out .entry)) at (now (out .exit)) r ⌝ }
 {
     let way = ways.way();
     let e = ways.entries;
-    text_listing::put_way(out, at, &way[..e])
+    let parts = way_flow::times(&way[..e], 0);
+    text_listing::put_way(out, at, parts, &way[..e])
 }
 
 // The lines from the first way on, which an enumerator stands on, and the last line.
 fn list_from(ways: WayEnumerator, out: &mut [u8], at: usize) -> usize
-    requires { ⌜ EnumeratesSome ways × (ways .flows .place ≡ Item) × (at + 90012 ≤ length (now out)) ⌝ }
+    requires { ⌜ EnumeratesSome ways × (ways .flows .place ≡ Item) × (at + waysRoom ≤ length (now out)) ⌝ }
     ensures { λ r. ⌜ ListsFrom ways (now (out .entry)) at (now (out .exit)) r ⌝ }
 {
     let mut w = ways;
@@ -44,7 +46,7 @@ fn list_from(ways: WayEnumerator, out: &mut [u8], at: usize) -> usize
 
 // The listing of all ways, at the front of the list, by an enumerator that stands on the first of them; how long it is.
 pub fn list(ways: WayEnumerator, out: &mut [u8]) -> usize
-    requires { ⌜ OnFirst ways × (90031 ≤ length (now out)) ⌝ }
+    requires { ⌜ OnFirst ways × (listingRoom ≤ length (now out)) ⌝ }
     ensures { λ r. ⌜ Lists ways (now (out .entry)) (now (out .exit)) r ⌝ }
 {
     let inner = ways.flows;

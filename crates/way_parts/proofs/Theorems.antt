@@ -1,7 +1,7 @@
--- The parts of a way: they end, every entry stands in exactly one of them, once, what is summed over them is summed over the book, and in each
--- of them the entries follow one another in time.
+-- The parts of a way: they end, every entry stands in exactly one of them, once, so that there is one where there are entries, what is summed over
+-- them is summed over the book, and in each of them the entries follow one another in time.
 use mathlib.Core.Path.{_≡_, sym, ap, _∙_}
-use mathlib.Core.List.{List, _∷_, map}
+use mathlib.Core.List.{List, [], _∷_, map}
 use Prim.Native.Nat.{ℕ, _≤_}
 use native.Mathlib.Omega.{arith}
 use lib.ListN.{length}
@@ -50,6 +50,14 @@ module _ (book : Book) (ok : WithinLimits book) (w : List ℕ) (way : IsWay book
   -- a part number has one digit
   pub parts-few : length (parts w) ≤ book .players
   parts-few = omega (arith, as-many-parts w, way .openings)
+
+  -- where there are entries, one of them opens a part
+  pub openings-some : 1 ≤ size book → 1 ≤ times 0 w
+  openings-some h = omega (arith, as-many-parts w, go (parts w) (stands-once 1 (omega arith) h))
+    where
+      go : (l : List (List ℕ)) → total (map (λ p. times 1 p) l) ≡ 1 → 1 ≤ length l
+      go [] e = absurd (omega (arith, e))
+      go (p ∷ l) e = omega arith
 
   -- no gap is less than 0
   pub parts-in-time : Every (FollowInTime book) (parts w)

@@ -6,8 +6,8 @@ fn book_buffer() -> [u8; 16385] {
 }
 
 // Room for every text that `printed` gives.
-fn text_buffer() -> [u8; 98304] {
-    [0; 98304]
+fn text_buffer() -> [u8; call_listing::LISTING_ROOM] {
+    [0; call_listing::LISTING_ROOM]
 }
 
 // The text of the book, written to standard output.

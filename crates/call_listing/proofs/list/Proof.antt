@@ -7,6 +7,7 @@ use lib.Seq.{length-take-le}
 use Rattle.laws.specs.Range.{fits}
 use mir.Syntax.{w64}
 use mir.Facts.{toZ-pos}
+use Rattle.way_list.specs.Room.{listingRoom}
 use Rattle.call_listing.proofs.Texts.{in-room, few, lists, lists-nothing}
 use Rattle.call_listing.proofs.list.Statement.{statement}
 use Rattle.call_listing.proofs.list.Tie as tie
@@ -21,7 +22,7 @@ wrote p = p .before .before .before .before .before
 inside : (w : tie.After-write-listing) → w .write-listing .result .len ≤ length (w .write-listing .last .1 .0)
 inside w = in-room (entry w .args .book .now) _ (w .write-listing .last .1 .0) (w .before .before .blank .ensures) (w .write-listing .result) (w .write-listing .ensures)
 
-short : (w : tie.After-write-listing) → w .write-listing .result .len ≤ 98304
+short : (w : tie.After-write-listing) → w .write-listing .result .len ≤ listingRoom
 short w = few (entry w .args .book .now) _ (w .write-listing .last .1 .0) (w .before .before .blank .ensures) (w .write-listing .result) (w .write-listing .ensures)
 
 returns : tie.Need-returns

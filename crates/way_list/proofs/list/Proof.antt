@@ -30,7 +30,7 @@ cost-of c b enumerates = let s = entry c in toZ-ofZ {w = w64} {z = s .args .ways
 cost-low : (c : tie.After-put-cost-arg) → let s = entry c in wayCost (s .pre .0 .book) (standingWay (s .pre .0 .book) (s .args .ways)) ≤ 28000000
 cost-low c = let s = entry c in cost-few (s .pre .0 .book) (s .args .ways) (s .pre .0 .on) (s .pre .0 .enumerates)
 
-cost-short : (c : tie.After-put-cost-arg) → let s = entry c in length (costLine (wayCost (s .pre .0 .book) (standingWay (s .pre .0 .book) (s .args .ways)))) ≤ 19
+cost-short : (c : tie.After-put-cost-arg) → let s = entry c in length (costLine (wayCost (s .pre .0 .book) (standingWay (s .pre .0 .book) (s .args .ways)))) ≤ 16
 cost-short c = let s = entry c in cost-size (wayCost (s .pre .0 .book) (standingWay (s .pre .0 .book) (s .args .ways))) (omega (arith, cost-low c))
 
 cast-put-cost : tie.Need-cast-put-cost

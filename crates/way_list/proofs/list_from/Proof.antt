@@ -10,6 +10,7 @@ use Rattle.text_listing.proofs.Sizes.{more-size, end-size}
 use Rattle.book_form.specs.Book.{Book}
 use Rattle.way_theory.specs.FullWays.{firstWay}
 use Rattle.way_enumerate.specs.WayEnumerator.{EnumeratesSome, Enumerates, wayAt}
+use Rattle.way_list.specs.Room.{wayRoom}
 use Rattle.way_list.proofs.Progress.{ListedSoFar, starts, ends-more, ends-whole}
 use Rattle.way_list.proofs.Standing.{standingWay, on-way, off-way}
 use Rattle.way_list.proofs.Turn.{step}
@@ -17,7 +18,7 @@ use Rattle.way_list.proofs.list_from.Statement.{statement}
 use Rattle.way_list.proofs.list_from.Tie as tie
 
 abbrev Inv-loop : tie.InvT-loop
-Inv-loop out₀ at w₀ k₀ n₀ out w k n = (length out ≡ length out₀) × (n ≤ 1000) × (k ≤ at + 90 * n) × (w .flows .place ≡ Item) × EnumeratesSome w × ((b : Book) → Enumerates b w₀ → wayAt b w₀ ≡ firstWay b → Enumerates b w × ListedSoFar b out₀ at (wayAt b w) out k n)
+Inv-loop out₀ at w₀ k₀ n₀ out w k n = (length out ≡ length out₀) × (n ≤ 1000) × (k ≤ at + wayRoom * n) × (w .flows .place ≡ Item) × EnumeratesSome w × ((b : Book) → Enumerates b w₀ → wayAt b w₀ ≡ firstWay b → Enumerates b w × ListedSoFar b out₀ at (wayAt b w) out k n)
 
 abbrev μ-loop : tie.MeasureT-loop
 μ-loop out₀ at w₀ k₀ n₀ out w k n = 1000 - n
@@ -65,10 +66,10 @@ loop-again c =
     let m = c .before .before .before .next in (
       one .kept .1 .0 ∙ l .inv .0,
       omega (arith, l .inv .1, else1 .if1 .left),
-      omega (arith, l .inv .2, one .ensures .0),
+      omega (arith, l .inv .2, one .ensures .few),
       c .enum-told .given .1,
       record { book = l .inv .4 .book; enumerates = m .ensures .each (l .inv .4 .book) (l .inv .4 .enumerates) .enumerates },
-      λ b enumerates e. step b (s .args .out .now) (s .args .at) (l .w) (l .out) (l .k) (l .n) (l .inv .3) (l .inv .5 b enumerates e) (one .last .1 .0) (one .result) (one .ensures .1) (m .result) (wordAfter (l .w .flows .place)) (m .ensures),
+      λ b enumerates e. step b (s .args .out .now) (s .args .at) (l .w) (l .out) (l .k) (l .n) (l .inv .3) (l .inv .5 b enumerates e) (one .last .1 .0) (one .result) (one .ensures) (m .result) (wordAfter (l .w .flows .place)) (m .ensures),
     )
 
 put-end-requires : tie.Need-put-end-requires Inv-loop μ-loop
@@ -79,7 +80,7 @@ put-end-requires c κs =
     let s : tie.Start Inv-loop μ-loop = search in
     let l = at-loop .loop in
     let one = after-list-one .list-one in
-    omega (arith, l .inv .0, l .inv .1, l .inv .2, s .pre .2, one .kept .1 .0, one .ensures .0, else1 .if1 .left, end-size (l .n + 1) (omega (arith, l .inv .1, else1 .if1 .left)))
+    omega (arith, l .inv .0, l .inv .1, l .inv .2, s .pre .2, one .kept .1 .0, one .ensures .few, else1 .if1 .left, end-size (l .n + 1) (omega (arith, l .inv .1, else1 .if1 .left)))
 
 returns-2 : tie.Need-returns-2 Inv-loop μ-loop
 returns-2 c =
@@ -94,7 +95,7 @@ returns-2 c =
     let m = after-next .next in
     let f = c .before .before .put-end in
     record {
-      each = λ b enumerates e. (let (now, p) = step b (s .args .out .now) (s .args .at) (l .w) (l .out) (l .k) (l .n) (l .inv .3) (l .inv .5 b enumerates e) (one .last .1 .0) (one .result) (one .ensures .1) (m .result) (wordAfter (l .w .flows .place)) (m .ensures) in
+      each = λ b enumerates e. (let (now, p) = step b (s .args .out .now) (s .args .at) (l .w) (l .out) (l .k) (l .n) (l .inv .3) (l .inv .5 b enumerates e) (one .last .1 .0) (one .result) (one .ensures) (m .result) (wordAfter (l .w .flows .place)) (m .ensures) in
           ends-whole b (s .args .out .now) (s .args .at) (one .last .1 .0) (one .result) (l .n + 1) (omega (arith, l .inv .1, else1 .if1 .left))
           (subst (λ o. ListedSoFar b (s .args .out .now) (s .args .at) o (one .last .1 .0) (one .result) (l .n + 1)) (off-way b (m .result) (no-item-at (m .result .flows .place) (at-match-keys2 .match .keys2))) p) (f .last .0) (f .result) (f .ensures));
     }
