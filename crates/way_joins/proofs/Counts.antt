@@ -4,10 +4,16 @@ use Prim.Native.Nat.{_≤_}
 use native.Mathlib.Omega.{arith}
 use Rattle.book_form.specs.Book.{Book}
 use Rattle.way_theory.specs.Follow.{size}
-use Rattle.way_joins.specs.Tables.{Tables, TablesOf, HasTables}
+use Rattle.way_joins.specs.Tables.{Timing, TimingOf, Tables, TablesOf, HasTables}
 
-pub count-is : (b : Book) (t : Tables) → TablesOf b t → t .count ≡ size b
-count-is b t T = ap (λ (t : Tables). t .count) (T .are)
+pub timing-of : (b : Book) (t : Tables) → TablesOf b t → TimingOf b (t .timing)
+timing-of b t T = record { limits = T .limits; are = ap (λ (t : Tables). t .timing) (T .are) }
 
-pub few-of : {t : Tables} → HasTables t → t .count ≤ 28
+pub timing-count : (b : Book) (t : Timing) → TimingOf b t → t .count ≡ size b
+timing-count b t T = ap (λ (t : Timing). t .count) (T .are)
+
+pub count-is : (b : Book) (t : Tables) → TablesOf b t → t .timing .count ≡ size b
+count-is b t T = timing-count b (t .timing) (timing-of b t T)
+
+pub few-of : {t : Tables} → HasTables t → t .timing .count ≤ 28
 few-of {t} h = omega (arith, count-is (h .book) t (h .tables), h .tables .limits .few)
