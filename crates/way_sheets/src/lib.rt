@@ -172,8 +172,8 @@ pub fn put_sheets(text: &[u8], book: CheckedBook, way: &[u32], out: &mut [u8]) -
         let start = starts[j];
         let from = names[j];
         let to = from + lengths[j];
-        let gap = gap_to(&finishes, i, start);
         let spare = spare_to(e, &ticks, &arrives, &leaves, &starts, &finishes, i, j + 1);
+        let gap = gap_to(&finishes, i, start);
         at = put_entry(
             out,
             at,

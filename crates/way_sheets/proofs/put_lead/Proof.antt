@@ -50,7 +50,6 @@ put-lead-spec =
     put-part-line-requires
     (λ c. search needs)
     returns
-    (λ c. search needs)
     put-gap-line-requires
     (λ c. search needs)
     returns-2)

@@ -2,6 +2,7 @@
 use Prim.Native.Nat.{_+_, _-_, _≤_}
 use native.Mathlib.Omega.{arith}
 use lib.ListN.{length, getD}
+use borrow.Author.Needs.{needs}
 use Rattle.laws.specs.Appended.{appended-long}
 use Rattle.way_sheets.proofs.Turn.{Puts, put-none, begun-few, acyclic, has-timing, count-is, entry-inside, predecessor-inside, name-inside, put-room, put-more, last-room, put-all, written}
 use Rattle.way_sheets.proofs.put_sheets.Statement.{statement}
@@ -85,6 +86,9 @@ gap-to-requires : tie.Need-gap-to-requires Inv-loop μ-loop
 gap-to-requires c κs =
     let turn : tie.In-loop Inv-loop μ-loop = search in
     omega (arith, inside turn, predecessor-inside _ _ _ _ (begin turn .pre) _ (ordered turn .playing-order .ensures) _ (turn .loop-test .taken))
+
+add-spare-to : tie.Need-add-spare-to Inv-loop μ-loop
+add-spare-to c = let turn : tie.In-loop Inv-loop μ-loop = search in omega (arith, inside turn)
 
 spare-to-requires : tie.Need-spare-to-requires Inv-loop μ-loop
 spare-to-requires c κs =
@@ -181,8 +185,14 @@ put-sheets-spec =
     mul-to
     array-read-to
     add-to
-    gap-to-requires
+    (λ c. search needs)
+    (λ c. search needs)
+    (λ c. search needs)
+    (λ c. search needs)
+    (λ c. search needs)
+    add-spare-to
     spare-to-requires
+    gap-to-requires
     sub-put-entry
     part-put-entry-start
     part-put-entry-end
