@@ -65,10 +65,16 @@ module _ (s : List ℕ) (i j : ℕ) (r : AdmittedBook) (h : AdmitsBook s r) wher
     past-16 : spareQuestion s i j ≡ ask (isEntry (r .book .count) i && isEntry (r .book .count) j) 19 0
     past-16 = rw (gone .ok, count-is) refl
 
-    pub outside : (isEntry (r .book .count) i && isEntry (r .book .count) j) ≡ false → (x : Reply) → x ≡ codeAlone 19 → BookSpare s i j x
-    outside no x q =
-        let e : spareQuestion s i j ≡ 19 = past-16 ∙ ap (λ t. ask t 19 0) no in
+    outside : (isEntry (r .book .count) i && isEntry (r .book .count) j) ≡ false → (x : Reply) → x ≡ codeAlone 19 → BookSpare s i j x
+    outside out x q =
+        let e : spareQuestion s i j ≡ 19 = past-16 ∙ ap (λ t. ask t 19 0) out in
         q ∙ rw (e, untold s 19 (λ b. refl)) refl
+
+    pub not-first : isEntry (r .book .count) i ≡ false → (x : Reply) → x ≡ codeAlone 19 → BookSpare s i j x
+    not-first e = outside (rw e)
+
+    pub not-second : isEntry (r .book .count) i ≡ true → isEntry (r .book .count) j ≡ false → (x : Reply) → x ≡ codeAlone 19 → BookSpare s i j x
+    not-second e f = outside (rw (e, f))
 
     module _ (first : isEntry (r .book .count) i ≡ true) (second : isEntry (r .book .count) j ≡ true) where
       pub inside : (1 ≤ i) × (i ≤ r .book .count) × (1 ≤ j) × (j ≤ r .book .count)
