@@ -55,7 +55,7 @@ module _ {Item F G N Lists : Type 0} (R : Rules Item F G N Lists) where
 
 -- a call that is lent no list
 module _ (line-told : ℕ → ℕ) where
-  abbrev Demand1Of : ℕ → Reply → Type 0
+  abbrev pub Demand1Of : ℕ → Reply → Type 0
   Demand1Of n r = Demand1 {Lists = Unit {0}} line-told n tt (sees r tt)
 
   pub says-value : (z : ℤ) → Demand1Of 0 (record { code = 0; line = 0; value = z })
