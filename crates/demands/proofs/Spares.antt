@@ -14,14 +14,14 @@ use Rattle.book_lines.specs.declared.moves.Move.{Move}
 use Rattle.book_form.specs.Book.{Book, parse}
 use Rattle.book_form.specs.Questions.{bookRefusal}
 use Rattle.book_form.specs.LineTold.{lineTold}
-use Rattle.way_theory.specs.Follow.{entryAt, road, spareWith, spareBy, spare, enough, mayFollow}
+use Rattle.way_theory.specs.Follow.{entryAt, road, spareBy, spare, enough, mayFollow}
 use Rattle.way_joins.specs.Joins.{spareOf}
 use Rattle.way_network.proofs.Made.{held}
 use Rattle.call_reply.specs.declared.Reply.{Reply}
 use Rattle.call_reply.specs.Replies.{replyUnless}
 use Rattle.call_reply.proofs.Turns.{first-passed}
 use Rattle.call_spare.specs.SpareCall.{spareQuestion, spareReply, spareAt, BookSpare}
-use Rattle.demands.specs.Demands.{Demand1, SpareDemands}
+use Rattle.demands.specs.Demands.{SpareDemands}
 use Rattle.demands.proofs.Refusals.{Demand1Of, says-value, says-code, reply-1}
 
 -- a spare of 0 or more, and none else, is told with the code 0 and a value of 0 or more

@@ -21,16 +21,15 @@ use Rattle.book_lines.proofs.Table.{Instruments, instruments-in, fair-parts, ta
 use Rattle.book_form.specs.Book.{Book}
 use Rattle.book_form.specs.WithinLimits.{WithinLimits}
 use Rattle.book_form.proofs.Judging.{column-at}
-use Rattle.way_theory.specs.Follow.{size, entryAt, stay, withoutLine, lineOr, link, road, spareWith, spareBy, spare, costInTime, followCost}
+use Rattle.way_theory.specs.Follow.{size, entryAt, stay, withoutLine, lineOr, link, spareWith, spareBy, spare, costInTime, followCost}
 use Rattle.way_theory.specs.Ways.{predecessorCost}
 use Rattle.way_theory.proofs.Fair.{FairEntry, fair-entry}
 use Rattle.way_joins.specs.declared.Spare.{Spare}
 use Rattle.way_joins.specs.declared.Spare.the-variants.{NoMove, Ticks}
-use Rattle.way_joins.specs.declared.Join.{Join}
 use Rattle.way_joins.specs.declared.Join.the-variants.{No, At}
 use Rattle.way_joins.specs.Tables.{Timing, TimingOf, Tables, tablesOf, TablesOf}
 use Rattle.way_joins.specs.Joins.{spareOf, spareTold, joinOf, joinIf}
-use Rattle.way_joins.proofs.Counts.{timing-of, timing-count, count-is}
+use Rattle.way_joins.proofs.Counts.{timing-count, count-is}
 
 -- the three ways through `spare_by`
 pub told-line : (a b t f s : ℕ) → ¬ (t ≡ 0) → Ticks (spareWith (t - 1) f s) ≡ spareTold a b t f s

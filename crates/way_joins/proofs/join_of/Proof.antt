@@ -1,5 +1,4 @@
 -- By the spare, and the cost that is looked up.
-use mathlib.Core.Path.{_∙_}
 use native.Mathlib.Omega.{arith}
 use borrow.Author.Needs.{needs}
 use Rattle.way_joins.specs.Tables.{Tables, tablesWith}

@@ -5,8 +5,7 @@ use native.Mathlib.Omega.{arith}
 use borrow.Author.Needs.{needs}
 use lib.ListN.{length}
 use Rattle.laws.specs.Appended.{appended-then, room-first, room-next}
-use Rattle.text_read.specs.Heads.{bytes}
-use Rattle.way_sheets.specs.Lines.{partLine, gapLine}
+use Rattle.way_sheets.specs.Lines.{partLine}
 use Rattle.way_sheets.specs.Writing.{closing}
 use Rattle.way_sheets.proofs.Cases.{lead-first, lead-later}
 use Rattle.way_sheets.proofs.put_lead.Statement.{statement}

@@ -1,11 +1,10 @@
 -- By the sign of the ticks, of which test and cast read the bits.
 use mathlib.Core.Bool.{true, false}
 use mathlib.Core.Path.{_≡_, ap, subst, _∙_}
-use lib.Dec.{T}
 use lib.IntN.{ℤ, pos, natAbs}
-use lib.Signed.{leZ, nonNeg}
+use lib.Signed.{leZ}
 use mir.Syntax.{w32}
-use mir.Val.{Fits, SFits, toZ, ofZ}
+use mir.Val.{SFits, toZ, ofZ}
 use mir.Facts.{toZ-ofZ}
 use borrow.Author.Needs.{needs}
 use Rattle.way_sheets.proofs.Cases.{cast-told, told-taken, told-left}
