@@ -21,9 +21,10 @@ use Rattle.book_lines.proofs.Table.{Instruments, instruments-in, fair-parts, ta
 use Rattle.book_form.specs.Book.{Book}
 use Rattle.book_form.specs.WithinLimits.{WithinLimits}
 use Rattle.book_form.proofs.Judging.{column-at}
-use Rattle.way_theory.specs.Follow.{size, entryAt, stay, withoutLine, lineOr, link, spareWith, spareBy, spare, costInTime, followCost}
+use Rattle.way_theory.specs.Follow.{size, entryAt, stay, withoutLine, lineOr, link, spareWith, spareBy, spare, followCost}
 use Rattle.way_theory.specs.Ways.{predecessorCost}
 use Rattle.way_theory.proofs.Fair.{FairEntry, fair-entry}
+use Rattle.way_theory.proofs.Spare.{costInTime}
 use Rattle.way_joins.specs.declared.Spare.{Spare}
 use Rattle.way_joins.specs.declared.Spare.the-variants.{NoMove, Ticks}
 use Rattle.way_joins.specs.declared.Join.the-variants.{No, At}

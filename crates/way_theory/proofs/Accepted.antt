@@ -16,11 +16,12 @@ use Rattle.book_lines.specs.Questions.{moveOf}
 use Rattle.book_lines.proofs.Table.{fair-parts}
 use Rattle.book_form.specs.Book.{Book}
 use Rattle.book_form.specs.WithinLimits.{WithinLimits}
-use Rattle.way_theory.specs.Follow.{size, entryAt, stay, withoutLine, lineOr, link, road, spareBy, enough, costInTime}
+use Rattle.way_theory.specs.Follow.{size, entryAt, stay, withoutLine, lineOr, link, road, spareBy, enough}
 use Rattle.way_theory.specs.Ways.{orNone}
 use Rattle.way_theory.specs.BookNet.{arcCost, bookArcs, bookNet}
 use Rattle.way_theory.proofs.Nodes.{NodeKind, origin, odd, even, last, node-kind, noBookArc, nodes-count, balance-inner, balance-last}
 use Rattle.way_theory.proofs.Arcs.{arc-holds, part-holds, well-formed}
+use Rattle.way_theory.proofs.Spare.{costInTime}
 use Rattle.way_theory.proofs.Size.{arcs-few, nodes-few}
 
 -- a move that costs at most 1,000,000, if there is one

@@ -12,12 +12,18 @@ use lib.Signed.{leZ}
 use borrow.Author.Tests.{leb-true, leb-false}
 use Rattle.laws.specs.Parts.{plus, minus, neg-plus, neg-minus, add-parts, le→ℕ, lt→ℕ}
 use Rattle.laws.specs.Integers.{apart, leZ-true, leZ-false}
+use Rattle.laws.specs.Image.{mapOption}
 use Rattle.book_lines.specs.declared.moves.Move.{Move}
 use Rattle.book_form.specs.Book.{Book}
-use Rattle.way_theory.specs.Follow.{entryAt, road, spareWith, spareBy, spare, enough, mayFollow, ticksIn, spareTicks, costInTime, followCost}
+use Rattle.way_theory.specs.Follow.{entryAt, road, spareWith, spareBy, spare, enough, mayFollow, ticksIn, spareTicks, followCost}
 use Rattle.way_theory.specs.Ways.{given?}
 use Rattle.way_theory.proofs.ByRule.{Rule, SameWays, same-ways}
 
+-- what a move costs, if there is time to go; `followCost` is that of the road from i to j
+abbrev pub costInTime : Option Move → ℕ → ℕ → Option ℕ
+costInTime o finish start = cond (enough (spareBy o finish start)) (mapOption (λ (m : Move). m .cost) o) none
+
+-- the spare by its parts
 spare-parts : (t f s : ℕ) → plus (spareWith t f s) + (f + t) ≡ s + minus (spareWith t f s)
 spare-parts t f s =
     omega (

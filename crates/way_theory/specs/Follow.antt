@@ -77,10 +77,6 @@ ticksIn (some z) = plus z
 abbrev pub spareTicks : Book → ℕ → ℕ → ℕ
 spareTicks book i j = ticksIn (spare book i j)
 
--- the cost of a move, if there is time to go
-abbrev pub costInTime : Option Move → ℕ → ℕ → Option ℕ
-costInTime o finish start = cond (enough (spareBy o finish start)) (mapOption (λ (m : Move). m .cost) o) none
-
--- the cost of the join from i to j, if j may follow i
+-- "at cost 0 .. at cost C": what the join from i to j costs, if j may follow i
 abbrev pub followCost : Book → ℕ → ℕ → Option ℕ
-followCost book i j = costInTime (road book i j) (entryAt book i .finish) (entryAt book j .start)
+followCost book i j = cond (mayFollow book i j) (mapOption (λ (m : Move). m .cost) (road book i j)) none
