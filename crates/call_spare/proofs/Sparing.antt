@@ -1,22 +1,20 @@
 -- From the steps of the call of a spare to what it ensures.
-use mathlib.Core.Path.{_≡_, refl, sym, ap, _∙_}
+use mathlib.Core.Path.{_≡_, refl, ap, _∙_}
 use mathlib.Core.Bool.{true, false, _&&_}
 use mathlib.Core.List.{List}
 use Prim.Native.Nat.{ℕ, _≤_}
-use lib.ListN.{length}
 use Rattle.laws.specs.Tests.{ask}
 use Rattle.book_form.specs.Book.{Book, parse}
 use Rattle.book_form.specs.Questions.{bookRefusal}
-use Rattle.book_form.specs.Checked.{entriesOf}
 use Rattle.book_form.specs.LineTold.{lineTold}
 use Rattle.book_form.specs.declared.CheckedBook.{CheckedBook}
 use Rattle.book_form.proofs.LineTold.{untold}
 use Rattle.book_names.specs.Name.{isEntry}
 use Rattle.book_names.proofs.Naming.{from-one}
-use Rattle.way_theory.specs.BookBytes.{entryCount}
 use Rattle.way_joins.specs.declared.Spare.{Spare}
 use Rattle.way_joins.specs.Tables.{timingIn, TimingOf, HasTiming}
 use Rattle.way_joins.specs.Joins.{spareOf, Spares}
+use Rattle.way_joins.proofs.Counts.{checked-timing}
 use Rattle.way_network.specs.Held.{Holds, Held}
 use Rattle.call_reply.specs.declared.Reply.{Reply}
 use Rattle.call_reply.specs.Replies.{codeAlone, refusedAt, replyUnless}
@@ -24,12 +22,12 @@ use Rattle.call_reply.proofs.Turns.{fails-first}
 use Rattle.call_reply.proofs.Refusing.{refused-reply}
 use Rattle.call_way_bytes.specs.WaySteps.{AdmitsBook}
 use Rattle.call_way_bytes.specs.declared.AdmittedBook.{AdmittedBook}
-use Rattle.call_way_bytes.proofs.Admitting.{Admitted, admitted}
+use Rattle.call_way_bytes.proofs.Admitting.{Admitted, admitted-held, admitted-count, admitted}
 use Rattle.call_spare.specs.SpareCall.{spareQuestion, spareReply, spareAt, BookSpare, SparesIn}
 
 -- what the spare is looked up in
 timing-of : (b : Book) (c : CheckedBook) → Holds b c → TimingOf b (timingIn c)
-timing-of b c h = record { limits = h .limits; are = ap timingIn (h .is) }
+timing-of b c h = checked-timing b c (h .total) (h .limits) (h .is)
 
 pub has-timing : (c : CheckedBook) → Held c → HasTiming (timingIn c)
 has-timing c h = record { book = h .book; timing = timing-of (h .book) c (h .holds) }
@@ -56,14 +54,11 @@ module _ (s : List ℕ) (i j : ℕ) (r : AdmittedBook) (h : AdmitsBook s r) wher
     gone = admitted s r h z
 
     pub held : Held (r .book)
-    held = record { book = gone .book; holds = gone .holds }
-
-    count-is : r .book .count ≡ entryCount s
-    count-is = ap (λ (c : CheckedBook). c .count) (gone .holds .is) ∙ sym (ap (λ o. length (entriesOf o)) (gone .is))
+    held = admitted-held gone
 
     -- 19 is left to be put
     past-16 : spareQuestion s i j ≡ ask (isEntry (r .book .count) i && isEntry (r .book .count) j) 19 0
-    past-16 = rw (gone .ok, count-is) refl
+    past-16 = rw (gone .ok, admitted-count gone) refl
 
     outside : (isEntry (r .book .count) i && isEntry (r .book .count) j) ≡ false → (x : Reply) → x ≡ codeAlone 19 → BookSpare s i j x
     outside out x q =

@@ -1,10 +1,16 @@
--- How many entries the tables have: those of their book, at most 28.
+-- The timing of a checked book and of tables, and how many entries they have: those of their book, at most 28.
 use mathlib.Core.Path.{_≡_, ap}
-use Prim.Native.Nat.{_≤_}
+use Prim.Native.Nat.{ℕ, _≤_}
 use native.Mathlib.Omega.{arith}
 use Rattle.book_form.specs.Book.{Book}
+use Rattle.book_form.specs.Checked.{checkedOf}
+use Rattle.book_form.specs.WithinLimits.{WithinLimits}
+use Rattle.book_form.specs.declared.CheckedBook.{CheckedBook}
 use Rattle.way_theory.specs.Follow.{size}
-use Rattle.way_joins.specs.Tables.{Timing, TimingOf, Tables, TablesOf, HasTables}
+use Rattle.way_joins.specs.Tables.{Timing, timingIn, TimingOf, Tables, TablesOf, HasTables}
+
+pub checked-timing : (b : Book) (c : CheckedBook) (total : ℕ) → WithinLimits b → c ≡ checkedOf total b → TimingOf b (timingIn c)
+checked-timing b c total limits e = record { limits = limits; are = ap timingIn e }
 
 pub timing-of : (b : Book) (t : Tables) → TablesOf b t → TimingOf b (t .timing)
 timing-of b t T = record { limits = T .limits; are = ap (λ (t : Tables). t .timing) (T .are) }

@@ -16,6 +16,7 @@ use Rattle.book_form.proofs.Judging.{column-at}
 use Rattle.book_form.proofs.Names.{checked-name}
 use Rattle.way_theory.specs.Follow.{size, entryAt, spareTicks}
 use Rattle.way_joins.specs.Tables.{timingIn, TimingOf, HasTiming}
+use Rattle.way_joins.proofs.Counts.{checked-timing}
 use Rattle.way_parts.specs.Parts.{predecessor, playingOrder}
 use Rattle.way_parts.specs.Acyclic.{Acyclic}
 use Rattle.way_parts.proofs.Ranks.{way-acyclic}
@@ -96,7 +97,7 @@ module _ (s : List ℕ) (c : CheckedBook) (w : List ℕ) (room : ℕ) (has : Has
 
   -- what the spare of a join is looked up in
   timing-of : TimingOf book (timingIn c)
-  timing-of = record { limits = has .limits; are = ap timingIn (has .is) }
+  timing-of = checked-timing book c (length s) (has .limits) (has .is)
 
   pub has-timing : HasTiming (timingIn c)
   has-timing = record { book = book; timing = timing-of }
