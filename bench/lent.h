@@ -14,6 +14,7 @@ struct LentBook {
     desk_reply next(std::vector<uint8_t> &to) { return desk_next(book(), text.size(), way.data(), way.size(), to.data(), to.size()); }
     desk_reply count(uint16_t cap) { return desk_count(book(), text.size(), cap); }
     desk_reply list() { return desk_listing(book(), text.size(), listing.data(), listing.size()); }
+    desk_reply spare(uint32_t earlier, uint32_t later) { return desk_spare(book(), text.size(), earlier, later); }
     desk_reply sheets_room() { return desk_sheets_room(book(), text.size()); }
     desk_reply write_sheets() { return desk_sheets(book(), text.size(), way.data(), way.size(), sheets.data(), sheets.size()); }
     desk_span name() { return desk_name(book(), text.size(), 1); }

@@ -57,6 +57,7 @@ int main() {
         most.call("`desk_next`", [&] { book.next(to); });
         most.call("`desk_count`", [&] { book.count(100); });
         most.call("`desk_listing`", [&] { book.list(); });
+        most.call("`desk_spare`", [&] { book.spare(1, 2); });
         most.call("`desk_sheets_room`", [&] { book.sheets_room(); });
         most.call("`desk_sheets`", [&] { book.write_sheets(); });
         most.call("`desk_name`", [&] { book.name(); });

@@ -1,5 +1,5 @@
-// The desk on books of 28 entries: first, next, count, the listing, the part sheets, the questions. Beside each stands the flow engine on the book's network, so
-// that the difference is what a book costs.
+// The desk on books of 28 entries: first, next, count, the listing, the spares, the part sheets, the questions. Beside each stands the flow engine on the book's
+// network, so that the difference is what a book costs.
 #include "lent.h"
 #include "measure.h"
 #include "sets.h"
@@ -73,6 +73,29 @@ static void long_lists_of(Table &table, const Named &set) {
         whole(median(lengths))});
 }
 
+// The spare of an entry and the next one, of each in turn, beside the questions alone. A later entry may follow an earlier one exactly if their spare is 0 or more.
+static void spares(Table &table, const Named &set) {
+    std::vector<double> times, questions;
+    size_t pairs = 0, follow = 0;
+    for (const Book &b : set.books) {
+        LentBook book(b);
+        const int e = int(b.entries.size());
+        for (int i = 1; i <= e; i++)
+            for (int j = 1; j <= e; j++) {
+                desk_reply r = book.spare(uint32_t(i), uint32_t(j));
+                bool may = r.code == DESK_OK && r.value >= 0;
+                pairs++;
+                follow += may;
+                if ((r.code == DESK_OK || r.code == DESK_NO_MOVE) && may == (b.join(i, j) >= 0)) continue;
+                wrong++;
+                printf("DIFFERENT, spare of %d and %d: %u %lld, and the join costs %d\n", i, j, r.code, (long long)r.value, b.join(i, j));
+            }
+        times.push_back(time_of([&] { for (int i = 1; i < e; i++) book.spare(uint32_t(i), uint32_t(i + 1)); }) / (e - 1));
+        questions.push_back(time_of([&] { book.questions(); }));
+    }
+    table.row({set.what, whole(double(set.books.size())), shown(median(times)), shown(largest(times)), shown(median(questions)), whole(double(pairs)), whole(double(follow))});
+}
+
 // The sheets of the first way, beside next with the same way given, which tests that way too. The sheets have a line for each entry, and take no
 // more than the room.
 static void sheets(Table &table, const Named &set) {
@@ -143,6 +166,11 @@ int main() {
         printf("### With the state kept: count less first, by item, and the listing\n\n");
         Table table({"books with more than 65,535 ways", "how many", "an item to cap 1,000", "65,535", "count to 65,535, ms", "listing of 1,000 ways, ms", "its bytes"});
         for (auto &s : long_movements()) long_lists_of(table, s);
+    }
+    {
+        printf("### The spare of two entries\n\n");
+        Table table({"books", "how many", "`desk_spare`", "at most", "the questions alone", "pairs tried", "may follow"});
+        for (auto &s : sets) spares(table, s);
     }
     {
         printf("### Part sheets, of the first way\n\n");

@@ -11,7 +11,7 @@
 #define DESK_H
 
 /* The version of the library and of the program ways. */
-#define DESK_VERSION "3.0.0"
+#define DESK_VERSION "4.0.0"
 
 #include <stddef.h>
 #include <stdint.h>
@@ -22,10 +22,11 @@ extern "C" {
 
 /* The codes of a reply that are no refusal. Any other code is the number of the first question that the call fails. */
 enum {
-    DESK_OK = 0,     /* a way, a flow or sheets were written, counting came to the end, there is a listing, or the room is known */
-    DESK_NONE = 100, /* there is no way, or no flow */
-    DESK_END = 101,  /* no least-cost way or flow follows the one given */
-    DESK_MORE = 102  /* there are more than the cap */
+    DESK_OK = 0,       /* a way, a flow or sheets were written, counting came to the end, there is a listing, or the room or the spare is known */
+    DESK_NONE = 100,   /* there is no way, or no flow */
+    DESK_END = 101,    /* no least-cost way or flow follows the one given */
+    DESK_MORE = 102,   /* there are more than the cap */
+    DESK_NO_MOVE = 103 /* there is no move from the one entry to the other */
 };
 
 /* The most that an accepted book or network has, for lists of a fixed size; and room for the longest listing and for the sheets of any book,
@@ -35,9 +36,10 @@ enum {
 #define DESK_NODES 64
 #define DESK_ARCS 512
 #define DESK_LISTING_ROOM 91028
-#define DESK_SHEETS_ROOM 1988
+#define DESK_SHEETS_ROOM 2212
 
-/* value: with DESK_OK the cost, the count, the length of the listing, the room for the sheets or their length, and otherwise 0.
+/* value: with DESK_OK the cost, the count, the length of the listing, the spare, which may be below 0, the room for the sheets or their length,
+ * and otherwise 0.
  * line: with 13, 14 and 15 the first line of the book that fails that question, counted from 1, and otherwise 0. */
 typedef struct {
     uint32_t code;
@@ -62,8 +64,9 @@ typedef struct {
  *                            instrument A and ends on B: three numbers or four behind the name say which, and I stands for both A and B
  *   )                        and nothing more
  * A number is 1 to 7 digits without a needless leading 0; W is 1 to 16 of a-z and 0-9. Entries are numbered from 1 to E in book order.
- * Entry j may follow another entry i, at the cost of the move from the instrument that i ends on to the one that j begins on, if there is
- * such a move and F of i + T <= S of j. On one instrument for which no such line stands, T and the cost are 0. No entry needs a move of its own.
+ * From an entry i to another entry j there is a move if a line says what it takes from the instrument that i ends on to the one that j begins
+ * on. If they are one, there is a move without a line too, and its T and C are 0. The spare is S of j less F of i less T. Entry j may follow i,
+ * at cost C, if there is a move and the spare is 0 or more. No entry needs a move of its own.
  * A way is an unsigned 32-bit number an entry: the number of the entry before it, which it may follow, or 0 if it opens a part. No entry is
  * before two, and at most P open a part. A way costs the fee for each part and what its entries cost that follow another.
  * Questions, in this order:
@@ -76,8 +79,8 @@ typedef struct {
  *   16  at most 28 entries
  *   17  the lent list a multiple of four bytes, with room for E numbers
  *   18  the given list E numbers long, and a least-cost way of the book
- *   19  (names, straight after 16) the entry from 1 to E
- *   21  (sheets, straight after 18) room for 71 bytes an entry
+ *   19  (names and spares, straight after 16) the entry, or both entries, from 1 to E
+ *   21  (sheets, straight after 18) room for 79 bytes an entry
  * Each question is put of the whole input before the next. The least-cost ways are listed in order: of two, the one with the smaller number
  * at the first entry where they differ comes first. A way fills the first E numbers of its list; all other bytes keep what they held. With
  * every code but DESK_OK the lent list does not change.
@@ -108,7 +111,18 @@ desk_reply desk_count(const uint8_t *book, size_t book_len, uint16_t cap);
  * Codes: DESK_OK, DESK_NONE, 11 to 16. */
 desk_reply desk_listing(const uint8_t *book, size_t book_len, uint8_t *text, size_t text_len);
 
-/* The room that desk_sheets asks for, in bytes: 71 * E, at most DESK_SHEETS_ROOM. It is worked out from the book alone, and the sheets of any
+/* The spare of the join from entry earlier to entry later, both from 1 to E: the ticks that a player who has both has left after the move.
+ * The value is S of later less F of earlier less the ticks of the move, from the instrument that earlier ends on to the one that later begins
+ * on. If it is 0 or more, later may follow earlier; if it is below 0, later starts so many ticks too early. Where there is no move, and for an
+ * entry against itself, the code is DESK_NO_MOVE; the value 0 is then no spare, so look at the code first:
+ *   desk_reply spare = desk_spare(book, book_len, 1, 2);
+ *   int may_follow = spare.code == DESK_OK && spare.value >= 0;
+ * If entry 1 is snare (instrument 1, 0 to 96), entry 2 is xylo (instrument 2, 120 to 200) and (move 1 2 24 3) is the only move, the spare from
+ * 1 to 2 is 0, and -1 if snare ends at 97; from 2 to 1 there is no move. With (move 2 1 24 3) the spare from 2 to 1 is -224.
+ * Codes: DESK_OK, DESK_NO_MOVE, 11 to 16, 19. */
+desk_reply desk_spare(const uint8_t *book, size_t book_len, uint32_t earlier, uint32_t later);
+
+/* The room that desk_sheets asks for, in bytes: 79 * E, at most DESK_SHEETS_ROOM. It is worked out from the book alone, and the sheets of any
  * way of the book take at most that.
  * Codes: DESK_OK, 11 to 16. */
 desk_reply desk_sheets_room(const uint8_t *book, size_t book_len);
@@ -117,19 +131,20 @@ desk_reply desk_sheets_room(const uint8_t *book, size_t book_len);
  * them. The parts come by rising number of the entries that open them; N counts them from 1. The lines of a sheet, each closed by byte 10:
  *   (part N
  *   (play (name W) S F)      for each entry of the part
- *   (gap G)                  between two entries: G ticks from F of the one to S of the next; 0 is written too
+ *   (gap G R)                between two entries: G ticks from F of the one to S of the next, of which R are spare; 0 is written too
  *   )
  * Every entry stands on exactly one sheet. If snare (0 to 96) and snare2 (240 to 300) are one part and xylo (120 to 200) is another:
  *   (part 1
  *   (play (name snare) 0 96)
- *   (gap 144)
+ *   (gap 144 144)
  *   (play (name snare2) 240 300)
  *   )
  *   (part 2
  *   (play (name xylo) 120 200)
  *   )
+ * If all three are one part and each move takes 24 ticks, the gaps are (gap 24 0) and (gap 40 16).
  * The sheets stand at the front of the list, no byte 0 follows them, and the bytes after them keep what they held; the value is their length.
- * A list of less than 71 * E bytes is refused, even if the sheets would fit. Without entries there is no sheet, and the length is 0.
+ * A list of less than 79 * E bytes is refused, even if the sheets would fit. Without entries there is no sheet, and the length is 0.
  * Codes: DESK_OK, 11 to 16, 18, 21. */
 desk_reply desk_sheets(const uint8_t *book, size_t book_len, const uint8_t *given, size_t given_len, uint8_t *text, size_t text_len);
 

@@ -9,7 +9,7 @@ import subprocess
 import tempfile
 
 ROOT = pathlib.Path(__file__).parent.parent
-OK, NONE, END, MORE = 0, 100, 101, 102
+OK, NONE, END, MORE, NO_MOVE = 0, 100, 101, 102, 103
 LIST = [ctypes.c_void_p, ctypes.c_size_t]
 
 

@@ -1,4 +1,4 @@
-"""The twelve entries of include/desk.h, on any arguments: what the archive answers, and what the readers that share nothing with it answer."""
+"""The thirteen entries of include/desk.h, on any arguments: what the archive answers, and what the readers that share nothing with it answer."""
 import ctypes
 import functools
 import math
@@ -14,22 +14,23 @@ from desk_library import Entry, Reply
 
 CAP = 65535
 TRIED = 3000                           # the most lists that are tried; a wider network is solved
-ENTRIES = {                            # the lists that are read, the lists that are lent, and the number
-    "desk_first": (["book"], ["way"], None),
-    "desk_next": (["book", "given"], ["way"], None),
-    "desk_count": (["book"], [], "cap"),
-    "desk_listing": (["book"], ["text"], None),
-    "desk_sheets_room": (["book"], [], None),
-    "desk_sheets": (["book", "given"], ["text"], None),
-    "desk_name": (["book"], [], "entry"),
-    "desk_name_refusal": (["book"], [], "entry"),
-    "desk_network_first": (["balances", "arcs"], ["flows"], None),
-    "desk_network_first_priced": (["balances", "arcs"], ["flows", "prices"], None),
-    "desk_network_next": (["balances", "arcs", "given"], ["flows"], None),
-    "desk_network_count": (["balances", "arcs"], [], "cap"),
+ENTRIES = {                            # the lists that are read, the lists that are lent, and the numbers
+    "desk_first": (["book"], ["way"], []),
+    "desk_next": (["book", "given"], ["way"], []),
+    "desk_count": (["book"], [], ["cap"]),
+    "desk_listing": (["book"], ["text"], []),
+    "desk_spare": (["book"], [], ["earlier", "later"]),
+    "desk_sheets_room": (["book"], [], []),
+    "desk_sheets": (["book", "given"], ["text"], []),
+    "desk_name": (["book"], [], ["entry"]),
+    "desk_name_refusal": (["book"], [], ["entry"]),
+    "desk_network_first": (["balances", "arcs"], ["flows"], []),
+    "desk_network_first_priced": (["balances", "arcs"], ["flows", "prices"], []),
+    "desk_network_next": (["balances", "arcs", "given"], ["flows"], []),
+    "desk_network_count": (["balances", "arcs"], [], ["cap"]),
 }
 RESULTS = {"desk_name": way_library.Span, "desk_name_refusal": ctypes.c_uint32}
-NUMBERS = {"cap": ctypes.c_uint16, "entry": ctypes.c_uint32}
+NUMBERS = {"cap": ctypes.c_uint16, "entry": ctypes.c_uint32, "earlier": ctypes.c_uint32, "later": ctypes.c_uint32}
 
 
 def lists(entry):
@@ -57,6 +58,9 @@ def expected(entry, a):
     if entry in ("desk_name", "desk_name_refusal"):
         question, (start, end) = book_reader.name(a["book"], a["entry"])
         return (start, end - start) if entry == "desk_name" else question, [], 0
+    if entry == "desk_spare":
+        answer, line = way_trial.told_spare(a["book"], a["earlier"], a["later"])
+        return answer, [], line
     reader = ways_reader(a["book"]) if "book" in a else network_reader(a["balances"], a["arcs"])
     line = reader.line if "book" in a else 0
     if entry.endswith("count"): return reader.count(a["cap"]), [], line
@@ -73,14 +77,14 @@ class Surface:
 
     def __init__(self, numbers=NUMBERS):
         library = desk_library.load()
-        self._entries = {entry: Entry(library, entry, RESULTS.get(entry, Reply), len(read + lent), *([numbers[number]] if number else []))
-                         for entry, (read, lent, number) in ENTRIES.items()}
+        self._entries = {entry: Entry(library, entry, RESULTS.get(entry, Reply), len(read + lent), *(numbers[name] for name in more))
+                         for entry, (read, lent, more) in ENTRIES.items()}
 
     def call(self, entry, a, placed=None):
         """The answer, the lent lists after the call, and the line told. `placed` has what is handed over instead: a List for a list, a wider number."""
-        read, lent, number = ENTRIES[entry]
+        read, lent, more = ENTRIES[entry]
         handed = {**a, **(placed or {})}
-        reply, after = self._entries[entry]([handed[n] for n in read], [handed[n] for n in lent], *([handed[number]] if number else []))
+        reply, after = self._entries[entry]([handed[n] for n in read], [handed[n] for n in lent], *(handed[n] for n in more))
         if isinstance(reply, Reply): return (reply.code, reply.value), after, reply.line
         return ((reply.start, reply.length) if entry == "desk_name" else reply), after, 0
 

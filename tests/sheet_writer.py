@@ -1,6 +1,6 @@
-"""A writer of part sheets for the tests, written from request 2 of document 02 alone and independent of the library. Books are those of book_reader."""
+"""A writer of part sheets for the tests, written from document 02 alone, its requests 2 and 7, and independent of the library. Books are those of book_reader."""
 
-ROOM = 71                              # bytes an entry
+ROOM = 79                              # bytes an entry
 
 
 def parts(way):
@@ -12,15 +12,17 @@ def parts(way):
 
 
 def sheets(text, book, way):
-    """The sheets of a way of the book that the bytes `text` hold."""
-    lines = []
+    """The sheets of a way of the book that the bytes `text` hold. Where no line says what a join takes, it stays on one instrument and takes no ticks."""
+    ticks, lines = {(a, b): t for a, b, t, _ in book.moves}, []
     for n, part in enumerate(parts(way), 1):
         lines.append(b"(part %d" % n)
         before = None
         for j in part:
-            (_, _, start, finish), (begin, end) = book.entries[j - 1], book.names[j - 1]
-            if before is not None: lines.append(b"(gap %d)" % (start - before))
+            (arrives, leaves, start, finish), (begin, end) = book.entries[j - 1], book.names[j - 1]
+            if before is not None:
+                instrument, ended = before
+                lines.append(b"(gap %d %d)" % (start - ended, start - ended - ticks.get((instrument, arrives), 0)))
             lines.append(b"(play (name %s) %d %d)" % (text[begin:end], start, finish))
-            before = finish
+            before = leaves, finish
         lines.append(b")")
     return b"".join(line + b"\n" for line in lines)

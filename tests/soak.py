@@ -1,4 +1,5 @@
 """A round of the soak: random networks, books, damaged bytes and runs of calls from one seed, each answer compared. tests/run --soak goes on with rounds."""
+import itertools
 import random
 import unittest
 
@@ -70,7 +71,7 @@ class Round(unittest.TestCase):
         return 2
 
     def books(self):
-        """Runs of calls on small books and on paired ones, calls for sheets among them, and their listings."""
+        """Runs of calls on small books and on paired ones, calls for sheets and for spares among them, and their listings."""
         for k in range(300):
             run = test_way_calls.WaySession(self, self.ways, self.rng, paired(self.rng) if k % 50 == 0 else small_book(self.rng))
             run.walk(self.rng.choice((0.1, 0.5)), 0.02, most=100)
@@ -79,11 +80,13 @@ class Round(unittest.TestCase):
         return 300
 
     def large_books(self):
-        """28 entries: the first way is that of the first flow of the book's network, by its certificate, and its sheets are the writer's."""
+        """28 entries: the first way is that of the first flow of the book's network, by its certificate, and its sheets are the writer's; the spares of all pairs
+        of entries."""
         for _ in range(5):
             text = large_book(self.rng)
             book = book_reader.read(text)
             balances, arcs = way_trial.network_of(book)
+            for i, j in itertools.product(range(30), repeat=2): self.assertEqual(self.ways.spare(text, i, j), way_trial.spare_answer(book, i, j), text)
             (code, cost), (way,) = self.ways.first(text, bytes(112))
             (answer, value), (flow,) = self.flows.first(network(balances, arcs), bytes(4 * len(arcs)))
             self.assertEqual((code, cost), (answer, value), text)

@@ -4,8 +4,9 @@ import itertools
 import random
 import unittest
 
-from desk_library import END, MORE, NONE, OK, Fenced, List, numbers
+from desk_library import END, MORE, NONE, NO_MOVE, OK, Fenced, List, numbers
 from entries import CAP, ENTRIES, Surface, lists, network_reader, ways_reader
+from entries import NUMBERS as TYPES
 from flow_networks import EXTREMES, small, wide
 from network_library import network
 from way_books import EXAMPLE, THOUSAND, made, refused
@@ -15,7 +16,7 @@ ARCS = [(0, 1, 0, 2, 1), (0, 1, 0, 2, 1), (1, 2, 0, 1, 0), (2, 1, 0, 1, 0)]
 BALANCES, ALL_ARCS = network([2, -2, 0], ARCS)               # six least-cost flows; (2, 0, 1, 1) is the last
 LINES = [numbers((a, 2 - a, b, b)) for a in range(3) for b in range(2)]
 WAYS = [numbers((0, 0, 1)), numbers((0, 1, 2))]              # of the book EXAMPLE
-ROOM = 3 * 71                                                # for its sheets
+ROOM = 3 * 79                                                # for its sheets
 NUMBERS = sorted({*EXTREMES, 2, 3, 255, 256, 2**16 - 1, 2**16, 2**24, *(s * (m + k) for s in (1, -1) for m in (10**6, 10**9) for k in (0, 1))})
 REFUSED = [book for question, book in refused()]
 ENTRY_NUMBERS = [0, 1, 2, 3, 4, 27, 28, 29, 255, 256, 257, 2**16, 2**16 + 1, 2**31 - 1, 2**31, 2**31 + 1, 2**32 - 3, 2**32 - 2, 2**32 - 1]
@@ -23,14 +24,13 @@ ENTRY_NUMBERS = [0, 1, 2, 3, 4, 27, 28, 29, 255, 256, 257, 2**16, 2**16 + 1, 2**
 
 def arguments(entry, a):
     """Those of the arguments that the entry takes."""
-    read, lent, number = ENTRIES[entry]
-    return {name: a[name] for name in (*read, *lent, *([number] if number else []))}
+    return {name: a[name] for names in ENTRIES[entry] for name in names}
 
 
 def fair(entry, rng):
     """Arguments that the entry does not refuse."""
     if "network" in entry: a = dict(balances=BALANCES, arcs=ALL_ARCS, given=LINES[0], flows=rng.randbytes(16), prices=rng.randbytes(12), cap=6)
-    else: a = dict(book=EXAMPLE, given=WAYS[0], way=rng.randbytes(12), text=rng.randbytes(ROOM if entry == "desk_sheets" else 68), cap=2, entry=2)
+    else: a = dict(book=EXAMPLE, given=WAYS[0], way=rng.randbytes(12), text=rng.randbytes(ROOM if entry == "desk_sheets" else 68), cap=2, entry=2, earlier=1, later=3)
     return arguments(entry, a)
 
 
@@ -57,6 +57,8 @@ def damaged_call(rng, surface, entry, a):
     for name in rng.sample(names, min(len(names), rng.choice((0, 1, 1, 1, 2, 4)))): a[name] = damage(rng, a[name])
     if "cap" in a: a["cap"] = rng.choice((0, 1, 2, 5, rng.randint(0, CAP) if "book" in a else 3))     # the solver counts far for few networks
     if "entry" in a: a["entry"] = rng.choice(ENTRY_NUMBERS)
+    for name in ("earlier", "later"):
+        if name in a: a[name] = rng.choice((1, 2, 3, 4, 5, rng.choice(ENTRY_NUMBERS)))
     return surface.compare(entry, a, {name: List(a[name], rng.randrange(8), rng.random() < 0.5) for name in names})
 
 
@@ -73,7 +75,7 @@ def any_book(rng):
     book = rng.choice(REFUSED) if rng.random() < 0.3 else small_book(rng, 4)
     e = book.count(b"(entry")
     given = rng.choice([*ways_reader(book).lines, numbers([rng.randint(0, j) for j in range(e)])])
-    return dict(book=book, given=given, way=rng.randbytes(4 * e), text=rng.randbytes(300), cap=3, entry=1)
+    return dict(book=book, given=given, way=rng.randbytes(4 * e), text=rng.randbytes(320), cap=3, entry=1, earlier=1, later=2)
 
 
 def damaged_calls(rng, surface):
@@ -116,7 +118,7 @@ class Boundary(unittest.TestCase):
                 for size in range(len(a[name]) + 25): self.compare(entry, {**a, name: (a[name] + self.rng.randbytes(24))[:size]})
             for one, two in itertools.combinations([name for name in lists(entry) if len(a[name]) <= 16], 2):
                 for i, j in itertools.product(range(19), repeat=2): self.compare(entry, {**a, one: (a[one] + bytes(6))[:i], two: (a[two] + bytes(6))[:j]})
-        self.answered({"desk_first": {OK, 12, 17}, "desk_next": {OK, 12, 17, 18}, "desk_listing": {OK, 12}, "desk_sheets_room": {OK, 12}, "desk_sheets": {OK, 12, 18, 21}, "desk_network_first": {OK, NONE, 1, 2, 3, 7},
+        self.answered({"desk_first": {OK, 12, 17}, "desk_next": {OK, 12, 17, 18}, "desk_listing": {OK, 12}, "desk_spare": {OK, 12}, "desk_sheets_room": {OK, 12}, "desk_sheets": {OK, 12, 18, 21}, "desk_network_first": {OK, NONE, 1, 2, 3, 7},
                        "desk_network_first_priced": {OK, NONE, 1, 2, 3, 7}, "desk_network_next": {OK, 1, 2, 3, 7, 8}})
 
     def test_empty(self):
@@ -125,7 +127,7 @@ class Boundary(unittest.TestCase):
             for choice in itertools.product(range(3), repeat=len(lists(entry))):
                 empty = {name: b"" for name, kind in zip(lists(entry), choice) if kind}
                 self.compare(entry, {**a, **empty}, {name: Fenced(b"") for name, kind in zip(lists(entry), choice) if kind == 2})
-        self.answered({"desk_first": {OK, 12, 17}, "desk_next": {OK, 12, 17, 18}, "desk_count": {OK, 12}, "desk_listing": {OK, 12}, "desk_sheets_room": {OK, 12}, "desk_sheets": {OK, 12, 18, 21}, "desk_name_refusal": {0, 12},
+        self.answered({"desk_first": {OK, 12, 17}, "desk_next": {OK, 12, 17, 18}, "desk_count": {OK, 12}, "desk_listing": {OK, 12}, "desk_spare": {OK, 12}, "desk_sheets_room": {OK, 12}, "desk_sheets": {OK, 12, 18, 21}, "desk_name_refusal": {0, 12},
                        "desk_network_first": {OK, NONE, 1, 7}, "desk_network_next": {OK, 1, 7, 8}})
 
     def test_addresses(self):
@@ -145,14 +147,14 @@ class Boundary(unittest.TestCase):
                         self.compare(entry, b, {n: Fenced(b[n], end) for n, end in zip(lists(entry), at_end)})
         for book in REFUSED + list(THOUSAND.values()):
             for at_end in (True, False):
-                for entry in ("desk_count", "desk_name", "desk_name_refusal", "desk_listing", "desk_sheets_room", "desk_sheets"):
-                    other = dict(book=book, text=self.rng.randbytes(40000 if entry == "desk_listing" else 71 * 9), given=[*ways_reader(book).lines, b""][0])
+                for entry in ("desk_count", "desk_name", "desk_name_refusal", "desk_listing", "desk_spare", "desk_sheets_room", "desk_sheets"):
+                    other = dict(book=book, text=self.rng.randbytes(40000 if entry == "desk_listing" else 79 * 9), given=[*ways_reader(book).lines, b""][0])
                     a = {name: other.get(name, value) for name, value in fair(entry, self.rng).items()}
                     self.compare(entry, a, {name: Fenced(a[name], at_end) for name in lists(entry)})
         both = made(1, 0, [], [(b"a", 1, 0, 1), (b"b", 1, 2, 3, 4)])                # cut at every byte of both forms of an entry
-        for size, entry in itertools.product(range(len(both) + 1), ("desk_count", "desk_name", "desk_name_refusal")):
+        for size, entry in itertools.product(range(len(both) + 1), ("desk_count", "desk_name", "desk_name_refusal", "desk_spare")):
             self.compare(entry, {**fair(entry, self.rng), "book": both[:size]}, {"book": Fenced(both[:size])})
-        self.answered({"desk_count": {OK, MORE, *range(11, 17)}, **{entry: {OK, *range(11, 17)} for entry in ("desk_listing", "desk_sheets_room", "desk_sheets")}})
+        self.answered({"desk_count": {OK, MORE, *range(11, 17)}, "desk_spare": {OK, 19, *range(11, 17)}, **{entry: {OK, *range(11, 17)} for entry in ("desk_listing", "desk_sheets_room", "desk_sheets")}})
 
     def test_listing(self):
         """Lent lists of every length to a book with ways, one without and those that are refused: only a listing that fits is written."""
@@ -165,7 +167,7 @@ class Boundary(unittest.TestCase):
         none = made(1, 0, [], [(b"a", 1, 0, 2), (b"b", 1, 1, 3)])
         for book, given in (*((EXAMPLE, way) for way in WAYS), (made(), b""), (made(), b"\0"), (none, b""), (none, numbers((0, 0)))):
             for size in range(ROOM + 30): self.compare("desk_sheets", dict(book=book, given=given, text=self.rng.randbytes(size)))
-        for book, given, size in itertools.product(REFUSED, (b"", WAYS[0], b"\0"), (0, 1, ROOM - 1, ROOM, 1988)):
+        for book, given, size in itertools.product(REFUSED, (b"", WAYS[0], b"\0"), (0, 1, ROOM - 1, ROOM, 2212)):
             self.compare("desk_sheets", dict(book=book, given=given, text=self.rng.randbytes(size)))
         self.assertEqual(self.seen, {"desk_sheets": {OK, 18, 21, *range(11, 17)}})
 
@@ -216,13 +218,21 @@ class Boundary(unittest.TestCase):
                 for number in ENTRY_NUMBERS: self.compare(entry, dict(book=book, entry=number))
         self.answered({"desk_name_refusal": {0, 19, *range(11, 17)}})
 
+    def test_two_entries(self):
+        """The spare by all pairs of such numbers, E, E + 1, 2^31 and 2^32 - 1 among them, each as the earlier entry and as the later one."""
+        full = made(entries=[(b"e%d" % j, 1 + j % 2, 2, j, j + 1) for j in range(28)])
+        for book in (made(), made(entries=[(b"a", 1, 0, 1)]), EXAMPLE, full, *REFUSED):
+            for earlier, later in itertools.product(ENTRY_NUMBERS, repeat=2):
+                self.compare("desk_spare", dict(book=book, earlier=earlier, later=later), {"book": List(book, self.rng.randrange(8))})
+        self.assertEqual(self.seen, {"desk_spare": {OK, NO_MOVE, 19, *range(11, 17)}})
+
     def test_upper_half(self):
         """A caller may leave anything in the upper half of a register that hands over a cap or an entry."""
-        surface = Surface({"cap": ctypes.c_uint64, "entry": ctypes.c_uint64})
+        surface = Surface({name: ctypes.c_uint64 for name in TYPES})
         for entry, a in self.calls():
-            for name, values in (("cap", (0, 1, 2, 5, 6, CAP)), ("entry", ENTRY_NUMBERS)):
-                if name not in a: continue
-                for value, upper in itertools.product(values, (0, 1, 2**31, 2**32 - 1)): surface.compare(entry, {**a, name: value}, {name: value + (upper << 32)})
+            for name in ENTRIES[entry][2]:
+                for value, upper in itertools.product((0, 1, 2, 5, 6, CAP) if name == "cap" else ENTRY_NUMBERS, (0, 1, 2**31, 2**32 - 1)):
+                    surface.compare(entry, {**a, name: value}, {name: value + (upper << 32)})
 
     def test_one_memory(self):
         """Lists that are only read may be one: the same bytes as balances, arcs and given, as book and given."""
@@ -249,7 +259,7 @@ class Boundary(unittest.TestCase):
         for _ in range(6000):
             for entry, code in damaged_calls(self.rng, self.surface): self.seen.setdefault(entry, set()).add(code)
         books, nets = {*range(11, 17)}, {*range(1, 7)}
-        self.answered({"desk_first": {OK, NONE, 17, *books}, "desk_next": {OK, END, 17, 18, *books}, "desk_count": {OK, MORE, *books}, "desk_listing": {OK, NONE, *books}, "desk_sheets_room": {OK, *books}, "desk_sheets": {OK, 18, 21, *books}, "desk_name_refusal": {0, 19, *books},
+        self.answered({"desk_first": {OK, NONE, 17, *books}, "desk_next": {OK, END, 17, 18, *books}, "desk_count": {OK, MORE, *books}, "desk_listing": {OK, NONE, *books}, "desk_spare": {OK, NO_MOVE, 19, *books}, "desk_sheets_room": {OK, *books}, "desk_sheets": {OK, 18, 21, *books}, "desk_name_refusal": {0, 19, *books},
                        "desk_network_first": {OK, NONE, 7, *nets}, "desk_network_first_priced": {OK, NONE, 7, *nets}, "desk_network_next": {OK, END, 7, 8, *nets}, "desk_network_count": {OK, MORE, *nets}})
 
 

@@ -11,6 +11,7 @@ import book_reader
 import desk_library
 import sheet_writer
 import trial
+import way_trial
 from test_sheets import stored
 from test_way_trial import EXAMPLES, counted, examples
 from way_books import ENTRIES, MOVES, bad_lines, made, refused
@@ -20,8 +21,8 @@ HEADER = ROOT / "include/desk.h"
 STRICT = ["-std=c11", "-pedantic", "-Wall", "-Wextra", "-Werror", "-I", HEADER.parent]
 SANITIZED = ["-g", "-fsanitize=address,undefined", "-fno-sanitize-recover=all"]
 VALGRIND = ["valgrind", "-q", "--error-exitcode=9", "--leak-check=full"]
-LISTED, NOT_LISTED, TROUBLE = 0, 1, 2                  # of print_sheets: printed, not printed, trouble
-PROGRAMS = "list_ways", "print_sheets", "solve_network"
+LISTED, NOT_LISTED, TROUBLE = 0, 1, 2                  # of print_sheets: printed, not printed, trouble; of tell_spare: told, not told, trouble
+PROGRAMS = "list_ways", "print_sheets", "tell_spare", "solve_network"
 
 
 def compiled(program, to, compiler="gcc", flags=("-O2",)):
@@ -72,7 +73,7 @@ class Programs:
         cls.dir = tempfile.TemporaryDirectory()
         cls.addClassCleanup(cls.dir.cleanup)
         cls.folder = pathlib.Path(cls.dir.name)
-        cls.list_ways, cls.print_sheets, cls.solve_network = [compiled(p, cls.folder / p, flags=cls.flags) for p in PROGRAMS]
+        cls.list_ways, cls.print_sheets, cls.tell_spare, cls.solve_network = [compiled(p, cls.folder / p, flags=cls.flags) for p in PROGRAMS]
 
     def test_examples(self):
         """The ways of each example book, in the order of its listing."""
@@ -99,7 +100,7 @@ class Programs:
         """A sentence for each refusal and, for 13 to 15, the lowest line that fails."""
         words, met = {11: "16384 bytes", 12: "form", 13: "players", 14: "move", 15: "entry", 16: "28 entries"}, set()
         for question, book in refused():
-            for name, command in ("standard input", [self.list_ways]), ("/dev/stdin", [self.print_sheets, "/dev/stdin"]):
+            for name, command in ("standard input", [self.list_ways]), ("/dev/stdin", [self.print_sheets, "/dev/stdin"]), ("/dev/stdin", [self.tell_spare, "/dev/stdin", "1", "2"]):
                 status, out, complaint = run(command, book)
                 self.assertEqual((status, out), (NOT_LISTED, ""))
                 line, code, sentence = re.fullmatch(name + r"(?::(\d+))?: refused \((\d+)\): (.+)\n", complaint).groups()
@@ -121,9 +122,9 @@ class Programs:
         for path, question in (empty, 12), (long, 11): self.refused_file(path, "", question)
 
     def refused_file(self, path, line, question):
-        """Both programs of books tell the question, and the line after the file's name."""
-        for program in self.list_ways, self.print_sheets:
-            status, out, complaint = run([program, path])
+        """The programs of books tell the question, and the line after the file's name."""
+        for command in [self.list_ways, path], [self.print_sheets, path], [self.tell_spare, path, "1", "2"], [self.tell_spare, path, "0", "29"]:
+            status, out, complaint = run(command)
             self.assertEqual((status, out), (NOT_LISTED, ""))
             self.assertTrue(complaint.startswith("%s%s: refused (%s): " % (path, line, question)), complaint)
 
@@ -147,10 +148,13 @@ class Programs:
             with self.subTest(words): self.wrong([self.list_ways, *words])
         for words in ([], [book, ""], [book, "x"], [book, "0"], [book, "-1"], [book, "1234567890"], [book, "1", "1"], ["-n"], [self.folder / "nowhere"], [self.folder]):
             with self.subTest(words): self.wrong([self.print_sheets, *words])
+        for words in ([], [book], [book, "1"], [book, "1", "2", "3"], [book, "", "2"], [book, "1", ""], [book, "x", "2"], [book, "1", "x"], [book, "1", "2x"], [book, "-1", "2"], [book, "1", "-2"], [book, "1", " 2"],
+                      [book, "1234567890", "2"], [book, "1", "1234567890"], ["-n", "1", "2"], [self.folder / "nowhere", "1", "2"], [self.folder, "1", "2"]):
+            with self.subTest(words): self.wrong([self.tell_spare, *words])
         for words in ([""], ["x"], ["-1"], ["1234567890"], ["1", "1"]):
             with self.subTest(words): self.wrong([self.solve_network, *words])
         with open("/dev/full", "wb") as full:
-            for command in [self.list_ways, book], [self.print_sheets, book], [self.solve_network]:
+            for command in [self.list_ways, book], [self.print_sheets, book], [self.tell_spare, book, "1", "2"], [self.solve_network]:
                 self.assertEqual(run(command, out=full)[0], TROUBLE)
 
     def wrong(self, command):
@@ -172,6 +176,30 @@ class Programs:
         self.assertEqual(run([self.print_sheets, empty, "2"]), (NOT_LISTED, "", "%s: no way 2: the last is way 1\n" % empty))
         for words in [], ["2"]: self.assertEqual(run([self.print_sheets, none, *words]), (NOT_LISTED, "", "%s: no way\n" % none))
 
+    def test_spare(self):
+        """Every pair of entries of some stored books, as the trial tells it; an entry outside 1 to E is refused, the first as the second."""
+        kinds = set()
+        for name in "document", "document-late", "opera", "touching", "mallets-too-short", "bells-to-cymbal", "free-parts", "no-entries":
+            path = EXAMPLES / (name + ".book")
+            text = path.read_bytes()
+            book = book_reader.read(text)
+            e, words = len(book.entries), ["%s (%d)" % (text[start:end].decode(), k) for k, (start, end) in enumerate(book.names, 1)]
+            for i, j in itertools.product(range(1, e + 1), repeat=2):
+                ticks = way_trial.spare(book, i, j)
+                may = "may follow" if ticks is not None and ticks >= 0 else "may not follow"
+                told = "%s %s %s: %s\n" % (words[j - 1], may, words[i - 1], "no move" if ticks is None else "spare %d" % ticks)
+                self.assertEqual(run([self.tell_spare, path, str(i), str(j)]), (LISTED, told, ""))
+                kinds.add((may, ticks is None))
+            for pair in (0, 1), (1, 0), (e + 1, 1), (1, e + 1), (e + 1, 0), (999999999, 999999999):
+                self.assertEqual(run([self.tell_spare, path, *map(str, pair)]), (NOT_LISTED, "", "%s: refused (19): the book has no entry of that number\n" % path))
+        self.assertEqual(kinds, {("may follow", False), ("may not follow", False), ("may not follow", True)})
+
+    def test_shown_spares(self):
+        """The page on the C programs shows what tell_spare prints."""
+        shown = re.findall(r"^    \$ target/examples/tell_spare (\S+) (\d+) (\d+)\n    (.*\n)", (ROOT / "examples/c/README.md").read_text(), re.M)
+        for path, earlier, later, told in shown: self.assertEqual(run([self.tell_spare, ROOT / path, earlier, later]), (LISTED, told, ""))
+        self.assertEqual([told.rpartition(" ")[2] for *_, told in shown], ["-240\n", "0\n", "120\n", "-1\n", "move\n"])
+
     def test_network(self):
         """The flows, prices and count of the transport problem are those of the search by trial."""
         names, balances = ["north", "south", "arena", "church", "opera"], [5, 4, -3, -3, -3]
@@ -189,7 +217,8 @@ class Plain(Programs, unittest.TestCase):
         """A few runs with the library's own reads and writes watched: the status and the words are those without valgrind."""
         book = (EXAMPLES / "symphony.book").read_bytes()
         for command, data in ([self.list_ways, EXAMPLES / "ballet.book"], b""), ([self.list_ways, "-n", "3"], book), ([self.list_ways, EXAMPLES / "refused-14.book"], b""), \
-                ([self.print_sheets, EXAMPLES / "ballet.book", "4"], b""), ([self.print_sheets, EXAMPLES / "no-entries.book"], b""), ([self.solve_network], b""):
+                ([self.print_sheets, EXAMPLES / "ballet.book", "4"], b""), ([self.print_sheets, EXAMPLES / "no-entries.book"], b""), \
+                *(([self.tell_spare, EXAMPLES / "opera.book", *pair], b"") for pair in (("1", "2"), ("4", "4"), ("8", "1"))), ([self.solve_network], b""):
             self.assertEqual(run(VALGRIND + command, data), run(command, data))
 
     def test_clang(self):
@@ -206,6 +235,11 @@ class Header(unittest.TestCase):
     def test_cpp(self):
         source = "#include <desk.h>\nint main() { return desk_first(nullptr, 0, nullptr, 0).code == 12 ? 0 : 1; }\n"
         subprocess.run(["g++", "-std=c++11", "-Wall", "-Wextra", "-Werror", "-pedantic", "-I", HEADER.parent, "-fsyntax-only", "-x", "c++", "-"], input=source.encode(), check=True)
+
+    def test_codes(self):
+        """The codes of the header are those that the tests know."""
+        codes = {name: int(number) for name, number in re.findall(r"^    DESK_(\w+) = (\d+)", HEADER.read_text(), re.M)}
+        self.assertEqual(codes, {name: getattr(desk_library, name) for name in ("OK", "NONE", "END", "MORE", "NO_MOVE")})
 
     def test_limits(self):
         limits = {name: int(value) for name, value in re.findall(r"^#define DESK_(\w+) (\d+)$", HEADER.read_text(), re.M)}

@@ -69,10 +69,11 @@ class Documents(unittest.TestCase):
         for text in sheets: self.assertIn(text, [path.read_text() for path in EXAMPLES.glob("document-[12].sheets")])
 
     def test_questions(self):
-        """The rule has each question once, in order, and names every entry and limit of the header."""
+        """The rule has each question once, in order, and names every entry, code and limit of the header."""
         rule, header = (ROOT / "docs/RULE.md").read_text(), (ROOT / "include/desk.h").read_text()
         self.assertEqual([int(number) for number in re.findall(r"^\| (\d+) \| (?:[A-Z].*\?) \|", rule, re.M)], [*range(1, 9), *range(11, 20), 21])
         for entry in re.findall(r"^desk_\w+ (desk_\w+)\(|^uint32_t (desk_\w+)\(", header, re.M): self.assertIn("`%s`" % "".join(entry), rule)
+        for code in re.findall(r"^    DESK_[A-Z_]+ = (\d+)", header, re.M): self.assertRegex(rule, r"(?m)^\| %s \| " % code)
         for limit in re.findall(r"^#define DESK_[A-Z_]+ (\d+)$", header, re.M): self.assertIn(f"{int(limit):,}", rule)
 
     def test_definitions(self):

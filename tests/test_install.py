@@ -55,9 +55,10 @@ class Install(unittest.TestCase):
             self.assertEqual((status, printed(out, (EXAMPLES / "ballet.book").read_bytes()), complaint), (0, wanted, ""))
 
     def test_version(self):
-        """The header's version, and no other, is in all that says one."""
+        """The header's version, and no other, is in all that says one; it is the last of CHANGELOG.md."""
         told = subprocess.run(["pkg-config", "--modversion", "desk"], env=os.environ | {"PKG_CONFIG_PATH": self.prefix / "lib/pkgconfig"}, check=True, stdout=subprocess.PIPE, text=True).stdout
         self.assertEqual(told, VERSION + "\n")
+        self.assertEqual(re.search(r"^## (.*)$", (ROOT / "CHANGELOG.md").read_text(), re.M)[1], VERSION)
         for f in MANUALS: self.assertIn(' "Rutcurfew %s" ' % VERSION, (self.prefix / f).read_text().split("\n")[0])
         for f in MANUALS + ["lib/pkgconfig/desk.pc"]: self.assertNotIn("@", (self.prefix / f).read_text())
 
@@ -81,7 +82,7 @@ class Install(unittest.TestCase):
         shown = re.sub(r'^\.(BI?|PP|nf|fi|SH)|["\s]', "", synopsis, flags=re.M)
         text = re.sub(r"/\*.*?\*/", "", HEADER.read_text(), flags=re.S)
         declared = re.findall(r"^typedef struct \{.*?\} \w+;|^\w+ desk_\w+\(.*?\);", text, re.M | re.S)
-        self.assertEqual(len(declared), 14)
+        self.assertEqual(len(declared), 15)
         self.assertEqual(shown, "SYNOPSIS#include<desk.h>" + re.sub(r"\s", "", "".join(declared)))
 
     def test_listing_room(self):
@@ -90,6 +91,12 @@ class Install(unittest.TestCase):
         library, page = ROOT / "crates/call_listing/src/lib.rt", self.prefix / "share/man/man3/desk.3"
         self.assertEqual(re.findall(r"^pub const LISTING_ROOM: usize = (\d+);$", library.read_text(), re.M), [room])
         self.assertEqual(re.findall(r"^\.B DESK_LISTING_ROOM\n\((\d+)\) bytes", page.read_text(), re.M), [room])
+
+    def test_sheets_room(self):
+        """The room for the sheets of 28 entries is one number, in the header and in desk(3)."""
+        room = re.search(r"^#define DESK_SHEETS_ROOM (\d+)$", HEADER.read_text(), re.M)[1]
+        page = (self.prefix / "share/man/man3/desk.3").read_text()
+        self.assertEqual(re.findall(r"^asks for: (\d+) for each entry, at most\n\.B DESK_SHEETS_ROOM\n\((\d+)\)\.$", page, re.M), [(str(int(room) // 28), room)])
 
     def test_build(self):
         """Installing builds what is not there, the library first and the program after it."""
@@ -112,6 +119,7 @@ class Install(unittest.TestCase):
         self.assertEqual(run([ROOT / "target/examples/solve_network"])[0], 0)
         self.assertEqual(run([ROOT / "target/examples/list_ways", EXAMPLES / "document.book"])[0], 0)
         self.assertEqual(run([ROOT / "target/examples/print_sheets", EXAMPLES / "document.book"])[0], 0)
+        self.assertEqual(run([ROOT / "target/examples/tell_spare", EXAMPLES / "document.book", "1", "2"])[0], 0)
 
 
 if __name__ == "__main__":

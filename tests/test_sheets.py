@@ -1,4 +1,4 @@
-"""The part sheets: the stored ones, the numbers of request 2, and each least-cost way of many books beside the writer in sheet_writer.py. Deterministic."""
+"""The part sheets: the stored ones, the numbers of requests 2 and 7, and each least-cost way of many books beside the writer in sheet_writer.py. Deterministic."""
 import itertools
 import random
 import re
@@ -13,7 +13,7 @@ from test_way_trial import EXAMPLES, counted
 from way_books import EXAMPLE, MOST, THOUSAND, large, made, named, paired, refused, small
 
 SHEET = re.compile(rb"\(part (\d+)\n((?:\(play .*\)\n\(gap .*\)\n)*\(play .*\)\n)\)\n")
-PLAY, GAP = re.compile(rb"\(play \(name ([a-z0-9]{1,16})\) (\d+) (\d+)\)"), re.compile(rb"\(gap (\d+)\)")
+PLAY, GAP = re.compile(rb"\(play \(name ([a-z0-9]{1,16})\) (\d+) (\d+)\)"), re.compile(rb"\(gap (\d+) (\d+)\)")
 NO_WAY = made(1, 0, [], [(b"a", 1, 0, 2), (b"b", 1, 1, 3)])
 
 
@@ -39,6 +39,11 @@ def read_back(text):
     return parts
 
 
+def gaps_told(text):
+    """G and R of each gap, from the text alone."""
+    return [(int(gap), int(spare)) for gap, spare in GAP.findall(text)]
+
+
 def chains(players, *rows):
     """A book whose cheapest way is a part for each row of starts and finishes: each row has an instrument of its own, and no move leads to another. The names have 16 bytes."""
     return made(players, 1, [], [(b"%016d" % start, k, start, finish) for k, row in enumerate(rows, 1) for start, finish in row])
@@ -56,7 +61,7 @@ class Sheets(unittest.TestCase):
         cls.desk = way_library.load()
 
     def written(self, book, way):
-        """The sheets of a way, as the library writes them: into a list with room for 71 bytes an entry, and into a longer one."""
+        """The sheets of a way, as the library writes them: into a list with room for 79 bytes an entry, and into a longer one."""
         room = sheet_writer.ROOM * len(way)
         self.assertEqual(self.desk.sheets_room(book), (OK, room))
         texts = []
@@ -69,7 +74,8 @@ class Sheets(unittest.TestCase):
         return texts[0]
 
     def same(self, text, way):
-        """The library's sheets are the writer's; every entry stands on exactly one, and the ticks played sum to those of the book. Gives the parts."""
+        """The library's sheets are the writer's; every entry stands on exactly one, the ticks played sum to those of the book, and with each gap stands the spare of
+        that join, by desk_spare and by the trial. Gives the parts."""
         book, written = book_reader.read(text), self.written(text, way)
         self.assertEqual(written, sheet_writer.sheets(text, book, way), text)
         self.assertLessEqual(len(written), sheet_writer.ROOM * len(way))
@@ -78,6 +84,9 @@ class Sheets(unittest.TestCase):
         self.assertEqual(sorted(play for part in parts for play in part), sorted(told), text)
         self.assertEqual(sum(finish - start for part in parts for _, start, finish in part), sum(finish - start for _, _, start, finish in book.entries), text)
         self.assertEqual(len(parts), list(way).count(0), text)
+        joins, told = [join for part in sheet_writer.parts(way) for join in zip(part, part[1:])], gaps_told(written)
+        self.assertEqual(told, [(book.entries[j - 1][2] - book.entries[i - 1][3], way_trial.spare(book, i, j)) for i, j in joins], text)
+        self.assertEqual([self.desk.spare(text, i, j) for i, j in joins], [(OK, spare) for _, spare in told], text)
         return parts
 
     def refused(self, book, given, text, question):
@@ -85,11 +94,14 @@ class Sheets(unittest.TestCase):
         self.assertEqual(self.desk.sheets(book, given, text), ((question, 0), [text]), book)
 
     def test_document(self):
-        """The sheets of the document's book, and of one with an entry that ends elsewhere, word by word."""
-        self.assertEqual(self.written(EXAMPLE, (0, 0, 1)), b"(part 1\n(play (name snare) 0 96)\n(gap 144)\n(play (name snare2) 240 300)\n)\n(part 2\n(play (name xylo) 120 200)\n)\n")
-        self.assertEqual(self.written(EXAMPLE, (0, 1, 2)), b"(part 1\n(play (name snare) 0 96)\n(gap 24)\n(play (name xylo) 120 200)\n(gap 40)\n(play (name snare2) 240 300)\n)\n")
+        """The sheets of the document's book, of one with an entry that ends elsewhere, and of one with a line for staying on an instrument, word by word."""
+        self.assertEqual(self.written(EXAMPLE, (0, 0, 1)), b"(part 1\n(play (name snare) 0 96)\n(gap 144 144)\n(play (name snare2) 240 300)\n)\n(part 2\n(play (name xylo) 120 200)\n)\n")
+        self.assertEqual(self.written(EXAMPLE, (0, 1, 2)), b"(part 1\n(play (name snare) 0 96)\n(gap 24 0)\n(play (name xylo) 120 200)\n(gap 40 16)\n(play (name snare2) 240 300)\n)\n")
         tour = made(1, 20, [(2, 1, 48, 2)], [(b"swell", 1, 2, 0, 96), (b"crash", 2, 96, 144), (b"peal", 1, 16, 192, 288)])
-        self.assertEqual(self.written(tour, (0, 1, 2)), b"(part 1\n(play (name swell) 0 96)\n(gap 0)\n(play (name crash) 96 144)\n(gap 48)\n(play (name peal) 192 288)\n)\n")
+        self.assertEqual(self.written(tour, (0, 1, 2)), b"(part 1\n(play (name swell) 0 96)\n(gap 0 0)\n(play (name crash) 96 144)\n(gap 48 0)\n(play (name peal) 192 288)\n)\n")
+        sticks = made(1, 20, [(1, 1, 48, 2)], [(b"soft", 1, 0, 96), (b"hard", 1, 144, 240), (b"soft2", 1, 300, 384), (b"bell", 1, 2, 500, 600), (b"bell2", 2, 700, 800)])
+        self.assertEqual(self.written(sticks, (0, 1, 2, 3, 4)), b"(part 1\n(play (name soft) 0 96)\n(gap 48 0)\n(play (name hard) 144 240)\n(gap 60 12)\n(play (name soft2) 300 384)\n"
+                         b"(gap 116 68)\n(play (name bell) 500 600)\n(gap 100 100)\n(play (name bell2) 700 800)\n)\n")
 
     def test_stored(self):
         """Every stored text, byte for byte, by the library and by the writer."""
@@ -99,34 +111,35 @@ class Sheets(unittest.TestCase):
                 self.assertEqual(sheet_writer.sheets(book, book_reader.read(book), way), text)
                 self.assertEqual(self.written(book, way), text)
                 names.append(name)
-        self.assertEqual(names, ["ballet-4", "document-1", "document-2", "free-parts-1", "not-in-time-order-1", "percussion-tour-1", "touching-1"])
+        self.assertEqual(names, ["ballet-4", "document-1", "document-2", "free-parts-1", "mallets-to-the-tick-1", "not-in-time-order-1", "percussion-tour-1", "touching-1"])
 
     def test_shown(self):
-        """The header, desk(3) and the page on the C programs show the sheets of the document's first way."""
-        lines = (EXAMPLES / "document-1.sheets").read_text().splitlines(True)
+        """The header, desk(3) and the page on the C programs show the sheets of the document's first way, the README those of the second."""
+        lines, second = [(EXAMPLES / ("document-%d.sheets" % n)).read_text().splitlines(True) for n in (1, 2)]
         self.assertIn("".join(" *   " + line for line in lines), (ROOT / "include/desk.h").read_text())
         self.assertIn(".nf\n%s.fi\n" % "".join(lines), (ROOT / "packaging/desk.3.in").read_text())
         self.assertIn("\n\n%s\n" % "".join("    " + line for line in lines), (ROOT / "examples/c/README.md").read_text())
+        self.assertIn("\n\n%s\n" % "".join("    " + line for line in second), (ROOT / "README.md").read_text())
 
     def test_room(self):
-        """71 bytes an entry, of a book without a way too; refused as the other calls of a book are."""
+        """79 bytes an entry, of a book without a way too; refused as the other calls of a book are."""
         for e in range(29):
             book = made(1, 0, [], [(b"e%d" % j, 1, j, j + 1) for j in range(e)])
-            self.assertEqual(self.desk.sheets_room(book), (OK, 71 * e))
+            self.assertEqual(self.desk.sheets_room(book), (OK, 79 * e))
             if e: self.same(book, range(e))
         header = (ROOT / "include/desk.h").read_text()
-        self.assertEqual(re.search(r"^#define DESK_SHEETS_ROOM (\d+)$", header, re.M)[1], str(71 * 28))
+        self.assertEqual(re.search(r"^#define DESK_SHEETS_ROOM (\d+)$", header, re.M)[1], str(79 * 28))
         self.assertEqual(self.desk.first(NO_WAY, bytes(8))[0], (NONE, 0))
-        self.assertEqual(self.desk.sheets_room(NO_WAY), (OK, 142))
+        self.assertEqual(self.desk.sheets_room(NO_WAY), (OK, 158))
         for question, book in refused():
             self.assertEqual(self.desk.sheets_room(book), (question, 0))
             self.assertEqual(self.desk.line, book_reader.refusal(book)[1])
 
     def test_short(self):
-        """A list with less than 71 bytes an entry is refused, also one in which the sheets would fit; one with as many, or more, is not."""
+        """A list with less than 79 bytes an entry is refused, also one in which the sheets would fit; one with as many, or more, is not."""
         row = made(8, 0, [(1, 1, 0, 1)], named([(1, j, j + 1) for j in range(8)]))
         for book, way in ((EXAMPLE, (0, 0, 1)), (EXAMPLE, (0, 1, 2)), (made(1, 0, [], named([(1, 0, 1)])), (0,)), (row, (0,) * 8), (made(1, 0, [], named([(1, j, j + 1) for j in range(28)])), range(28))):
-            text, room = sheet_writer.sheets(book, book_reader.read(book), list(way)), 71 * len(way)
+            text, room = sheet_writer.sheets(book, book_reader.read(book), list(way)), 79 * len(way)
             self.assertLess(len(text), room - 1)
             for size in (0, 1, len(text) - 1, len(text), len(text) + 1, room - 4, room - 1): self.refused(book, numbers(way), b"\x77" * size, 21)
             for size in (room, room + 1, room + 4, 4 * room):
@@ -135,7 +148,7 @@ class Sheets(unittest.TestCase):
     def test_no_entries(self):
         """No sheet, in a list of any length; the way given is the empty list."""
         for book in (made(), made(8, 1000000, [(1, 2, 0, 0)])):
-            for lent in (b"", b"\x55", b"\x55" * 71): self.assertEqual(self.desk.sheets(book, b"", lent), ((OK, 0), [lent]))
+            for lent in (b"", b"\x55", b"\x55" * 79): self.assertEqual(self.desk.sheets(book, b"", lent), ((OK, 0), [lent]))
             for given in (b"\0", b"\0" * 4): self.refused(book, given, b"", 18)
 
     def test_given(self):
@@ -153,12 +166,13 @@ class Sheets(unittest.TestCase):
                 met += 1
             if not lines: wrong += [b"", numbers([0] * e), numbers(range(e))]
             for given in wrong:
-                for room in (71 * e, 71 * e + 1, max(0, 71 * e - 1), 0): self.refused(book, given, b"\x66" * room, 18)
+                for room in (79 * e, 79 * e + 1, max(0, 79 * e - 1), 71 * e, 0): self.refused(book, given, b"\x66" * room, 18)
         self.assertTrue(dearer > 300 and met > 300, (dearer, met))
 
     def test_small(self):
-        """Each least-cost way of small books: parts of every number, gaps of 0 and others, openings that are not in the order of time."""
-        rng, parts, touching, late = random.Random(32), {}, 0, 0
+        """Each least-cost way of small books: parts of every number, gaps of 0 and others, spares of 0, of the whole gap and of a part of it, openings that are not
+        in the order of time."""
+        rng, parts, touching, late, spares = random.Random(32), {}, 0, 0, {}
         for _ in range(1500):
             book = small(rng)
             for way in way_trial.full_list(book_reader.read(book))[0][:30]:
@@ -166,7 +180,11 @@ class Sheets(unittest.TestCase):
                 parts[len(found)] = parts.get(len(found), 0) + 1
                 touching += any(a[2] == b[1] for part in found for a, b in zip(part, part[1:]))
                 late += any(a[0][1] > b[0][1] for a, b in zip(found, found[1:]))
+                for gap, spare in gaps_told(self.written(book, way)):
+                    kind = "no gap" if gap == 0 else "none" if spare == 0 else "all" if spare == gap else "some"
+                    spares[kind] = spares.get(kind, 0) + 1
         self.assertTrue(all(parts[n] > 20 for n in range(7)) and touching > 500 and late > 500, (parts, touching, late))
+        self.assertTrue(len(spares) == 4 and min(spares.values()) > 100, spares)
 
     def test_most_parts(self):
         """Eight parts at once."""
@@ -187,9 +205,9 @@ class Sheets(unittest.TestCase):
         self.assertGreater(many, 300)
 
     def test_longest(self):
-        """Names of 16 bytes, starts and gaps of six digits, finishes of seven: 56 bytes of 71, 520 of 639, and 1,617 of 1,988, which is 57.75 an entry."""
+        """Names of 16 bytes, starts, gaps and spares of six digits, finishes of seven: 56 bytes of 79, 576 of 711, and 1,791 of 2,212, which is 63.96 an entry."""
         nine, ten = far([100000] * 8), far([99990] + [100000] * 8)
-        for book, length in ((chains(1, far([], 999999)), 56), (chains(1, nine), 520), (chains(3, nine, nine, ten), 1617)):
+        for book, length in ((chains(1, far([], 999999)), 56), (chains(1, nine), 576), (chains(3, nine, nine, ten), 1791)):
             (way,), _ = way_trial.full_list(book_reader.read(book))
             self.same(book, way)
             self.assertEqual(len(self.written(book, way)), length)
@@ -201,16 +219,20 @@ class Sheets(unittest.TestCase):
         for gap in [*edges[:-2], 999998]:
             end = 2 + gap
             self.assertEqual(self.same(made(1, 0, [], [(b"a", 1, 0, 1), (b"b", 1, 1 + gap, end)]), (0, 1)), [[(b"a", 0, 1), (b"b", 1 + gap, end)]])
+            for spare, b in itertools.product([n for n in (*edges, gap - 1, gap) if 0 <= n <= gap], (1, 2)):
+                book = made(1, 0, [(1, b, gap - spare, 0)], [(b"a", 1, 0, 1), (b"b", b, 1 + gap, end)])
+                self.same(book, (0, 1))
+                self.assertEqual(gaps_told(self.written(book, (0, 1))), [(gap, spare)])
 
     def test_order_of_questions(self):
         """A book that fails 11 to 16 fails it with any list given and lent; a wrong list given comes before a short list lent."""
         for question, book in refused():
-            for given, text in itertools.product((b"", b"\0", numbers([0]), numbers([0] * 28)), (b"", b"\x55" * 70, b"\x55" * 1988)):
+            for given, text in itertools.product((b"", b"\0", numbers([0]), numbers([0] * 28)), (b"", b"\x55" * 78, b"\x55" * 2212)):
                 self.refused(book, given, text, question)
                 self.assertEqual(self.desk.line, book_reader.refusal(book)[1])
         for given in (b"", b"\0" * 11, numbers([0, 0, 0]), numbers([0, 0, 2])):
-            for room in (0, 212, 213): self.refused(EXAMPLE, given, b"\x55" * room, 18)
-        self.refused(EXAMPLE, numbers([0, 0, 1]), b"\x55" * 212, 21)
+            for room in (0, 236, 237): self.refused(EXAMPLE, given, b"\x55" * room, 18)
+        self.refused(EXAMPLE, numbers([0, 0, 1]), b"\x55" * 236, 21)
         self.refused(NO_WAY, numbers([0, 0]), b"", 18)
 
 

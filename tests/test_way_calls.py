@@ -1,5 +1,5 @@
 """The book entries of the C surface beside the reader of way_trial.py: document 01's books, the stored examples, thousands of small books, the limits. Calls for
-sheets stand between the others. Deterministic."""
+sheets and for spares stand between the others. Deterministic."""
 import itertools
 import random
 import re
@@ -11,7 +11,7 @@ import network_library
 import trial
 import way_library
 import way_trial
-from desk_library import END, MORE, NONE, OK, ROOT, numbers
+from desk_library import END, MORE, NONE, NO_MOVE, OK, ROOT, numbers
 from test_network_calls import CAP, Session, caps
 from test_way_trial import PARTS, cost_of, counted, doubled, examples, old_list, old_listing, shortened, without_parts
 from way_books import EXAMPLE, HALVES, LONGEST, MOST, THOUSAND, bad_lines, damaged, large, layered_ways, made, named, paired, refused, sized, small
@@ -112,14 +112,22 @@ class WaySession(Session):
     def sheets(self):
         """The sheets of any item, or a call for them that is refused. The finger stays."""
         given = self.rng.choice(self.reader.lines) if self.reader.lines and self.rng.random() < 0.7 else self.wrong()
-        text = self.rng.randbytes(max(0, 71 * self.reader.m + self.rng.choice((0, 0, 5, -1))))
+        text = self.rng.randbytes(max(0, 79 * self.reader.m + self.rng.choice((0, 0, 5, -1))))
         got, wanted = self.desk.sheets(self.net, given, text), self.reader.sheets(given, text)
         if got != wanted: self.test.fail("sheets of %r of %s: %r, and not %r" % (given, self.shown(), got, wanted))
         self.calls[wanted[0][0]] = self.calls.get(wanted[0][0], 0) + 1
 
+    def spare(self):
+        """The spare of any two entries, or a call for it that is refused. The finger stays."""
+        pair = [self.rng.randint(0, self.reader.m + 1) for _ in range(2)]
+        got, wanted = self.desk.spare(self.net, *pair), way_trial.spare_answer(self.reader.book, *pair)
+        if got != wanted: self.test.fail("spare of %r of %s: %r, and not %r" % (pair, self.shown(), got, wanted))
+        self.calls[wanted[0]] = self.calls.get(wanted[0], 0) + 1
+
     def next(self, given=None, way=None):
-        """Sometimes with a call for sheets before it."""
+        """Sometimes with a call for sheets or for a spare before it."""
         if self.rng.random() < 0.2: self.sheets()
+        if self.rng.random() < 0.2: self.spare()
         super().next(given, way)
 
     def refused(self):
@@ -220,7 +228,7 @@ class WayCalls(unittest.TestCase):
             for code, times in run.calls.items(): calls[code] = calls.get(code, 0) + times
         # the books are of all kinds, without a line, with one, few and many; and so are the calls
         self.assertTrue(all(seen[length] > 100 for length in (0, 1, 2, 3, 4, 20)), seen)
-        self.assertTrue(all(calls[code] > 100 for code in (OK, NONE, END, *range(11, 19), 21)), calls)
+        self.assertTrue(all(calls[code] > 100 for code in (OK, NONE, END, NO_MOVE, *range(11, 20), 21)), calls)
 
     def test_each_number(self):
         """A book with one number changed, beside the trial. Each kind of number changes listings, those of accepted books."""
@@ -285,6 +293,9 @@ class WayCalls(unittest.TestCase):
             self.assertEqual(self.desk.line, line, book)
         self.assertEqual(self.desk.sheets_room(book), (wanted, 0), book)
         self.assertEqual(self.desk.line, line, book)
+        for earlier, later in ((1, 2), (1, 1), (0, 1), (1, 29), (2**32 - 1, 0)):
+            self.assertEqual(self.desk.spare(book, earlier, later), (wanted, 0), book)
+            self.assertEqual(self.desk.line, line, book)
         for entry in (0, 1, 29, 2**32 - 1):
             self.assertEqual((self.desk.name(book, entry), self.desk.name_refusal(book, entry)), ((0, 0), wanted), book)
 
@@ -440,7 +451,8 @@ class WayCalls(unittest.TestCase):
         for cap in (0, 1, len(ways), CAP): told(self.desk.count(book, cap))
         for size in (0, 40, len(lent)): told(self.desk.listing(book, lent[:size]))
         told(self.desk.sheets_room(book))
-        for given, size in itertools.product(ways, (71 * e, max(0, 71 * e - 1))): told(self.desk.sheets(book, given, lent[:size]))
+        for earlier, later in itertools.product(range(min(e, 7) + 2), repeat=2): told(self.desk.spare(book, earlier, later))
+        for given, size in itertools.product(ways, (79 * e, max(0, 79 * e - 1))): told(self.desk.sheets(book, given, lent[:size]))
         return found + [(self.desk.name(book, j)[1], self.desk.name_refusal(book, j)) for j in range(e + 2)]
 
     def test_long_forms(self):
@@ -449,7 +461,7 @@ class WayCalls(unittest.TestCase):
         books = [small(rng) for _ in range(300)] + [large(rng) for _ in range(5)] + [book for _, book in REFUSED if len(doubled(book)) <= 16384]
         books += [book for _, _, book in itertools.islice(bad_lines(), 0, None, 211)] + [damaged(rng) for _ in range(200)]
         for book in books:
-            e, other, lent = book.count(b"(entry"), doubled(book), rng.randbytes(71 * 28)
+            e, other, lent = book.count(b"(entry"), doubled(book), rng.randbytes(79 * 28)
             way = self.desk.first(book, bytes(4 * e))[1][0]
             ways = [numbers(range(e)), numbers([0] * e), b"\0", way]
             while len(ways) < 9 and self.desk.next(book, ways[-1], bytes(4 * e))[0][0] == OK: ways.append(self.desk.next(book, ways[-1], bytes(4 * e))[1][0])
@@ -484,7 +496,7 @@ class WayCalls(unittest.TestCase):
             listing, (code, cost, lines) = self.desk.listed(text), self.walked(text, 1001)
             self.assertEqual(without_parts(listing), old_listing(lines, cost) if lines or code == NONE else b"(refused %d)\n" % code, text)
             for parts, way in counted(listing):
-                (code, length), (sheets,) = self.desk.sheets(text, numbers(way), bytes(71 * len(way)))
+                (code, length), (sheets,) = self.desk.sheets(text, numbers(way), bytes(79 * len(way)))
                 self.assertEqual((code, way.count(0), sheets[:length].count(b"(part ")), (OK, parts, parts), text)
                 self.assertTrue(1 <= parts <= book_reader.read(text).players or not way, text)
                 told[parts] = told.get(parts, 0) + 1

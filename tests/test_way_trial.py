@@ -1,5 +1,5 @@
 """The search by trial for ways: beside all lists of E numbers, beside the flows of the book's network, beside the rule before the long form of an entry, beside
-the listing before it told the parts, and on the stored examples."""
+the listing before it told the parts, beside the test before it told the spare, and on the stored examples."""
 import itertools
 import pathlib
 import random
@@ -30,6 +30,15 @@ def examples():
     """Each stored example: name, book and listing."""
     for path in sorted(EXAMPLES.glob("*.book")):
         yield path.stem, path.read_bytes(), path.with_suffix(".listing").read_bytes()
+
+
+def old_join(book, i, j):
+    """The cost of entry j after entry i, or None, by the words before request 7: F of i and the ticks of the move are at most S of j."""
+    (_, leaves, _, finish), (arrives, _, start, _) = book.entries[i - 1], book.entries[j - 1]
+    moves = {(a, b): (t, c) for a, b, t, c in book.moves}
+    if leaves == arrives: moves.setdefault((leaves, arrives), (0, 0))
+    ticks, cost = moves.get((leaves, arrives), (float("inf"), None))
+    return cost if i != j and finish + ticks <= start else None
 
 
 def cost_of(book, way):
@@ -139,9 +148,24 @@ class WayTrial(unittest.TestCase):
         text = (EXAMPLES / "opera.book").read_bytes()
         book, hasty = book_reader.read(text), book_reader.read(re.sub(rb"(move \d+ \d+) \d+", rb"\1 0", text))
         touching = [(i, j) for i, (_, a, _, finish) in enumerate(book.entries, 1) for j, (b, _, start, _) in enumerate(book.entries, 1) if finish == start and a != b]
+        self.assertEqual([way_trial.spare(book, i, j) for i, j in touching], [-240, -240])
         joined = lambda book: {(i, j) for way in way_trial.full_list(book)[0] for j, i in enumerate(way, 1)} & set(touching)
         self.assertEqual((touching, joined(book)), ([(1, 2), (5, 6)], set()))
         self.assertTrue(joined(hasty))
+
+    def test_spare(self):
+        """Who may follow whom, and at what cost, is as before there was a spare; there is none where there is no move, and of an entry against itself."""
+        rng, kinds = random.Random(8), {}
+        for _ in range(600):
+            book = book_reader.read(small(rng, 6))
+            for i, j in itertools.product(range(1, len(book.entries) + 1), repeat=2):
+                spare, join = way_trial.spare(book, i, j), way_trial.join(book, i, j)
+                self.assertEqual((join, spare is not None and spare >= 0), (old_join(book, i, j), join is not None))
+                leaves, arrives = book.entries[i - 1][1], book.entries[j - 1][0]
+                self.assertEqual(spare is None, i == j or leaves != arrives and (leaves, arrives) not in [m[:2] for m in book.moves])
+                kind = "none" if spare is None else (spare > 0) - (spare < 0)
+                kinds[kind] = kinds.get(kind, 0) + 1
+        self.assertTrue(len(kinds) == 4 and min(kinds.values()) > 300, kinds)
 
     def test_staying(self):
         """A line for staying on an instrument bears on joins on that instrument alone: it takes some away and makes others dearer, and never lets one in."""

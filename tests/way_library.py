@@ -16,7 +16,8 @@ class Desk:
         self.line = 0
         self._entries = {name: Entry(library, "desk_" + name, result, lists, *more)
                          for name, result, lists, more in [("first", Reply, 2, []), ("next", Reply, 3, []), ("count", Reply, 1, [ctypes.c_uint16]),
-                                                           ("listing", Reply, 2, []), ("sheets_room", Reply, 1, []), ("sheets", Reply, 3, []),
+                                                           ("listing", Reply, 2, []), ("spare", Reply, 1, [ctypes.c_uint32] * 2),
+                                                           ("sheets_room", Reply, 1, []), ("sheets", Reply, 3, []),
                                                            ("name", Span, 1, [ctypes.c_uint32]),
                                                            ("name_refusal", ctypes.c_uint32, 1, [ctypes.c_uint32])]}
 
@@ -45,6 +46,9 @@ class Desk:
         again, (text,) = self.listing(book, b"\x77" * length)
         assert again == (OK, length), "another answer with room: %r" % (again,)
         return text
+
+    def spare(self, book, earlier, later):
+        return self._call("spare", [book], [], earlier, later)[0]
 
     def sheets_room(self, book):
         return self._call("sheets_room", [book], [])[0]

@@ -4,14 +4,41 @@ import sheet_writer
 import trial
 
 SHOWN = 1000                           # the most ways of a listing
+NO_MOVE = 103                          # the answer of its own of request 7
+
+
+def move(book, i, j):
+    """Ticks and cost of the move from the instrument on which entry i ends to the one on which entry j begins, or None where there is no move. No entry has one
+    to itself."""
+    (_, leaves, _, _), (arrives, _, _, _) = book.entries[i - 1], book.entries[j - 1]
+    lines = [(t, c) for a, b, t, c in book.moves if (a, b) == (leaves, arrives)]
+    if leaves == arrives and not lines: lines = [(0, 0)]       # staying, where no line says what it takes
+    return lines[0] if lines and i != j else None
+
+
+def spare(book, i, j):
+    """The test whether entry j may follow entry i: S of j less F of i and less the ticks of the move, 0 or more if it may; or None where there is no move."""
+    found = move(book, i, j)
+    return book.entries[j - 1][2] - book.entries[i - 1][3] - found[0] if found else None
+
+
+def spare_answer(book, earlier, later):
+    """What the call of the spare answers of an accepted book: (code, value)."""
+    if not all(1 <= k <= len(book.entries) for k in (earlier, later)): return 19, 0
+    ticks = spare(book, earlier, later)
+    return (NO_MOVE, 0) if ticks is None else (0, ticks)
+
+
+def told_spare(text, earlier, later):
+    """The same of any bytes, and the line told."""
+    refused, line, book = book_reader.refusal(text)
+    return ((refused, 0), line) if refused else (spare_answer(book, earlier, later), 0)
 
 
 def join(book, i, j):
-    """The cost of entry j after entry i, or None where it may not follow: from the instrument on which i ends to the one on which j begins."""
-    (_, leaves, _, finish), (arrives, _, start, _) = book.entries[i - 1], book.entries[j - 1]
-    lines = [(t, c) for a, b, t, c in book.moves if (a, b) == (leaves, arrives)]
-    if leaves == arrives and not lines: lines = [(0, 0)]       # staying, where no line says what it takes
-    return next((c for t, c in lines if i != j and finish + t <= start), None)
+    """The cost of entry j after entry i, or None where it may not follow."""
+    ticks = spare(book, i, j)
+    return None if ticks is None or ticks < 0 else move(book, i, j)[1]
 
 
 def ways(book):

@@ -1,4 +1,5 @@
-/* Prints the part sheets of one of the cheapest ways of a book: for each part its entries in playing order, with the ticks between them.
+/* Prints the part sheets of one of the cheapest ways of a book: for each part its entries in playing order, with the ticks between them and how
+ * many of those are spare.
  *
  *   print_sheets BOOK [N]
  *

@@ -1,12 +1,11 @@
 -- Where the name of an entry lies.
 use Prim.Native.Nat.{ℕ, zero, suc, _-_, _≤_, _<_}
 use mathlib.Core.Path.{_≡_, refl, sym, ap, _∙_}
-use mathlib.Core.Bool.{true, false, _&&_}
+use mathlib.Core.Bool.{true, false}
 use mathlib.Core.Option.{Option, none, some}
 use mathlib.Core.List.{List, []}
 use native.Mathlib.Omega.{arith}
 use lib.ListN.{length, getD}
-use lib.Dec.{leb}
 use Rattle.book_form.specs.declared.CheckedBook.{CheckedBook}
 use Rattle.book_form.specs.declared.Checked.{Checked}
 use Rattle.book_form.specs.Book.{Book, parse}
@@ -16,7 +15,7 @@ use Rattle.book_check.specs.BookCheck.{ChecksBook}
 use Rattle.book_form.proofs.Judging.{column-at}
 use Rattle.book_form.proofs.Names.{names-placed, checked-name}
 use Rattle.book_form.proofs.WithinLimits.{within-limits}
-use Rattle.book_names.specs.Name.{orEmptyPart}
+use Rattle.book_names.specs.Name.{isEntry, orEmptyPart}
 use Rattle.book_names.specs.BookNames.{BookName}
 use Rattle.book_names.proofs.Naming.{from-one, not-refused, refused}
 
@@ -42,12 +41,12 @@ no-name (suc q) name z = refl
 
 -- by what the check of the book gave
 module _ (s : List ℕ) (j : ℕ) (r : Checked) (c : ChecksBook s r) where
-  pub nowhere : (leb 1 j && leb j (r .book .count)) ≡ false → BookName s j (record { start = 0; length = 0 })
+  pub nowhere : isEntry (r .book .count) j ≡ false → BookName s j (record { start = 0; length = 0 })
   nowhere e =
       let z = refused s j r c e in
       record { within = omega arith; given = record { is = no-name _ _ z; some = λ y. absurd (z y) }; here = λ y. absurd (z y); zero = λ _. refl }
 
-  module _ (e : (leb 1 j && leb j (r .book .count)) ≡ true) where
+  module _ (e : isEntry (r .book .count) j ≡ true) where
     held : EntryHeld s j (r .book)
     held = entry-held s j (r .book) (c .book) (from-one j (r .book .count) e)
 

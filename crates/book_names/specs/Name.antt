@@ -1,7 +1,7 @@
 -- The name of an entry.
 use Prim.Native.Nat.{ℕ, zero, suc, _-_, _<_}
 use mathlib.Core.Path.{_≡_}
-use mathlib.Core.Bool.{_&&_}
+use mathlib.Core.Bool.{Bool, _&&_}
 use mathlib.Core.List.{List, []}
 use lib.ListN.{length, getD}
 use lib.Dec.{leb}
@@ -12,9 +12,13 @@ use Rattle.book_form.specs.Questions.{bookRefusal}
 use Rattle.book_form.specs.Checked.{entriesOf}
 use Rattle.book_lines.specs.Columns.{nobody}
 
+-- "is the entry from 1 to E?"
+abbrev pub isEntry : ℕ → ℕ → Bool
+isEntry e j = leb 1 j && leb j e
+
 -- "For a name, put straight after 16: is the entry from 1 to E? If not, 19."
 abbrev pub askEntry : ℕ → List Entry → ℕ → ℕ
-askEntry zero es j = ask (leb 1 j && leb j (length es)) 19 0
+askEntry zero es j = ask (isEntry (length es) j) 19 0
 askEntry (suc q) es j = suc q
 
 abbrev pub nameRefusal : List ℕ → ℕ → ℕ

@@ -1,5 +1,6 @@
-// The names of a book's entries: where one lies, the name, and the question that refuses it.
-ghost use Rattle.book_names.specs.Name.{NameGiven};
+// The names of a book's entries: where one lies, the name, and the question that refuses it; question 19 as a test.
+ghost use mathlib.Core.Path.{_≡_};
+ghost use Rattle.book_names.specs.Name.{isEntry, NameGiven};
 ghost use Rattle.book_names.specs.BookNames.{BookName, BookNameRefusal};
 
 // A part of a book.
@@ -9,14 +10,22 @@ pub struct Span {
     pub length: usize,
 }
 
+// Question 19: whether a book of so many entries has this one.
+pub fn is_entry(entries: usize, entry: u32) -> bool
+    ensures { λ r. ⌜ r ≡ isEntry entries entry ⌝ }
+{
+    let n = entry as usize;
+    (1 <= n) & (n <= entries)
+}
+
 // Where the name of an entry lies in the book. Questions 11 to 16 and 19.
 pub fn place(book: &[u8], entry: u32) -> Span
     ensures { λ r. ⌜ BookName (now (book .entry)) entry r ⌝ }
 {
     let checked = book_check::check(book);
     let b = checked.book;
-    let n = entry as usize;
-    if (1 <= n) & (n <= b.count) {
+    if is_entry(b.count, entry) {
+        let n = entry as usize;
         return Span {
             start: b.names[n - 1],
             length: b.lengths[n - 1],
@@ -49,8 +58,7 @@ pub fn name_refusal(book: &[u8], entry: u32) -> u32
         return q;
     }
     let b = checked.book;
-    let n = entry as usize;
-    if (1 <= n) & (n <= b.count) {
+    if is_entry(b.count, entry) {
         return 0;
     }
     19

@@ -61,10 +61,14 @@ abbrev pub countReply : Count → Reply
 countReply (exactly n) = record { code = 0; line = 0; value = pos n }
 countReply more = codeAlone 102
 
--- the reply of counting: k is the number of the question failed, or 0, and l the line told with it
+-- x unless a question fails: k is its number, or 0, and l the line told with it
+abbrev pub replyUnless : ℕ → ℕ → Reply → Reply
+replyUnless zero l x = x
+replyUnless (suc k) l x = refusedAt (suc k) l
+
+-- the reply of counting
 abbrev pub countUnless : ℕ → ℕ → Count → Reply
-countUnless zero l n = countReply n
-countUnless (suc k) l n = refusedAt (suc k) l
+countUnless k l n = replyUnless k l (countReply n)
 
 -- the reply with the code k and the line l: the value is n with the code 0
 abbrev pub valueReply : ℕ → ℕ → ℕ → Reply

@@ -8,8 +8,8 @@ ghost use Rattle.call_reply.specs.Replies.{codeAlone, refusedAt, HandsIt
 ghost use Rattle.call_reply.specs.ByteLists.{room};
 use flow_enumerate::Place;
 
-// code: 0 with an item or a count, 100 "none", 101 "end", 102 "more", any other the number of the question failed.
-// line: the first line of a book that fails the question, with 13, 14 and 15. value: the cost or the count.
+// code: 0 with an item or a value, 100 "none", 101 "end", 102 "more", 103 "no move", any other the number of the question failed.
+// line: the first line of a book that fails the question, with 13, 14 and 15. value: the cost, the count, the length, the room or the spare.
 #[repr(C)]
 pub struct Reply {
     pub code: u32,

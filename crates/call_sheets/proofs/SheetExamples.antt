@@ -17,18 +17,18 @@ use Rattle.way_sheets.specs.Lines.{partLine, playLine, gapLine}
 use Rattle.way_sheets.specs.Sheets.{playsAfter, plays, sheet, sheetsFrom, sheets}
 use Rattle.call_sheets.specs.SheetCalls.{sheetsQuestion, sheetsIn}
 
-two-sheets : sheetsIn (parse sample) (0 ∷ 0 ∷ 1 ∷ []) ≡ bytes "(part 1\n(play (name snare) 0 96)\n(gap 144)\n(play (name snare2) 240 300)\n)\n(part 2\n(play (name xylo) 120 200)\n)\n"
+two-sheets : sheetsIn (parse sample) (0 ∷ 0 ∷ 1 ∷ []) ≡ bytes "(part 1\n(play (name snare) 0 96)\n(gap 144 144)\n(play (name snare2) 240 300)\n)\n(part 2\n(play (name xylo) 120 200)\n)\n"
 unfolding bytes thenRead _>>=_ _>>_ _<|>_ give guard remaining begins text front run valueFrom number word row more upTo many move longForm shortForm entry opening book whole parse digits decimal partOf parts flatten partLine playLine gapLine playsAfter plays sheet sheetsFrom sheets
 two-sheets = refl
 
-one-sheet : sheetsIn (parse sample) (0 ∷ 1 ∷ 2 ∷ []) ≡ bytes "(part 1\n(play (name snare) 0 96)\n(gap 24)\n(play (name xylo) 120 200)\n(gap 40)\n(play (name snare2) 240 300)\n)\n"
+one-sheet : sheetsIn (parse sample) (0 ∷ 1 ∷ 2 ∷ []) ≡ bytes "(part 1\n(play (name snare) 0 96)\n(gap 24 0)\n(play (name xylo) 120 200)\n(gap 40 16)\n(play (name snare2) 240 300)\n)\n"
 unfolding bytes thenRead _>>=_ _>>_ _<|>_ give guard remaining begins text front run valueFrom number word row more upTo many move longForm shortForm entry opening book whole parse digits decimal partOf parts flatten partLine playLine gapLine playsAfter plays sheet sheetsFrom sheets
 one-sheet = refl
 
 abbrev askedOf : List ℕ × ℕ → ℕ
 askedOf c = sheetsQuestion sample (encodeWords (c .0)) (c .1)
 
--- "21, after 18, if the lent list holds fewer than 71 × E bytes": room, a byte fewer, a way that is dearer, two numbers in a list without room
-codes : map askedOf ((0 ∷ 0 ∷ 1 ∷ [], 213) ∷ (0 ∷ 0 ∷ 1 ∷ [], 212) ∷ (0 ∷ 0 ∷ 2 ∷ [], 213) ∷ (0 ∷ 0 ∷ [], 0) ∷ []) ≡ 0 ∷ 21 ∷ 18 ∷ 18 ∷ []
+-- "21, after 18, if the lent list holds fewer than" 79 "× E bytes": room, a byte fewer, a way that is dearer, two numbers in a list without room
+codes : map askedOf ((0 ∷ 0 ∷ 1 ∷ [], 237) ∷ (0 ∷ 0 ∷ 1 ∷ [], 236) ∷ (0 ∷ 0 ∷ 2 ∷ [], 237) ∷ (0 ∷ 0 ∷ [], 0) ∷ []) ≡ 0 ∷ 21 ∷ 18 ∷ 18 ∷ []
 unfolding wayList fullWays bytes thenRead _>>=_ _>>_ _<|>_ give guard remaining begins text front run valueFrom number word row more upTo many move longForm shortForm entry opening book whole parse lines.moves lines.allPass ℕ-discrete
 codes = refl

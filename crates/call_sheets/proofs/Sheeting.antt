@@ -13,7 +13,7 @@ use Rattle.laws.specs.Padded.{padded}
 use Rattle.bytes_read.specs.Words.{words, over}
 use Rattle.book_form.specs.Book.{Book}
 use Rattle.book_form.specs.Questions.{bookRefusal}
-use Rattle.book_form.specs.Checked.{checkedOf, entriesOf}
+use Rattle.book_form.specs.Checked.{checkedOf}
 use Rattle.book_form.specs.LineTold.{linesAsked, lineTold}
 use Rattle.book_form.specs.declared.CheckedBook.{CheckedBook}
 use Rattle.book_form.proofs.LineTold.{untold}
@@ -32,7 +32,7 @@ use Rattle.call_reply.proofs.Turns.{fails-first}
 use Rattle.call_reply.proofs.Refusing.{if-not, refused-value}
 use Rattle.call_way_bytes.specs.WaySteps.{AdmitsBook}
 use Rattle.call_way_bytes.specs.declared.AdmittedBook.{AdmittedBook}
-use Rattle.call_way_bytes.proofs.Admitting.{Admitted, admitted}
+use Rattle.call_way_bytes.proofs.Admitting.{Admitted, admitted-held, admitted-count, admitted}
 use Rattle.call_way_bytes.proofs.WayItems.{listed-way}
 use Rattle.call_way_bytes.proofs.GivenWays.{read-given}
 use Rattle.call_sheets.specs.SheetCalls.{roomOf, BookSheetsRoom, sheetsQuestion, sheetsText, BookSheets}
@@ -63,17 +63,14 @@ module _ (s : List ℕ) (r : AdmittedBook) (h : AdmitsBook s r) (z : r .number �
   is-checked : r .book ≡ checkedOf (length s) (gone .book)
   is-checked = h .book-is ∙ rw (gone .ok, gone .is) refl
 
-  size-is : entryCount s ≡ size (gone .book)
-  size-is = ap (λ o. length (entriesOf o)) (gone .is)
-
   count-is : r .book .count ≡ size (gone .book)
   count-is = ap (λ (c : CheckedBook). c .count) is-checked
 
   pub held : Held (r .book)
-  held = record { book = gone .book; holds = gone .holds }
+  held = admitted-held gone
 
   room-is : (n : ℕ) → n ≡ roomOf (r .book .count) → n ≡ roomOf (entryCount s)
-  room-is n e = e ∙ ap roomOf (count-is ∙ sym size-is)
+  room-is n e = e ∙ ap roomOf (admitted-count gone)
 
   pub room-told : (n : ℕ) → n ≡ roomOf (r .book .count) → BookSheetsRoom s (record { code = 0; line = 0; value = pos n })
   room-told n e =

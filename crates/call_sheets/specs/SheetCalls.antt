@@ -1,4 +1,4 @@
--- Document 02, request 2: the calls of the part sheets. s is the book, g the way given, r the reply.
+-- Document 02, requests 2 and 7: the calls of the part sheets. s is the book, g the way given, r the reply.
 use mathlib.Core.Path.{_≡_}
 use mathlib.Core.List.{List, []}
 use mathlib.Core.Option.{Option, none, some}
@@ -16,15 +16,15 @@ use Rattle.call_reply.specs.declared.Reply.{Reply}
 use Rattle.call_reply.specs.Replies.{orElse, ifOk, valueReply}
 use Rattle.call_reply.specs.ByteLists.{listed}
 
--- "71 × E bytes"
+-- 02, request 7: "The room of request 2 becomes 79 bytes for each entry, in error 21 as well."
 abbrev pub roomOf : ℕ → ℕ
-roomOf entries = 71 * entries
+roomOf entries = 79 * entries
 
 -- "Before writing, a call works out the room from the book alone .. The room call meets 11 to 16 only"
 abbrev pub BookSheetsRoom : List ℕ → Reply → Type 0
 BookSheetsRoom s r = r ≡ valueReply (bookRefusal s) (lineTold s (bookRefusal s)) (roomOf (entryCount s))
 
--- "writing meets 11 to 16, then 18, as no list of numbers is lent. Errors: 21, after 18, if the lent list holds fewer than 71 × E bytes."
+-- "writing meets 11 to 16, then 18, as no list of numbers is lent. Errors: 21, after 18, if the lent list holds fewer than" so many bytes
 abbrev pub sheetsQuestion : List ℕ → List ℕ → ℕ → ℕ
 sheetsQuestion s g bytes =
     orElse (bookRefusal s)

@@ -7,9 +7,9 @@ ghost use Rattle.call_sheets.specs.SheetCalls.{roomOf, BookSheetsRoom, B
 // The bytes that the sheets of a book with so many entries may take.
 fn room_of(entries: usize) -> usize
     requires { ⌜ entries ≤ 28 ⌝ }
-    ensures { λ r. ⌜ (r ≡ roomOf entries) × (r ≤ 1988) ⌝ }
+    ensures { λ r. ⌜ (r ≡ roomOf entries) × (r ≤ 2212) ⌝ }
 {
-    71 * entries
+    79 * entries
 }
 
 // The room that writing the sheets of a book asks for. Questions 11 to 16.

@@ -11,7 +11,7 @@ use Rattle.book_form.specs.Checked.{entriesOf}
 use Rattle.book_form.specs.declared.CheckedBook.{CheckedBook}
 use Rattle.book_form.proofs.LineTold.{untold}
 use Rattle.way_theory.specs.BookBytes.{entryCount}
-use Rattle.way_network.specs.Held.{Holds}
+use Rattle.way_network.specs.Held.{Holds, Held}
 use Rattle.way_network.proofs.Made.{held}
 use Rattle.call_reply.specs.ByteLists.{room}
 use Rattle.call_reply.proofs.Turns.{fails-first}
@@ -24,6 +24,13 @@ pub record Admitted (s : List ℕ) (c : CheckedBook) : Type 0 where
   pub book : Book
   pub is : parse s ≡ some book
   pub holds : Holds book c
+
+module _ {s : List ℕ} {c : CheckedBook} (a : Admitted s c) where
+  pub admitted-held : Held c
+  admitted-held = record { book = a .book; holds = a .holds }
+
+  pub admitted-count : c .count ≡ entryCount s
+  admitted-count = ap (λ (c : CheckedBook). c .count) (a .holds .is) ∙ sym (ap (λ o. length (entriesOf o)) (a .is))
 
 module _ (s : List ℕ) (r : AdmittedBook) (h : AdmitsBook s r) where
   pub admitted : r .number ≡ 0 → Admitted s (r .book)
@@ -39,9 +46,7 @@ module _ (s : List ℕ) (r : AdmittedBook) (h : AdmitsBook s r) where
 
     module _ (z : r .number ≡ 0) where
       fits-same : room (r .book .count) bytes ≡ room (entryCount s) bytes
-      fits-same =
-          let a = admitted z in
-          ap (λ n. room n bytes) (ap (λ (c : CheckedBook). c .count) (a .holds .is) ∙ sym (ap (λ o. length (entriesOf o)) (a .is)))
+      fits-same = ap (λ n. room n bytes) (admitted-count (admitted z))
 
       pub has-room-too : room (r .book .count) bytes ≡ true → AdmitsWithRoom s bytes r
       has-room-too e =

@@ -4,7 +4,7 @@ use mathlib.Core.Logic.{_⊎_, inl, inr}
 use mathlib.Core.Option.{Option, none, some}
 use Prim.Native.Nat.{ℕ, zero, suc, _≤_}
 use native.Mathlib.Omega.{arith}
-use lib.IntN.{pos}
+use lib.IntN.{ℤ, pos}
 use Rattle.laws.specs.Members.{first?}
 use Rattle.laws.specs.After.{after}
 use Rattle.laws.specs.Rules.{Call, first, next, Rules}
@@ -12,7 +12,7 @@ use Rattle.laws.specs.Seen.{refused, nothing, end, item, Seen, Shows}
 use Rattle.laws.specs.Run.{shown, respondUnless, Answers}
 use Rattle.laws.specs.Count.{Count, exactly, more}
 use Rattle.call_reply.specs.declared.Reply.{Reply}
-use Rattle.call_reply.specs.Replies.{ifOk, sees, countUnless, valueReply}
+use Rattle.call_reply.specs.Replies.{ifOk, sees, codeAlone, replyUnless, countUnless, valueReply}
 use Rattle.call_reply.proofs.Refusing.{if-not}
 use Rattle.demands.specs.Demands.{Demand1}
 
@@ -53,12 +53,25 @@ module _ {Item F G N Lists : Type 0} (R : Rules Item F G N Lists) where
   pub demand-1 : (c : Call F G N) (s : Seen Lists) → Answers R c s → Demand1 (R .line-told) (R .question c) (R .lent c) s
   demand-1 c s h = answered c s (R .question c) h
 
--- a count, which is lent no list
-module _ (line-told : ℕ → ℕ) (r : Reply) where
-  pub count-1 : (n : ℕ) (k : Count) → r ≡ countUnless n (line-told n) k → Demand1 {Lists = Unit {0}} line-told n tt (sees r tt)
-  count-1 zero (exactly m) e = rw e (record { number-told = λ z. absurd (z refl); nothing-else = λ _. (inl refl, refl); changes-nothing = λ z. absurd (z refl) })
-  count-1 zero more e = rw e (record { number-told = λ z. absurd (z refl); nothing-else = λ _. (inr (omega arith), refl); changes-nothing = λ _. (refl, refl) })
-  count-1 (suc n) k e = rw e (record { number-told = λ _. (refl, refl); nothing-else = λ z. absurd (omega arith); changes-nothing = λ _. (refl, refl) })
+-- a call that is lent no list
+module _ (line-told : ℕ → ℕ) where
+  abbrev pub Demand1Of : ℕ → Reply → Type 0
+  Demand1Of n r = Demand1 {Lists = Unit {0}} line-told n tt (sees r tt)
+
+  pub says-value : (z : ℤ) → Demand1Of 0 (record { code = 0; line = 0; value = z })
+  says-value z = record { number-told = λ z. absurd (z refl); nothing-else = λ _. (inl refl, refl); changes-nothing = λ z. absurd (z refl) }
+
+  pub says-code : (k : ℕ) → 100 ≤ k → Demand1Of 0 (codeAlone k)
+  says-code k h = record { number-told = λ z. absurd (z refl); nothing-else = λ _. (inr h, refl); changes-nothing = λ _. (refl, refl) }
+
+  -- x unless question n fails
+  pub reply-1 : (n : ℕ) (x r : Reply) → Demand1Of 0 x → r ≡ replyUnless n (line-told n) x → Demand1Of n r
+  reply-1 zero x r d e = rw e d
+  reply-1 (suc n) x r d e = rw e (record { number-told = λ _. (refl, refl); nothing-else = λ z. absurd (omega arith); changes-nothing = λ _. (refl, refl) })
+
+  pub count-1 : (r : Reply) (n : ℕ) (k : Count) → r ≡ countUnless n (line-told n) k → Demand1Of n r
+  count-1 r n (exactly m) e = reply-1 n _ r (says-value (pos m)) e
+  count-1 r n more e = reply-1 n _ r (says-code 102 (omega arith)) e
 
 -- a reply of one value, with the code k: the number n of the question failed, or else 0 or a word
 module _ {Lists : Type 0} (line-told : ℕ → ℕ) (none-told : line-told 0 ≡ 0) (n k v : ℕ) (same : ¬ (n ≡ 0) → k ≡ n) (word : n ≡ 0 → (k ≡ 0) ⊎ (100 ≤ k)) where

@@ -20,7 +20,7 @@ use Rattle.book_form.proofs.WithinLimits.{within-limits}
 use Rattle.way_theory.specs.Ways.{IsWay}
 use Rattle.way_theory.specs.BookBytes.{waysIn, ways, entryCount}
 use Rattle.way_network.proofs.Made.{held}
-use Rattle.way_parts.proofs.Theorems.{stands-once, ticks-summed}
+use Rattle.way_parts.proofs.Theorems.{stands-once, ticks-summed, parts-in-time}
 use Rattle.way_sheets.specs.Sheets.{sheets}
 use Rattle.way_sheets.proofs.Sizes.{sheets-size}
 use Rattle.call_reply.specs.declared.Reply.{Reply}
@@ -41,7 +41,7 @@ module _ (s : List ℕ) (r : Reply) (h : BookSheetsRoom s r) where
     enough = enough;
   }
     where
-      enough : bookRefusal s ≡ 0 → (b : Book) → parse s ≡ some b → (w : List ℕ) → IsWay b w → length (sheets b w) ≤ 71 * entryCount s
+      enough : bookRefusal s ≡ 0 → (b : Book) → parse s ≡ some b → (w : List ℕ) → IsWay b w → length (sheets b w) ≤ 79 * entryCount s
       enough ok b e w way = omega (arith, sheets-size s b e (within-limits s b ok e) w way, ap (λ o. length (entriesOf o)) e)
 
 -- past question 18
@@ -74,4 +74,5 @@ module _ (s g l : List ℕ) (r : Reply) (l′ : List ℕ) (h : BookSheets s g l 
             text-is = h .text-is ∙ if-ok (sheetsQuestion s g (length l)) _ l q ∙ ap (λ t. over t l) text;
             each-once = stands-once b limits (words g) (least .way);
             ticks = ticks-summed b limits (words g) (least .way);
+            in-time = parts-in-time b limits (words g) (least .way);
           }

@@ -1,12 +1,15 @@
 -- The three demands, put to the entries that C calls. The functions of this crate call the entries and ensure what stands here: an entry that promises
 -- less has a caller here that is not proved. n is always the number of the first question that a call fails, or 0.
 use mathlib.Core.Path.{_≡_}
+use mathlib.Core.Bool.{true}
 use mathlib.Core.List.{List, [], _∷_, _++_, map}
 use mathlib.Core.Logic.{_⊎_, _↔_}
 use mathlib.Core.Option.{none, some}
 use Prim.Native.Nat.{ℕ, zero, suc, _+_, _*_, _-_, _≤_, _<_}
 use lib.ListN.{length, getD, getElem?}
-use lib.IntN.{pos}
+use lib.IntN.{pos, _-ℤ_}
+use lib.Signed.{_≤ℤ_}
+use Rattle.laws.specs.Members.{Every}
 use Rattle.laws.specs.Image.{mapOption}
 use Rattle.laws.specs.Totals.{total, totalOf}
 use Rattle.laws.specs.Rules.{Call, first, next, Rules}
@@ -25,6 +28,7 @@ use Rattle.call_flow_bytes.specs.NetworkBytes.{net}
 use Rattle.call_network.specs.NetworkCalls.{Lent, lends, networkQuestion}
 use Rattle.call_network.specs.NetworkRules.{noLine, networkRules}
 use Rattle.call_network.specs.FirstFlow.{FindsFlow, FindsNoFlow}
+use Rattle.book_lines.specs.declared.moves.Move.{Move}
 use Rattle.book_lines.specs.Columns.{nobody}
 use Rattle.book_form.specs.Book.{Book, parse}
 use Rattle.book_form.specs.Questions.{bookRefusal}
@@ -33,7 +37,7 @@ use Rattle.book_names.specs.declared.Span.{Span}
 use Rattle.book_names.specs.Name.{nameRefusal}
 use Rattle.book_names.specs.BookNames.{spanned, nameStart}
 use Rattle.book_form.specs.LineTold.{lineTold}
-use Rattle.way_theory.specs.Follow.{size}
+use Rattle.way_theory.specs.Follow.{size, entryAt, road, mayFollow}
 use Rattle.way_theory.specs.Ways.{times, IsWay, LeastCostWay}
 use Rattle.way_theory.specs.FullWays.{numbers}
 use Rattle.way_theory.specs.BookNet.{bookNet}
@@ -46,8 +50,9 @@ use Rattle.text_write.specs.Fit.{fit}
 use Rattle.way_list.specs.WayListing.{listWays}
 use Rattle.call_listing.specs.Listing.{listing}
 use Rattle.way_parts.specs.Parts.{parts}
-use Rattle.way_parts.specs.Ticks.{ticksOf}
+use Rattle.way_parts.specs.Ticks.{ticksOf, FollowInTime}
 use Rattle.way_sheets.specs.Sheets.{sheets}
+use Rattle.call_spare.specs.SpareCall.{spareQuestion}
 use Rattle.call_sheets.specs.SheetCalls.{sheetsQuestion}
 
 -- Demand 1. That every call ends and keeps to the memory lent to it is what the prover shows of every function. It "answers each bad book or network
@@ -125,11 +130,21 @@ module _ (s : List ℕ) where
     pub listed : r .code ≡ 0 → (r .value ≡ pos (length (listing s))) × (l′ ≡ fit (listing s) l)
     pub text-is : bookRefusal s ≡ 0 → listing s ≡ listWays (wayCostOrZero (parse s)) (ways s)
 
-  -- The room of the sheets. "71 × E bytes, and the sheets of any of its ways take at most 71 bytes for each entry."
+  -- The spare of the join from entry i to entry j: S of j less F of i and less the ticks of the move, or 103 where there is no move, as for an
+  -- entry against itself. "Spare 0 or more means that j may follow."
+  pub record SpareDemands (i j : ℕ) (r : Reply) : Type 0 where
+    pub demand1 : Demand1 {Lists = Unit {0}} (lineTold s) (spareQuestion s i j) tt (sees r tt)
+    pub told : spareQuestion s i j ≡ 0 → (b : Book) → parse s ≡ some b → (m : Move) → road b i j ≡ some m
+        → (r .code ≡ 0) × (r .value ≡ (pos (entryAt b j .start) -ℤ pos (entryAt b i .finish)) -ℤ pos (m .ticks))
+    pub no-move : spareQuestion s i j ≡ 0 → (b : Book) → parse s ≡ some b → road b i j ≡ none → r .code ≡ 103
+    pub itself : spareQuestion s i j ≡ 0 → i ≡ j → r .code ≡ 103
+    pub follows : spareQuestion s i j ≡ 0 → (b : Book) → parse s ≡ some b → (mayFollow b i j ≡ true) ↔ ((r .code ≡ 0) × (pos 0 ≤ℤ r .value))
+
+  -- The room of the sheets. 79 × E bytes, and "the sheets of any of its ways take at most" so much.
   pub record SheetsRoomDemands (r : Reply) : Type 0 where
     pub demand1 : Demand1 {Lists = Unit {0}} (lineTold s) (bookRefusal s) tt (sees r tt)
-    pub room : bookRefusal s ≡ 0 → r .value ≡ pos (71 * entryCount s)
-    pub enough : bookRefusal s ≡ 0 → (b : Book) → parse s ≡ some b → (w : List ℕ) → IsWay b w → length (sheets b w) ≤ 71 * entryCount s
+    pub room : bookRefusal s ≡ 0 → r .value ≡ pos (79 * entryCount s)
+    pub enough : bookRefusal s ≡ 0 → (b : Book) → parse s ≡ some b → (w : List ℕ) → IsWay b w → length (sheets b w) ≤ 79 * entryCount s
 
   -- The sheets of the way given by g, which is a least-cost way, at the front of the lent list. "Every entry stands on exactly one sheet, and the ticks
   -- played on all sheets sum to those of the book."
@@ -141,6 +156,8 @@ module _ (s : List ℕ) where
     pub text-is : l′ ≡ over (sheets book (words g)) l
     pub each-once : (j : ℕ) → 1 ≤ j → j ≤ size book → total (map (λ p. times j p) (parts (words g))) ≡ 1
     pub ticks : total (map (λ p. totalOf (ticksOf book) p) (parts (words g))) ≡ totalOf (ticksOf book) (numbers book)
+    -- G and R of `(gap G R)` are 0 or more, R being the spare
+    pub in-time : Every (FollowInTime book) (parts (words g))
 
   pub record SheetsDemands (g l : List ℕ) (r : Reply) (l′ : List ℕ) : Type 0 where
     pub demand1 : Demand1 (lineTold s) (sheetsQuestion s g (length l)) l (sees r l′)

@@ -7,7 +7,7 @@ ghost use Rattle.call_reply.specs.Replies.{sees};
 ghost use Rattle.call_network.specs.NetworkCalls.{lends};
 ghost use Rattle.demands.specs.Demands.{FirstFlowDemands, NextFlowDemands, CountFlowsDemands, RunFlowsDemands};
 ghost use Rattle.demands.specs.Demands.{FirstWayDemands, NextWayDemands, CountWaysDemands, RunWaysDemands};
-ghost use Rattle.demands.specs.Demands.{ListWaysDemands, SheetsRoomDemands, SheetsDemands, NameOfDemands, madeOf};
+ghost use Rattle.demands.specs.Demands.{ListWaysDemands, SpareDemands, SheetsRoomDemands, SheetsDemands, NameOfDemands, madeOf};
 use book_names::Span;
 use call_reply::Reply;
 
@@ -60,6 +60,12 @@ pub fn list_ways(book: &[u8], text: &mut [u8]) -> Reply
     ensures { λ r. ⌜ ListWaysDemands (now (book .entry)) (now (text .entry)) r (now (text .exit)) ⌝ }
 {
     desk::desk_listing(book, text)
+}
+
+pub fn spare_between(book: &[u8], earlier: u32, later: u32) -> Reply
+    ensures { λ r. ⌜ SpareDemands (now (book .entry)) earlier later r ⌝ }
+{
+    desk::desk_spare(book, earlier, later)
 }
 
 pub fn room_of_sheets(book: &[u8]) -> Reply

@@ -3,6 +3,7 @@ ghost use Rattle.call_network.specs.NetworkEntries.{NetworkFirst, NetworkFirstP
 ghost use Rattle.call_book.specs.BookEntries.{BookFirst, BookNext, BookCount};
 ghost use Rattle.book_names.specs.BookNames.{BookName, BookNameRefusal};
 ghost use Rattle.call_listing.specs.Listing.{BookListing};
+ghost use Rattle.call_spare.specs.SpareCall.{BookSpare};
 ghost use Rattle.call_sheets.specs.SheetCalls.{BookSheetsRoom, BookSheets};
 use book_names::Span;
 use call_reply::Reply;
@@ -72,6 +73,13 @@ pub extern "C" fn desk_listing(book: &[u8], text: &mut [u8]) -> Reply
     ensures { λ r. ⌜ BookListing (now (book .entry)) (now (text .entry)) r (now (text .exit)) ⌝ }
 {
     call_listing::list(book, text)
+}
+
+#[no_mangle]
+pub extern "C" fn desk_spare(book: &[u8], earlier: u32, later: u32) -> Reply
+    ensures { λ r. ⌜ BookSpare (now (book .entry)) earlier later r ⌝ }
+{
+    call_spare::spare_between(book, earlier, later)
 }
 
 #[no_mangle]

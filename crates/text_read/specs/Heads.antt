@@ -55,7 +55,7 @@ endHead = bytes "(end "
 abbrev pub refusedHead : List ℕ
 refusedHead = bytes "(refused "
 
--- `(part N`, `(play (name W) S F)`, `(gap G)`
+-- `(part N`, `(play (name W) S F)`, `(gap G R)`
 abbrev pub partHead : List ℕ
 partHead = bytes "(part "
 

@@ -36,7 +36,7 @@ few-arcs b T = omega (arith, arcs-few b (T .limits), count-arcs b)
 
 module _ (t : Tables) where
   abbrev e : ℕ
-  e = t .count
+  e = t .timing .count
 
   -- the joins of the entries before j are put
   pub record Outer (A : Arrays) (m j : ℕ) : Type 0 where

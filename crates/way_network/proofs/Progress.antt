@@ -101,14 +101,14 @@ module _ (t : Tables) (j : ℕ) where
   left b i = map (joinArc b j) (keep (λ p. permits b p j) (below i))
 
   pub record JoinsAhead (A : Arrays) (m : ℕ) (B : Arrays) (r i : ℕ) : Type 0 where
-    pub upto : i ≤ t .count + 1
-    pub room : r + i ≤ m + t .count + 1
+    pub upto : i ≤ t .timing .count + 1
+    pub room : r + i ≤ m + t .timing .count + 1
     pub long : Long B
     pub each : (b : Book) → TablesOf b t
         → (l rest : List BookArc) → length l ≤ 512 → Progress l A m (map (joinArc b j) (sources b j) ++ rest) → Progress l B r (left b i ++ rest)
 
-  pub going-start : (A : Arrays) (m : ℕ) → Long A → JoinsAhead A m A m (t .count + 1)
-  going-start A m h = record { upto = omega arith; room = omega arith; long = h; each = λ b T l rest few p. rw (add-one (t .count), count-is b t T) p }
+  pub going-start : (A : Arrays) (m : ℕ) → Long A → JoinsAhead A m A m (t .timing .count + 1)
+  going-start A m h = record { upto = omega arith; room = omega arith; long = h; each = λ b T l rest few p. rw (add-one (t .timing .count), count-is b t T) p }
 
   keep-below : (b : Book) (i : ℕ) → keep (λ p. permits b p j) (below (suc i)) ≡ keepIf (given? (predecessorCost b i j)) i (keep (λ p. permits b p j) (below i))
   keep-below b zero = refl

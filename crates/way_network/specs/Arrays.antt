@@ -93,7 +93,7 @@ blank = arrays (replicate 512 0) (replicate 512 0) (replicate 512 (pos 0))
 -- all arcs of each book that the tables hold, r of them joins and openings
 pub record AddsAll (t : Tables) (B : Arrays) (r : ℕ) : Type 0 where
   pub long : Long B
-  pub each : (b : Book) → TablesOf b t → Progress (bookArcs b) B (r + t .count + t .count + 1) []
+  pub each : (b : Book) → TablesOf b t → Progress (bookArcs b) B (r + t .timing .count + t .timing .count + 1) []
 
 -- the struct of the network of each book that the checked book holds
 pub record IsNetworkOf (s : CheckedBook) (r : Network) : Type 0 where

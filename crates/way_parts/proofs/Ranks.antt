@@ -1,5 +1,5 @@
 -- A way of a book is acyclic: time rises from predecessor to successor, and the rank of an entry counts those that start no later.
-use mathlib.Core.Path.{_≡_, refl}
+use mathlib.Core.Path.{_≡_, refl, sym, _∙_}
 use mathlib.Core.Bool.{Bool, true, false}
 use mathlib.Core.List.{List, [], _∷_}
 use Prim.Native.Nat.{ℕ, zero, suc, _+_, _-_, _≤_, _<_}
@@ -13,11 +13,12 @@ use Rattle.laws.specs.Rows.{from-length}
 use Rattle.laws.specs.Totals.{totalOf, total-ones, total-none}
 use Rattle.book_form.specs.Book.{Book}
 use Rattle.book_form.specs.WithinLimits.{WithinLimits}
-use Rattle.way_theory.specs.Follow.{size, entryAt}
+use Rattle.way_theory.specs.Follow.{size, entryAt, mayFollow}
 use Rattle.way_theory.specs.Ways.{oneIf, permits, Joined, IsWay}
 use Rattle.way_theory.specs.FullWays.{numbers}
 use Rattle.way_theory.proofs.Laid.{joined-small}
-use Rattle.way_theory.proofs.Size.{follow-time, timed}
+use Rattle.way_theory.proofs.Spare.{follow-given, follow-time}
+use Rattle.way_theory.proofs.Size.{timed}
 use Rattle.way_parts.specs.Parts.{predecessor}
 use Rattle.way_parts.specs.Acyclic.{Acyclic}
 use Rattle.way_parts.proofs.Summing.{total-less}
@@ -27,20 +28,20 @@ joined-at book j [] k h l = absurd (omega arith)
 joined-at book j (p ∷ w) zero h l = let e : j + 0 ≡ j = omega arith in rw e (h .1)
 joined-at book j (p ∷ w) (suc k) h l = let e : j + suc k ≡ suc j + k = omega arith in rw e (joined-at book (suc j) w k (h .2) (omega arith))
 
-permitted-time : (book : Book) (i j : ℕ) → 1 ≤ i → permits book i j ≡ true → entryAt book i .finish ≤ entryAt book j .start
-permitted-time book zero j h e = absurd (omega arith)
-permitted-time book (suc i) j h e = follow-time book (suc i) j e
+permitted-follows : (book : Book) (i j : ℕ) → 1 ≤ i → permits book i j ≡ true → mayFollow book i j ≡ true
+permitted-follows book zero j h e = absurd (omega arith)
+permitted-follows book (suc i) j h e = sym (follow-given book (suc i) j) ∙ e
 
 module _ (book : Book) (w : List ℕ) (way : IsWay book w) where
   predecessor-inside : (j : ℕ) → 1 ≤ j → j ≤ length w → predecessor w j ≤ size book
   predecessor-inside j h k =
       every-member (λ p. p ≤ size book) w (joined-small book 1 w (way .joined)) (predecessor w j) (getD-member w (j - 1) 0 (omega arith))
 
-  -- an entry starts no earlier than its predecessor finishes
-  pub join-time : (j : ℕ) → 1 ≤ j → j ≤ length w → 1 ≤ predecessor w j → entryAt book (predecessor w j) .finish ≤ entryAt book j .start
-  join-time j h k b =
+  -- an entry may follow its predecessor
+  pub join-follows : (j : ℕ) → 1 ≤ j → j ≤ length w → 1 ≤ predecessor w j → mayFollow book (predecessor w j) j ≡ true
+  join-follows j h k b =
       let e : 1 + (j - 1) ≡ j = omega arith in
-      permitted-time book (predecessor w j) j b (rw e at (joined-at book 1 w (j - 1) (way .joined) (omega arith)))
+      permitted-follows book (predecessor w j) j b (rw e at (joined-at book 1 w (j - 1) (way .joined) (omega arith)))
 
 -- whether entry i starts no later than entry j
 abbrev noLater : Book → ℕ → ℕ → Bool
@@ -92,6 +93,6 @@ way-acyclic book ok w way =
   where
     rises : (j : ℕ) → 1 ≤ j → j ≤ length w → 1 ≤ predecessor w j → rankIn book (predecessor w j) < rankIn book j
     rises j a b c =
-        let t = join-time book w way j a b c in
+        let t = follow-time book (predecessor w j) j (join-follows book w way j a b c) in
         let u = timed book ok (predecessor w j) c (predecessor-inside book w way j a b) in
         rank-earlier book (predecessor w j) j a (omega (arith, way .all-entries)) (omega arith)

@@ -1,6 +1,7 @@
 -- The parts of a way: they end, every entry stands in exactly one of them, once, so that there is one where there are entries, what is summed over
 -- them is summed over the book, and in each of them the entries follow one another in time.
 use mathlib.Core.Path.{_≡_, sym, ap, _∙_}
+use mathlib.Core.Bool.{true}
 use mathlib.Core.List.{List, [], _∷_, map}
 use Prim.Native.Nat.{ℕ, _≤_}
 use native.Mathlib.Omega.{arith}
@@ -10,9 +11,10 @@ use Rattle.laws.specs.Within.{from}
 use Rattle.laws.specs.Totals.{total, totalOf}
 use Rattle.book_form.specs.Book.{Book}
 use Rattle.book_form.specs.WithinLimits.{WithinLimits}
-use Rattle.way_theory.specs.Follow.{size}
+use Rattle.way_theory.specs.Follow.{size, mayFollow}
 use Rattle.way_theory.specs.Ways.{times, IsWay}
 use Rattle.way_theory.specs.FullWays.{numbers}
+use Rattle.way_theory.proofs.Spare.{follow-time, follow-ticks}
 use Rattle.way_parts.specs.Parts.{partOf, parts, playingOrder, IsPart}
 use Rattle.way_parts.specs.Ticks.{ticksOf, FollowInTime}
 use Rattle.way_parts.proofs.Summing.{total-flatten}
@@ -21,7 +23,7 @@ use Rattle.way_parts.proofs.Induction.{part-induction, every-part}
 use Rattle.way_parts.proofs.Once.{in-one-part, in-order-inside, order-total, order-length}
 use Rattle.way_parts.proofs.Openers.{as-many-parts}
 use Rattle.way_parts.proofs.Links.{parts-linked}
-use Rattle.way_parts.proofs.Ranks.{way-acyclic, join-time}
+use Rattle.way_parts.proofs.Ranks.{way-acyclic, join-follows}
 
 module _ (book : Book) (ok : WithinLimits book) (w : List ℕ) (way : IsWay book w) where
   -- each is a part: its first entry opens it, each other follows its predecessor, and nobody follows the last
@@ -59,12 +61,14 @@ module _ (book : Book) (ok : WithinLimits book) (w : List ℕ) (way : IsWay book
       go [] e = absurd (omega (arith, e))
       go (p ∷ l) e = omega arith
 
-  -- no gap is less than 0
+  -- no gap and no spare is less than 0
   pub parts-in-time : Every (FollowInTime book) (parts w)
   parts-in-time = every-part w (FollowInTime book) timely
     where
       after : (i k : ℕ) (l : List ℕ) → 1 ≤ i → IsSuccessor w i k → FollowInTime book (k ∷ l) → FollowInTime book (i ∷ k ∷ l)
-      after i k l h f p = (rw (f .is) at (join-time book w way k (f .low) (f .high) (rw (f .is) h)), p)
+      after i k l h f p =
+          let y : mayFollow book i k ≡ true = rw (f .is) at (join-follows book w way k (f .low) (f .high) (rw (f .is) h)) in
+          (follow-time book i k y, follow-ticks book i k y, p)
 
       timely : (j : ℕ) → IsSuccessor w 0 j → FollowInTime book (partOf w j)
       timely j f =

@@ -1,4 +1,4 @@
--- "the sheets of any of its ways take at most 71 bytes for each entry".
+-- "the sheets of any of its ways take at most" 79 "bytes for each entry".
 use mathlib.Core.Path.{_≡_, refl}
 use mathlib.Core.Logic.{inl, inr}
 use mathlib.Core.Option.{some}
@@ -14,9 +14,10 @@ use Rattle.book_lines.specs.Lines.{Entry}
 use Rattle.book_form.specs.Book.{Book, parse}
 use Rattle.book_form.specs.WithinLimits.{WithinLimits}
 use Rattle.book_form.proofs.Names.{names-short}
-use Rattle.way_theory.specs.Follow.{size, entryAt}
+use Rattle.way_theory.specs.Follow.{size, entryAt, spareTicks}
 use Rattle.way_theory.specs.Ways.{IsWay}
 use Rattle.way_theory.proofs.Fair.{fair-entry}
+use Rattle.way_theory.proofs.Spare.{spare-ticks-small}
 use Rattle.way_parts.specs.Parts.{parts, playingOrder, IsPart}
 use Rattle.way_parts.proofs.Theorems.{parts-end, parts-few, stands-inside, as-many}
 use Rattle.way_sheets.specs.Lines.{partLine, playLine, gapLine}
@@ -43,9 +44,16 @@ play-size e ok =
       row-size space (e .finish) 6 (ok .ends),
     )
 
-gap-size : (g : ℕ) → g < 1000000 → length (gapLine g) ≤ 13
+gap-size : (g r : ℕ) → g < 1000000 → r < 1000000 → length (gapLine g r) ≤ 20
 unfolding bytes gapLine
-gap-size g h = row-size gapHead g 5 h
+gap-size g r h k =
+    omega (
+      arith,
+      length-append (gapHead ++ decimal g) (space ++ decimal r ++ lineEnd),
+      length-append gapHead (decimal g),
+      decimal-size 5 g h,
+      row-size space r 5 k,
+    )
 
 -- a part number has one digit
 part-size : (n : ℕ) → n < 10 → length (partLine n) ≤ 8
@@ -56,23 +64,24 @@ module _ (book : Book) (small : (j : ℕ) → 1 ≤ j → j ≤ size book → Sm
   abbrev Inside : List ℕ → Type 0
   Inside p = (j : ℕ) → j ∈ p → (1 ≤ j) × (j ≤ size book)
 
-  after-size : (i : ℕ) (p : List ℕ) → Inside p → length (playsAfter book i p) ≤ 59 * length p
+  after-size : (i : ℕ) (p : List ℕ) → Inside p → length (playsAfter book i p) ≤ 66 * length p
   unfolding playsAfter
   after-size i [] h = omega arith
   after-size i (j ∷ p) h =
       let (a, b) = h j (inl refl) in
       let ok = small j a b in
       let s = ok .begins in
+      let line = gapLine (gap book i j) (spareTicks book i j) in
       omega (
         arith,
-        length-append (gapLine (gap book i j) ++ playOf book j) (playsAfter book j p),
-        length-append (gapLine (gap book i j)) (playOf book j),
-        gap-size (gap book i j) (omega arith),
+        length-append (line ++ playOf book j) (playsAfter book j p),
+        length-append line (playOf book j),
+        gap-size (gap book i j) (spareTicks book i j) (omega arith) (omega (arith, spare-ticks-small book i j)),
         play-size (entryAt book j) ok,
         after-size j p (λ k m. h k (inr m)),
       )
 
-  sheet-size : (w : List ℕ) (n : ℕ) (p : List ℕ) → IsPart w p → n < 10 → Inside p → length (sheet book n p) ≤ 71 * length p
+  sheet-size : (w : List ℕ) (n : ℕ) (p : List ℕ) → IsPart w p → n < 10 → Inside p → length (sheet book n p) ≤ 79 * length p
   unfolding sheet plays bytes
   sheet-size w n [] q l h = absurd q
   sheet-size w n (j ∷ p) q l h =
@@ -88,7 +97,7 @@ module _ (book : Book) (small : (j : ℕ) → 1 ≤ j → j ≤ size book → Sm
       )
 
   sheets-from-size : (w : List ℕ) (n : ℕ) (ps : List (List ℕ)) → Every (IsPart w) ps → n + length ps ≤ 10 → Inside (flatten ps)
-      → length (sheetsFrom book n ps) ≤ 71 * length (flatten ps)
+      → length (sheetsFrom book n ps) ≤ 79 * length (flatten ps)
   unfolding sheetsFrom flatten
   sheets-from-size w n [] q l h = omega arith
   sheets-from-size w n (p ∷ ps) q l h =
@@ -106,8 +115,8 @@ small-entries s book e ok j h k =
     let f = fair-entry (entryAt book j) (ok .fair-entries (j - 1) (omega arith)) in
     record { short = names-short s book e (j - 1) (omega arith); begins = omega (arith, f .ends-later, f .finish-high); ends = omega (arith, f .finish-high) }
 
--- "71 × E bytes, and the sheets of any of its ways take at most 71 bytes for each entry"
-pub sheets-size : (s : List ℕ) (book : Book) → parse s ≡ some book → WithinLimits book → (w : List ℕ) → IsWay book w → length (sheets book w) ≤ 71 * size book
+-- 02, request 7: "The room of request 2 becomes 79 bytes for each entry"
+pub sheets-size : (s : List ℕ) (book : Book) → parse s ≡ some book → WithinLimits book → (w : List ℕ) → IsWay book w → length (sheets book w) ≤ 79 * size book
 unfolding sheets playingOrder
 sheets-size s book e ok w way =
     omega (

@@ -1,5 +1,5 @@
 -- The loop over the playing order: what is written after k entries, and the entry of one turn as the program reads it.
-use mathlib.Core.Path.{_≡_, refl, ap, sym, subst, _∙_}
+use mathlib.Core.Path.{_≡_, refl, ap, ap₂, sym, subst, _∙_}
 use mathlib.Core.List.{List, [], _++_, append-assoc}
 use mathlib.Core.Option.{some, Option·some-injective}
 use Prim.Native.Nat.{ℕ, zero, suc, _+_, _-_, _≤_, _<_}
@@ -14,7 +14,9 @@ use Rattle.book_form.specs.Book.{Book, parse}
 use Rattle.book_form.specs.declared.CheckedBook.{CheckedBook}
 use Rattle.book_form.proofs.Judging.{column-at}
 use Rattle.book_form.proofs.Names.{checked-name}
-use Rattle.way_theory.specs.Follow.{size, entryAt}
+use Rattle.way_theory.specs.Follow.{size, entryAt, spareTicks}
+use Rattle.way_joins.specs.Tables.{timingIn, TimingOf, HasTiming}
+use Rattle.way_joins.proofs.Counts.{checked-timing}
 use Rattle.way_parts.specs.Parts.{predecessor, playingOrder}
 use Rattle.way_parts.specs.Acyclic.{Acyclic}
 use Rattle.way_parts.proofs.Ranks.{way-acyclic}
@@ -22,7 +24,7 @@ use Rattle.way_parts.proofs.Theorems.{as-many}
 use Rattle.way_parts.proofs.Places.{place-inside, place-next}
 use Rattle.way_sheets.specs.Lines.{playLine, gapLine}
 use Rattle.way_sheets.specs.Sheets.{gap, sheets}
-use Rattle.way_sheets.specs.Writing.{closing, lead, begun, gapTo, HasSheets, WritesSheets}
+use Rattle.way_sheets.specs.Writing.{closing, lead, begun, gapTo, spareTo, SparesTo, HasSheets, WritesSheets}
 use Rattle.way_sheets.proofs.Visits.{visit, visits, visits-all}
 
 -- the first k entries of the playing order are written, and n parts are begun
@@ -93,13 +95,24 @@ module _ (s : List ℕ) (c : CheckedBook) (w : List ℕ) (room : ℕ) (has : Has
         ∙ ap (λ (x : CheckedBook). take (getD (x .lengths) (j - 1) 0) (drop (getD (x .names) (j - 1) 0) s)) (has .is)
         ∙ checked-name s book (has .holds) (j - 1) (omega arith) .1
 
-  lead-is : (n i j : ℕ) → 1 ≤ j → j ≤ size book → i ≤ size book → lead n i (gapTo (c .finishes) i (getD (c .starts) (j - 1) 0)) ≡ lead n i (gap book i j)
+  -- what the spare of a join is looked up in
+  timing-of : TimingOf book (timingIn c)
+  timing-of = checked-timing book c (length s) (has .limits) (has .is)
+
+  pub has-timing : HasTiming (timingIn c)
+  has-timing = record { book = book; timing = timing-of }
+
+  pub count-is : c .count ≡ length w
+  count-is = ap (λ (x : CheckedBook). x .count) (has .is) ∙ sym (has .way .all-entries)
+
+  lead-is : (n i j r : ℕ) → 1 ≤ j → j ≤ size book → i ≤ size book → r ≡ spareTo book i j
+      → lead n i (gapTo (c .finishes) i (getD (c .starts) (j - 1) 0)) r ≡ lead n i (gap book i j) (spareTicks book i j)
   unfolding lead
-  lead-is n zero j h k l = refl
-  lead-is n (suc i) j h k l =
+  lead-is n zero j r h k l q = refl
+  lead-is n (suc i) j r h k l q =
       let e : suc i - 1 ≡ i = omega arith in
       let f = rw e at (finish-is (suc i) (omega arith) l) in
-      ap gapLine (omega (arith, f, start-is j h k, ap (λ m. getD (book .entries) m nobody .finish) e))
+      ap₂ gapLine (omega (arith, f, start-is j h k, ap (λ m. getD (book .entries) m nobody .finish) e)) q
 
   -- the entry at place k of the playing order, which the array a holds
   module _ (a : List ℕ) (q : a ≡ padded 28 0 (playingOrder w)) (k : ℕ) (h : k < length w) where
@@ -117,19 +130,26 @@ module _ (s : List ℕ) (c : CheckedBook) (w : List ℕ) (room : ℕ) (has : Has
     next-visit n = ap (visits book w n) (place-next w acyclic a q k h)
 
     -- what the program writes in this turn
-    abbrev turn : ℕ → ℕ → List ℕ
-    turn n g = lead n (predecessor w entry) g ++ playLine (nameRead entry) (getD (c .starts) (entry - 1) 0) (getD (c .finishes) (entry - 1) 0)
+    abbrev turn : ℕ → ℕ → ℕ → List ℕ
+    turn n g x = lead n (predecessor w entry) g x ++ playLine (nameRead entry) (getD (c .starts) (entry - 1) 0) (getD (c .finishes) (entry - 1) 0)
 
-    module _ (g : ℕ) (e : g ≡ gapTo (c .finishes) (predecessor w entry) (getD (c .starts) (entry - 1) 0)) where
-      turn-is : (n : ℕ) → turn n g ≡ visit book w n entry
+    module _ (g : ℕ) (e : g ≡ gapTo (c .finishes) (predecessor w entry) (getD (c .starts) (entry - 1) 0)) (spare : ℕ)
+        (found : SparesTo (timingIn c) (predecessor w entry) (entry - 1 + 1) spare) where
+      spare-is : spare ≡ spareTo book (predecessor w entry) entry
+      spare-is =
+          let (x, y, z) = entry-inside in
+          let same : entry - 1 + 1 ≡ entry = omega arith in
+          rw same at (found .each book timing-of)
+
+      turn-is : (n : ℕ) → turn n g spare ≡ visit book w n entry
       unfolding visit
       turn-is n =
           let (x, y, z) = entry-inside in
-          let l = lead-is n (predecessor w entry) entry x z (omega (arith, predecessor-inside, has .way .all-entries)) in
+          let l = lead-is n (predecessor w entry) entry spare x z (omega (arith, predecessor-inside, has .way .all-entries)) spare-is in
           rw (e, l, name-is entry x z, start-is entry x z, finish-is entry x z) refl
 
       module _ {b o : List ℕ} {at n : ℕ} (d : Puts s w b o at n k) where
-        pub put-room : room ≤ length b → at + length (turn n g) ≤ length o
+        pub put-room : room ≤ length b → at + length (turn n g spare) ≤ length o
         put-room fit =
             omega (
               arith,
@@ -144,7 +164,7 @@ module _ (s : List ℕ) (c : CheckedBook) (w : List ℕ) (room : ℕ) (has : Has
               appended-long (it d .put),
             )
 
-        pub put-more : {p : List ℕ} {r m : ℕ} → Appended o at (turn n g) p r → m ≡ begun n (predecessor w entry) → Puts s w b p r m (k + 1)
+        pub put-more : {p : List ℕ} {r m : ℕ} → Appended o at (turn n g spare) p r → m ≡ begun n (predecessor w entry) → Puts s w b p r m (k + 1)
         put-more {p} {r} {m} f z = record { each = λ c e. subst (λ x. Put x w b p r m (k + 1)) (same-book c e) more }
           where
             more : Put book w b p r m (k + 1)

@@ -7,6 +7,7 @@ use native.Mathlib.Omega.{arith}
 use Rattle.laws.specs.Members.{_∈_, Every, append-left, append-right}
 use Rattle.book_form.specs.Book.{Book}
 use Rattle.book_form.specs.WithinLimits.{WithinLimits}
+use Rattle.way_theory.specs.Follow.{spareTicks}
 use Rattle.way_theory.specs.Ways.{IsWay}
 use Rattle.way_parts.specs.Parts.{predecessor, parts, playingOrder, Linked, IsPart}
 use Rattle.way_parts.proofs.Theorems.{parts-end, stands-inside}
@@ -16,7 +17,7 @@ use Rattle.way_sheets.specs.Writing.{closing, lead, begun}
 
 -- entry j, where n parts are begun; then each entry of a list, and the end of the last part
 unfoldable pub visit : Book → List ℕ → ℕ → ℕ → List ℕ
-visit book w n j = lead n (predecessor w j) (gap book (predecessor w j) j) ++ playOf book j
+visit book w n j = lead n (predecessor w j) (gap book (predecessor w j) j) (spareTicks book (predecessor w j) j) ++ playOf book j
 
 unfoldable pub visits : Book → List ℕ → ℕ → List ℕ → List ℕ
 visits book w n [] = closing n
@@ -24,7 +25,7 @@ visits book w n (j ∷ l) = visit book w n j ++ visits book w (begun n (predeces
 
 module _ (book : Book) (w : List ℕ) where
   -- an entry behind its predecessor
-  visit-later : (n i j : ℕ) (l : List ℕ) → 1 ≤ i → predecessor w j ≡ i → visits book w n (j ∷ l) ≡ gapLine (gap book i j) ++ playOf book j ++ visits book w n l
+  visit-later : (n i j : ℕ) (l : List ℕ) → 1 ≤ i → predecessor w j ≡ i → visits book w n (j ∷ l) ≡ gapLine (gap book i j) (spareTicks book i j) ++ playOf book j ++ visits book w n l
   unfolding visits visit lead
   visit-later n zero j l h e = absurd (omega arith)
   visit-later n (suc i) j l h e = rw e refl
@@ -39,7 +40,7 @@ module _ (book : Book) (w : List ℕ) where
   visits-after n i [] l h f k = refl
   visits-after n i (j ∷ p) l h f k =
       visit-later n i j (p ++ l) h (k .0)
-      ∙ ap (λ x. gapLine (gap book i j) ++ playOf book j ++ x) (visits-after n j p l (f j (inl refl)) (λ a m. f a (inr m)) (k .1))
+      ∙ ap (λ x. gapLine (gap book i j) (spareTicks book i j) ++ playOf book j ++ x) (visits-after n j p l (f j (inl refl)) (λ a m. f a (inr m)) (k .1))
       ∙ simp append-assoc
 
   visits-part : (n : ℕ) (p l : List ℕ) → ((j : ℕ) → j ∈ p → 1 ≤ j) → IsPart w p → visits book w n (p ++ l) ≡ closing n ++ (partLine (suc n) ++ (plays book p ++ visits book w (suc n) l))

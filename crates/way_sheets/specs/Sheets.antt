@@ -1,9 +1,9 @@
--- Document 02, request 2: the sheets of a way.
+-- Document 02, requests 2 and 7: the sheets of a way.
 use mathlib.Core.List.{List, [], _∷_, _++_}
 use Prim.Native.Nat.{ℕ, suc, _-_}
 use Rattle.text_read.specs.Heads.{lineEnd}
 use Rattle.book_form.specs.Book.{Book}
-use Rattle.way_theory.specs.Follow.{entryAt}
+use Rattle.way_theory.specs.Follow.{entryAt, spareTicks}
 use Rattle.way_parts.specs.Parts.{parts}
 use Rattle.way_sheets.specs.Lines.{partLine, playLine, gapLine}
 
@@ -15,10 +15,11 @@ playOf book j = playLine (entryAt book j .name) (entryAt book j .start) (entryAt
 abbrev pub gap : Book → ℕ → ℕ → ℕ
 gap book i j = entryAt book j .start - entryAt book i .finish
 
--- "for each entry in playing order `(play (name W) S F)`, with `(gap G)` between two": what follows entry i in its part
+-- "for each entry in playing order `(play (name W) S F)`, with `(gap G)` between two": what follows entry i in its part. 02, request 7: "every
+-- `(gap G)` becomes `(gap G R)` with R the spare", which in a part is never below 0 (`parts-in-time`)
 unfoldable pub playsAfter : Book → ℕ → List ℕ → List ℕ
 playsAfter book i [] = []
-playsAfter book i (j ∷ p) = gapLine (gap book i j) ++ playOf book j ++ playsAfter book j p
+playsAfter book i (j ∷ p) = gapLine (gap book i j) (spareTicks book i j) ++ playOf book j ++ playsAfter book j p
 
 unfoldable pub plays : Book → List ℕ → List ℕ
 plays book [] = []

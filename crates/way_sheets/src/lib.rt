@@ -4,13 +4,15 @@ use text_read::heads;
 use text_write::put_item;
 use text_write::put_row;
 use text_write::put_text;
+use way_joins::Spare;
 ghost use mathlib.Core.Path.{_≡_};
 ghost use mathlib.Core.List.{_++_};
 ghost use Prim.Native.Nat.{_+_, _-_, _≤_};
 ghost use lib.ListN.{length};
 ghost use Rattle.laws.specs.Appended.{Appended};
-ghost use Rattle.way_sheets.specs.Lines.{partLine, playLine};
-ghost use Rattle.way_sheets.specs.Writing.{closing, lead, begun, gapTo, HasSheets, WritesSheets};
+ghost use Rattle.way_joins.specs.Tables.{timingWith, HasTiming};
+ghost use Rattle.way_sheets.specs.Lines.{partLine, playLine, gapLine};
+ghost use Rattle.way_sheets.specs.Writing.{closing, lead, begun, gapTo, ticksTold, SparesTo, HasSheets, WritesSheets};
 
 // The first line of part n.
 fn put_part_line(out: &mut [u8], at: usize, n: u32) -> usize
@@ -32,6 +34,15 @@ fn put_play_line(out: &mut [u8], at: usize, name: &[u8], start: u32, finish: u32
     put_row(out, c, &heads::SPACE, finish as u64)
 }
 
+// The line between two entries.
+fn put_gap_line(out: &mut [u8], at: usize, gap: u32, spare: u32) -> usize
+    requires { ⌜ at + length (gapLine gap spare) ≤ length (now out) ⌝ }
+    ensures { λ r. ⌜ Appended (now (out .entry)) at (gapLine gap spare) (now (out .exit)) r ⌝ }
+{
+    let k = put_item(out, at, &heads::GAP, gap as u64);
+    put_row(out, k, &heads::SPACE, spare as u64)
+}
+
 // The last line of a part, if any of n was begun.
 fn put_closing(out: &mut [u8], at: usize, n: u32) -> usize
     requires { ⌜ at + length (closing n) ≤ length (now out) ⌝ }
@@ -44,15 +55,15 @@ fn put_closing(out: &mut [u8], at: usize, n: u32) -> usize
 }
 
 // What stands before the line of an entry with predecessor i, where n parts are begun.
-fn put_lead(out: &mut [u8], at: usize, n: u32, i: u32, gap: u32) -> usize
-    requires { ⌜ (n ≤ 28) × (at + length (lead n i gap) ≤ length (now out)) ⌝ }
-    ensures { λ r. ⌜ Appended (now (out .entry)) at (lead n i gap) (now (out .exit)) r ⌝ }
+fn put_lead(out: &mut [u8], at: usize, n: u32, i: u32, gap: u32, spare: u32) -> usize
+    requires { ⌜ (n ≤ 28) × (at + length (lead n i gap spare) ≤ length (now out)) ⌝ }
+    ensures { λ r. ⌜ Appended (now (out .entry)) at (lead n i gap spare) (now (out .exit)) r ⌝ }
 {
     if i == 0 {
         let k = put_closing(out, at, n);
         return put_part_line(out, k, n + 1);
     }
-    put_row(out, at, &heads::GAP, gap as u64)
+    put_gap_line(out, at, gap, spare)
 }
 
 // An entry with predecessor i, where n parts are begun: what stands before its line, and its line.
@@ -62,14 +73,15 @@ fn put_entry(
     n: u32,
     i: u32,
     gap: u32,
+    spare: u32,
     name: &[u8],
     start: u32,
     finish: u32,
 ) -> usize
-    requires { ⌜ (n ≤ 28) × (at + length (lead n i gap ++ playLine (now name) start finish) ≤ length (now out)) ⌝ }
-    ensures { λ r. ⌜ Appended (now (out .entry)) at (lead n i gap ++ playLine (now (name .entry)) start finish) (now (out .exit)) r ⌝ }
+    requires { ⌜ (n ≤ 28) × (at + length (lead n i gap spare ++ playLine (now name) start finish) ≤ length (now out)) ⌝ }
+    ensures { λ r. ⌜ Appended (now (out .entry)) at (lead n i gap spare ++ playLine (now (name .entry)) start finish) (now (out .exit)) r ⌝ }
 {
-    let k = put_lead(out, at, n, i, gap);
+    let k = put_lead(out, at, n, i, gap, spare);
     put_play_line(out, k, name, start, finish)
 }
 
@@ -99,12 +111,55 @@ fn gap_to(finishes: &[u32; 28], i: u32, start: u32) -> u32
     less(start, finishes[(i - 1) as usize])
 }
 
+// The ticks of a spare; 0 where it is less, or there is no move.
+fn ticks_told(spare: Spare) -> u32
+    ensures { λ r. ⌜ r ≡ ticksTold spare ⌝ }
+{
+    match spare {
+        Spare::NoMove => 0,
+        Spare::Ticks(ticks) => {
+            if 0 <= ticks {
+                return ticks as u32;
+            }
+            0
+        }
+    }
+}
+
+// The spare ticks of the join from entry i to entry j; 0 where i is 0.
+fn spare_to<'a>(
+    e: usize,
+    ticks: &'a [u32],
+    arrives: &'a [u32],
+    leaves: &'a [u32],
+    starts: &'a [u32],
+    finishes: &'a [u32],
+    i: u32,
+    j: usize,
+) -> u32
+    requires { let book = timingWith e (now ticks) (now arrives) (now leaves) (now starts) (now finishes) in
+        ⌜ HasTiming book × (i ≤ e) × (1 ≤ j) × (j ≤ e) ⌝ }
+    ensures { λ r.
+        let book = timingWith e (now (ticks .entry)) (now (arrives .entry)) (now (leaves .entry)) (now (starts .entry)) (now (finishes .entry)) in
+        ⌜ SparesTo book i j r ⌝ }
+{
+    if i == 0 {
+        return 0;
+    }
+    let spare = way_joins::spare_of(e, ticks, arrives, leaves, starts, finishes, i as usize, j);
+    ticks_told(spare)
+}
+
 // The sheets of a way of a book, at the front of a list that has room for them; how long they are. `text` is the bytes of the book.
 pub fn put_sheets(text: &[u8], book: CheckedBook, way: &[u32], out: &mut [u8]) -> usize
     requires { ⌜ HasSheets (now text) book (now way) (length (now out)) ⌝ }
     ensures { λ r. ⌜ WritesSheets (now (text .entry)) (now (way .entry)) (now (out .entry)) (now (out .exit)) r ⌝ }
 {
     let order = way_parts::playing_order(way);
+    let e = book.count;
+    let ticks = book.ticks;
+    let arrives = book.arrives;
+    let leaves = book.leaves;
     let starts = book.starts;
     let finishes = book.finishes;
     let names = book.names;
@@ -117,8 +172,19 @@ pub fn put_sheets(text: &[u8], book: CheckedBook, way: &[u32], out: &mut [u8]) -
         let start = starts[j];
         let from = names[j];
         let to = from + lengths[j];
+        let spare = spare_to(e, &ticks, &arrives, &leaves, &starts, &finishes, i, j + 1);
         let gap = gap_to(&finishes, i, start);
-        at = put_entry(out, at, n, i, gap, &text[from..to], start, finishes[j]);
+        at = put_entry(
+            out,
+            at,
+            n,
+            i,
+            gap,
+            spare,
+            &text[from..to],
+            start,
+            finishes[j],
+        );
         n = begun(n, i);
     }
     put_closing(out, at, n)

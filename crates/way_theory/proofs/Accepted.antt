@@ -4,7 +4,7 @@ use mathlib.Core.Bool.{Bool, true, false, cond}
 use mathlib.Core.Option.{Option, none, some}
 use Prim.Native.Nat.{ℕ, zero, suc, _≤_}
 use native.Mathlib.Omega.{arith}
-use lib.Dec.{eqb, leb}
+use lib.Dec.{eqb}
 use lib.ListN.{List·getD-map}
 use lib.IntN.{pos, negℤ}
 use lib.Signed.{_≤ℤ_}
@@ -16,11 +16,12 @@ use Rattle.book_lines.specs.Questions.{moveOf}
 use Rattle.book_lines.proofs.Table.{fair-parts}
 use Rattle.book_form.specs.Book.{Book}
 use Rattle.book_form.specs.WithinLimits.{WithinLimits}
-use Rattle.way_theory.specs.Follow.{size, entryAt, stay, withoutLine, lineOr, link, road, arrival, inTime}
+use Rattle.way_theory.specs.Follow.{size, entryAt, stay, withoutLine, lineOr, link, road, spareBy, enough}
 use Rattle.way_theory.specs.Ways.{orNone}
 use Rattle.way_theory.specs.BookNet.{arcCost, bookArcs, bookNet}
 use Rattle.way_theory.proofs.Nodes.{NodeKind, origin, odd, even, last, node-kind, noBookArc, nodes-count, balance-inner, balance-last}
 use Rattle.way_theory.proofs.Arcs.{arc-holds, part-holds, well-formed}
+use Rattle.way_theory.proofs.Spare.{costInTime}
 use Rattle.way_theory.proofs.Size.{arcs-few, nodes-few}
 
 -- a move that costs at most 1,000,000, if there is one
@@ -40,9 +41,9 @@ apart-small : (t : Bool) (o : Option Move) → CostSmall o → CostSmall (cond t
 apart-small true o h = tt
 apart-small false o h = h
 
-in-time-small : (o : Option Move) (finish start : ℕ) → CostSmall o → orNone (inTime o finish start) ≤ 1000000
+in-time-small : (o : Option Move) (finish start : ℕ) → CostSmall o → orNone (costInTime o finish start) ≤ 1000000
 in-time-small none finish start h = omega arith
-in-time-small (some m) finish start h = go (leb (arrival m finish) start)
+in-time-small (some m) finish start h = go (enough (spareBy (some m) finish start))
   where
     go : (t : Bool) → orNone (cond t (some (m .cost)) none) ≤ 1000000
     go true = h

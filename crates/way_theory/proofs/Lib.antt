@@ -13,8 +13,9 @@ pub mod LineByLine
 pub mod Given
 pub mod Examples
 pub mod Fair
+pub mod ByRule
+pub mod Spare
 pub mod Size
 pub mod Accepted
-pub mod ByRule
 pub mod ShortForms
 pub mod OldRule

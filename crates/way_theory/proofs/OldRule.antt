@@ -12,7 +12,7 @@ use Rattle.laws.specs.Members.{Every}
 use Rattle.book_lines.specs.declared.moves.Move.{Move}
 use Rattle.book_lines.specs.Questions.{moveOf, stands, moves, allPass}
 use Rattle.book_form.specs.Book.{Book}
-use Rattle.way_theory.specs.Follow.{entryAt, stay, lineOr, link, mayFollow}
+use Rattle.way_theory.specs.Follow.{entryAt, stay, lineOr, link, followCost}
 use Rattle.way_theory.proofs.ByRule.{Rule, SameWays, same-ways}
 use Rattle.way_theory.proofs.ShortForms.{instrument, followBy, OneInstrumentEach, follow-before}
 
@@ -68,7 +68,7 @@ same-link ms a b h = go (eqb a b) refl
     go false q = alone (moveOf ms a b)
 
 module _ (book : Book) (one : OneInstrumentEach book) where
-  same-follow : NoneStays (book .moves) → (i j : ℕ) → mayFollow book i j ≡ oldMayFollow book i j
+  same-follow : NoneStays (book .moves) → (i j : ℕ) → followCost book i j ≡ oldMayFollow book i j
   same-follow h i j = follow-before book one i j ∙ rw (same-link (book .moves) (instrument (entryAt book i)) (instrument (entryAt book j)) h)
 
   pub as-before : NoneStays (book .moves) → AsBefore book

@@ -1,6 +1,6 @@
 -- The rule as it stood before request 5 of 02, when an entry was on one instrument: question 15, and who may follow whom. What kept the form
 -- of that time is read and judged as it was, and lists what it listed, at the cost that it had.
-use mathlib.Core.Path.{_≡_, refl, sym, ap₂}
+use mathlib.Core.Path.{_≡_, refl, sym, ap₂, _∙_}
 use mathlib.Core.Bool.{Bool, true, false, cond, _&&_}
 use mathlib.Core.Option.{Option, none, some}
 use mathlib.Core.List.{List, [], _∷_, map}
@@ -14,8 +14,9 @@ use Rattle.book_lines.specs.Questions.{isInstrument, entries}
 use Rattle.book_lines.specs.Columns.{nobody}
 use Rattle.book_form.specs.Book.{Book, parse}
 use Rattle.book_form.proofs.ShortForms.{oldParse, OneInstrument, read-before}
-use Rattle.way_theory.specs.Follow.{entryAt, link, inTime, mayFollow}
+use Rattle.way_theory.specs.Follow.{entryAt, link, road, followCost}
 use Rattle.way_theory.proofs.ByRule.{Rule, SameWays, same-ways}
+use Rattle.way_theory.proofs.Spare.{oldCostInTime, cost-as-before}
 
 -- the one instrument of an entry
 abbrev pub instrument : Entry → ℕ
@@ -28,7 +29,7 @@ oldFairEntry e = isInstrument (instrument e) && ltb (e .start) (e .finish) && le
 -- who may follow whom, by how a player goes from i's instrument to j's
 abbrev pub followBy : (ℕ → ℕ → Option Move) → Book → Rule
 followBy link book i j =
-    inTime (cond (eqb i j) none (link (instrument (entryAt book i)) (instrument (entryAt book j)))) (entryAt book i .finish) (entryAt book j .start)
+    oldCostInTime (cond (eqb i j) none (link (instrument (entryAt book i)) (instrument (entryAt book j)))) (entryAt book i .finish) (entryAt book j .start)
 
 abbrev pub OneInstrumentEach : Book → Type 0
 OneInstrumentEach book = Every OneInstrument (book .entries)
@@ -38,8 +39,9 @@ at-one [] n h = refl
 at-one (e ∷ es) zero h = sym (h .0)
 at-one (e ∷ es) (suc n) h = at-one es n (h .1)
 
-pub follow-before : (book : Book) → OneInstrumentEach book → (i j : ℕ) → mayFollow book i j ≡ followBy (link (book .moves)) book i j
-follow-before book h i j = rw (at-one (book .entries) (i - 1) h)
+pub follow-before : (book : Book) → OneInstrumentEach book → (i j : ℕ) → followCost book i j ≡ followBy (link (book .moves)) book i j
+follow-before book h i j =
+    cost-as-before (road book i j) (entryAt book i .finish) (entryAt book j .start) ∙ rw (at-one (book .entries) (i - 1) h)
 
 twice : (x : Bool) → (x && x) ≡ x
 twice true = refl

@@ -1,39 +1,24 @@
 -- "With 28 entries that is 58 nodes and at most 463 arcs": of two entries at most one may follow the other, since an entry ends after it starts.
-use mathlib.Core.Path.{_≡_, refl, ap, _∙_}
-use mathlib.Core.Bool.{Bool, true, false, cond}
-use mathlib.Core.Option.{Option, none, some}
+use mathlib.Core.Path.{_≡_, refl, sym, ap, _∙_}
+use mathlib.Core.Bool.{Bool, true, false}
 use mathlib.Core.List.{[], map}
 use Prim.Native.Nat.{ℕ, zero, suc, _+_, _-_, _≤_, _<_}
 use native.Mathlib.Omega.{arith}
-use lib.Dec.{leb}
 use lib.ListN.{length, length-map, length-append}
-use borrow.Author.Tests.{leb-true}
 use Rattle.laws.specs.Members.{_∈_, keep, keepIf}
 use Rattle.laws.specs.Within.{from, from-member}
 use Rattle.laws.specs.Rows.{from-length}
 use Rattle.laws.specs.Totals.{totalOf, total-last, triangle, triangle-mono, square}
 use Rattle.net_model.specs.Network.{nodes, arcs}
-use Rattle.book_lines.specs.declared.moves.Move.{Move}
 use Rattle.book_form.specs.Book.{Book}
 use Rattle.book_form.specs.WithinLimits.{WithinLimits}
-use Rattle.way_theory.specs.Follow.{size, entryAt, road, arrival, inTime, mayFollow}
+use Rattle.way_theory.specs.Follow.{size, entryAt, followCost}
 use Rattle.way_theory.specs.Ways.{given?, permits, oneIf}
 use Rattle.way_theory.specs.FullWays.{numbers}
 use Rattle.way_theory.specs.BookNet.{down, sources, joinArc, joinArcs, bookNet}
 use Rattle.way_theory.proofs.Fair.{fair-entry}
+use Rattle.way_theory.proofs.Spare.{follow-given, follow-time}
 use Rattle.way_theory.proofs.Nodes.{count-arcs, arcs-parts, nodes-count}
-
--- who follows does not start earlier than the other ends
-in-time : (m : Option Move) (finish start : ℕ) → given? (inTime m finish start) ≡ true → finish ≤ start
-in-time none finish start e = absurd (let z : _≡_ {A = ℕ} 0 1 = cc in omega arith)
-in-time (some m) finish start e = go (leb (arrival m finish) start) refl e
-  where
-    go : (t : Bool) → leb (arrival m finish) start ≡ t → given? (cond t (some (m .cost)) none) ≡ true → finish ≤ start
-    go true q e = let h = leb-true (arrival m finish) start q in omega arith
-    go false q e = absurd (let z : _≡_ {A = ℕ} 0 1 = cc in omega arith)
-
-pub follow-time : (book : Book) (i j : ℕ) → given? (mayFollow book i j) ≡ true → entryAt book i .finish ≤ entryAt book j .start
-follow-time book i j h = in-time (road book i j) (entryAt book i .finish) (entryAt book j .start) h
 
 keep-count : (p : ℕ → Bool) (n : ℕ) → length (keep p (down n)) ≡ oneIf (p 0) + totalOf (λ i. oneIf (p i)) (from n 1)
 keep-count p zero = go (p 0)
@@ -65,7 +50,9 @@ module _ (book : Book) where
     one-way zero j m n = let b = from-member (size book) 1 0 m in absurd (omega arith)
     one-way (suc i) zero m n = let b = from-member (size book) 1 0 n in absurd (omega arith)
     one-way (suc i) (suc j) m n =
-        go (given? (mayFollow book (suc i) (suc j))) (given? (mayFollow book (suc j) (suc i))) (follow-time book (suc i) (suc j)) (follow-time book (suc j) (suc i))
+        go (given? (followCost book (suc i) (suc j))) (given? (followCost book (suc j) (suc i)))
+        (λ e. follow-time book (suc i) (suc j) (sym (follow-given book (suc i) (suc j)) ∙ e))
+        (λ e. follow-time book (suc j) (suc i) (sym (follow-given book (suc j) (suc i)) ∙ e))
       where
         go : (t u : Bool) → (t ≡ true → entryAt book (suc i) .finish ≤ entryAt book (suc j) .start) → (u ≡ true → entryAt book (suc j) .finish ≤ entryAt book (suc i) .start) → oneIf t + oneIf u ≤ 1
         go true true f g =

@@ -1,10 +1,14 @@
 -- Document 01, "The book": who may follow whom, and at what cost.
-use mathlib.Core.Bool.{cond}
+use mathlib.Core.Bool.{Bool, false, cond}
 use mathlib.Core.Option.{Option, none, some}
 use mathlib.Core.List.{List}
-use Prim.Native.Nat.{ℕ, _+_, _-_}
-use lib.Dec.{eqb, leb}
+use Prim.Native.Nat.{ℕ, _-_}
+use lib.Dec.{eqb}
 use lib.ListN.{length, getD}
+use lib.IntN.{ℤ, pos, _-ℤ_}
+use lib.Signed.{leZ}
+use Rattle.laws.specs.Parts.{plus}
+use Rattle.laws.specs.Image.{mapOption}
 use Rattle.book_lines.specs.declared.moves.Move.{Move}
 use Rattle.book_lines.specs.Lines.{Entry}
 use Rattle.book_lines.specs.Questions.{moveOf}
@@ -44,15 +48,35 @@ link moves a b = lineOr (moveOf moves a b) (withoutLine a b)
 abbrev pub road : Book → ℕ → ℕ → Option Move
 road book i j = cond (eqb i j) none (link (book .moves) (entryAt book i .leaves) (entryAt book j .arrives))
 
--- when a player is there who goes at the tick `finish`: "F of i + T"
-abbrev pub arrival : Move → ℕ → ℕ
-arrival m finish = finish + m .ticks
+-- 02, request 7: "Asked whether entry j may follow entry i, that test now gives the signed spare: S of j less F of i and less the ticks of the
+-- move."
+abbrev pub spareWith : ℕ → ℕ → ℕ → ℤ
+spareWith ticks finish start = (pos start -ℤ pos finish) -ℤ pos ticks
 
--- the cost, if there is time to go
-abbrev pub inTime : Option Move → ℕ → ℕ → Option ℕ
-inTime none finish start = none
-inTime (some m) finish start = cond (leb (arrival m finish) start) (some (m .cost)) none
+-- "A missing move has an answer of its own, which is also given for an entry against itself."
+abbrev pub spareBy : Option Move → ℕ → ℕ → Option ℤ
+spareBy none finish start = none
+spareBy (some m) finish start = some (spareWith (m .ticks) finish start)
 
--- the cost of the join from i to j, if j may follow i
-abbrev pub mayFollow : Book → ℕ → ℕ → Option ℕ
-mayFollow book i j = inTime (road book i j) (entryAt book i .finish) (entryAt book j .start)
+abbrev pub spare : Book → ℕ → ℕ → Option ℤ
+spare book i j = spareBy (road book i j) (entryAt book i .finish) (entryAt book j .start)
+
+-- "Spare 0 or more means that j may follow."
+abbrev pub enough : Option ℤ → Bool
+enough none = false
+enough (some z) = leZ (pos 0) z
+
+abbrev pub mayFollow : Book → ℕ → ℕ → Bool
+mayFollow book i j = enough (spare book i j)
+
+-- a spare of 0 or more as a number of ticks
+abbrev pub ticksIn : Option ℤ → ℕ
+ticksIn none = 0
+ticksIn (some z) = plus z
+
+abbrev pub spareTicks : Book → ℕ → ℕ → ℕ
+spareTicks book i j = ticksIn (spare book i j)
+
+-- "at cost 0 .. at cost C": what the join from i to j costs, if j may follow i
+abbrev pub followCost : Book → ℕ → ℕ → Option ℕ
+followCost book i j = cond (mayFollow book i j) (mapOption (λ (m : Move). m .cost) (road book i j)) none

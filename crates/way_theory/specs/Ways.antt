@@ -8,7 +8,7 @@ use Prim.Native.Nat.{ℕ, zero, suc, _+_, _*_, _≤_}
 use lib.Dec.{eqb}
 use lib.ListN.{length}
 use Rattle.book_form.specs.Book.{Book}
-use Rattle.way_theory.specs.Follow.{size, mayFollow}
+use Rattle.way_theory.specs.Follow.{size, followCost}
 
 abbrev pub given? : Option ℕ → Bool
 given? none = false
@@ -21,7 +21,7 @@ orNone (some c) = c
 -- what predecessor i of entry j costs, if j may have it: the fee for 0, which opens a part
 abbrev pub predecessorCost : Book → ℕ → ℕ → Option ℕ
 predecessorCost book zero j = some (book .fee)
-predecessorCost book (suc i) j = mayFollow book (suc i) j
+predecessorCost book (suc i) j = followCost book (suc i) j
 
 abbrev pub permits : Book → ℕ → ℕ → Bool
 permits book i j = given? (predecessorCost book i j)
@@ -52,7 +52,7 @@ pub record IsWay (book : Book) (w : List ℕ) : Type 0 where
 abbrev pub joinsCost : Book → ℕ → List ℕ → ℕ
 joinsCost book j [] = 0
 joinsCost book j (zero ∷ w) = joinsCost book (suc j) w
-joinsCost book j (suc i ∷ w) = orNone (mayFollow book (suc i) j) + joinsCost book (suc j) w
+joinsCost book j (suc i ∷ w) = orNone (followCost book (suc i) j) + joinsCost book (suc j) w
 
 -- "The cost is fee × openings plus the joins."
 abbrev pub wayCost : Book → List ℕ → ℕ

@@ -16,14 +16,19 @@ returns c =
     let x = c .before .before .before .before .args in
     e ∙ refused-first (x .book .now) (x .entry) (λ z. c .if1 .taken (e ∙ z))
 
+-- places, seen from question 19
+abbrev checked : tie.After-is-entry → tie.After-check
+checked c = c .before .before .before .before
+
 returns-2 : tie.Need-returns-2
-returns-2 c = not-refused _ _ _ (c .before .before .before .before .before .check .ensures) (c .if2 .taken)
+returns-2 c = let asked = c .before in not-refused _ _ _ (checked asked .check .ensures) (sym (asked .is-entry .ensures) ∙ c .if2 .taken)
 
 returns-3 : tie.Need-returns-3
 returns-3 c =
-    let t = c .before .before .before in
-    refused-outside _ _ _ (t .before .before .check .ensures) (sym (number (t .before)) ∙ t .if1 .left) (c .if2 .left)
+    let asked = c .before in
+    let passed = asked .before .before in
+    refused-outside _ _ _ (checked asked .check .ensures) (sym (number (passed .before)) ∙ passed .if1 .left) (sym (asked .is-entry .ensures) ∙ c .if2 .left)
 
 pub name-refusal-spec : {M : Type 1} → statement M
 name-refusal-spec =
-    tie.close (tie.spec (λ c κs. search needs) (λ c κs. search needs) returns returns-2 returns-3)
+    tie.close (tie.spec (λ c κs. search needs) (λ c κs. search needs) returns (λ c κs. search needs) returns-2 returns-3)

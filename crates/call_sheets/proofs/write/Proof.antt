@@ -91,7 +91,7 @@ put-sheets-requires c κs =
     has-sheets _ _ (put asked .admit-book .ensures) (passed .if1 .left) (entry asked .args .given .now) (entry asked .args .text .now) (given there) _ (room .room-of .ensures .0) (fits .if3 .left) _ (taken read)
 
 -- what was written
-wrote : (c : tie.After-put-sheets) → c .put-sheets .result ≤ 1988
+wrote : (c : tie.After-put-sheets) → c .put-sheets .result ≤ 2212
 wrote c =
     let passed : tie.Else1 = search in
     let asked : tie.After-is-given = search in

@@ -9,14 +9,14 @@ put-lead-requires : tie.Need-put-lead-requires
 put-lead-requires c κs =
     let start : tie.Start = search in
     let a = start .args in
-    (start .pre .0, room-first (lead (a .n) (a .i) (a .gap)) (playLine (a .name .now) (a .start) (a .finish)) _ _ (start .pre .1))
+    (start .pre .0, room-first (lead (a .n) (a .i) (a .gap) (a .spare)) (playLine (a .name .now) (a .start) (a .finish)) _ _ (start .pre .1))
 
 put-play-line-requires : tie.Need-put-play-line-requires
 put-play-line-requires c κs =
     let start : tie.Start = search in
     let led : tie.After-put-lead = search in
     let a = start .args in
-    room-next (lead (a .n) (a .i) (a .gap)) (playLine (a .name .now) (a .start) (a .finish)) (start .pre .1) (led .put-lead .ensures)
+    room-next (lead (a .n) (a .i) (a .gap) (a .spare)) (playLine (a .name .now) (a .start) (a .finish)) (start .pre .1) (led .put-lead .ensures)
 
 returns : tie.Need-returns
 returns c =

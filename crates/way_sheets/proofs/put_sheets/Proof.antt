@@ -2,16 +2,17 @@
 use Prim.Native.Nat.{_+_, _-_, _≤_}
 use native.Mathlib.Omega.{arith}
 use lib.ListN.{length, getD}
+use borrow.Author.Needs.{needs}
 use Rattle.laws.specs.Appended.{appended-long}
-use Rattle.way_sheets.proofs.Turn.{Puts, put-none, begun-few, acyclic, entry-inside, predecessor-inside, name-inside, put-room, put-more, last-room, put-all, written}
+use Rattle.way_sheets.proofs.Turn.{Puts, put-none, begun-few, acyclic, has-timing, count-is, entry-inside, predecessor-inside, name-inside, put-room, put-more, last-room, put-all, written}
 use Rattle.way_sheets.proofs.put_sheets.Statement.{statement}
 use Rattle.way_sheets.proofs.put_sheets.Tie as tie
 
 abbrev Inv-loop : tie.InvT-loop
-Inv-loop text way out₀ order starts finishes names lengths at₀ n₀ k₀ k-end out at n k = Puts text way out₀ out at n k
+Inv-loop text way out₀ order e ticks arrives leaves starts finishes names lengths at₀ n₀ k₀ k-end out at n k = Puts text way out₀ out at n k
 
 abbrev μ-loop : tie.MeasureT-loop
-μ-loop text way out₀ order starts finishes names lengths at₀ n₀ k₀ k-end out at n k = length way - k
+μ-loop text way out₀ order e ticks arrives leaves starts finishes names lengths at₀ n₀ k₀ k-end out at n k = length way - k
 
 playing-order-requires : tie.Need-playing-order-requires Inv-loop μ-loop
 playing-order-requires c κs = let start : tie.Start Inv-loop μ-loop = search in acyclic _ _ _ _ (start .pre)
@@ -86,6 +87,16 @@ gap-to-requires c κs =
     let turn : tie.In-loop Inv-loop μ-loop = search in
     omega (arith, inside turn, predecessor-inside _ _ _ _ (begin turn .pre) _ (ordered turn .playing-order .ensures) _ (turn .loop-test .taken))
 
+add-spare-to : tie.Need-add-spare-to Inv-loop μ-loop
+add-spare-to c = let turn : tie.In-loop Inv-loop μ-loop = search in omega (arith, inside turn)
+
+spare-to-requires : tie.Need-spare-to-requires Inv-loop μ-loop
+spare-to-requires c κs =
+    let turn : tie.In-loop Inv-loop μ-loop = search in
+    let p = begin turn .pre in
+    let i = predecessor-inside _ _ _ _ p _ (ordered turn .playing-order .ensures) _ (turn .loop-test .taken) in
+    (has-timing _ _ _ _ p, omega (arith, i, count-is _ _ _ _ p), omega arith, omega (arith, inside turn, count-is _ _ _ _ p))
+
 sub-put-entry : tie.Need-sub-put-entry Inv-loop μ-loop
 sub-put-entry c = omega arith
 
@@ -109,8 +120,9 @@ put-entry-requires : tie.Need-put-entry-requires Inv-loop μ-loop
 put-entry-requires c κs =
     let turn : tie.In-loop Inv-loop μ-loop = search in
     let gap : tie.After-gap-to Inv-loop μ-loop = search in
+    let spare : tie.After-spare-to Inv-loop μ-loop = search in
     let d = turn .before .loop .inv in
-    (few turn, put-room _ _ _ _ (begin turn .pre) _ (ordered turn .playing-order .ensures) _ (turn .loop-test .taken) _ (gap .gap-to .ensures) d (omega arith))
+    (few turn, put-room _ _ _ _ (begin turn .pre) _ (ordered turn .playing-order .ensures) _ (turn .loop-test .taken) _ (gap .gap-to .ensures) _ (spare .spare-to .ensures) d (omega arith))
 
 begun-requires : tie.Need-begun-requires Inv-loop μ-loop
 begun-requires c κs = let turn : tie.In-loop Inv-loop μ-loop = search in few turn
@@ -129,8 +141,9 @@ loop-again : tie.Need-loop-again Inv-loop μ-loop
 loop-again c =
     let turn : tie.In-loop Inv-loop μ-loop = search in
     let gap : tie.After-gap-to Inv-loop μ-loop = search in
+    let spare : tie.After-spare-to Inv-loop μ-loop = search in
     let entered : tie.After-put-entry Inv-loop μ-loop = search in
-    put-more _ _ _ _ (begin turn .pre) _ (ordered turn .playing-order .ensures) _ (turn .loop-test .taken) _ (gap .gap-to .ensures) (turn .before .loop .inv)
+    put-more _ _ _ _ (begin turn .pre) _ (ordered turn .playing-order .ensures) _ (turn .loop-test .taken) _ (gap .gap-to .ensures) _ (spare .spare-to .ensures) (turn .before .loop .inv)
     (entered .put-entry .ensures) (c .begun .ensures)
 
 put-closing-requires : tie.Need-put-closing-requires Inv-loop μ-loop
@@ -172,6 +185,13 @@ put-sheets-spec =
     mul-to
     array-read-to
     add-to
+    (λ c. search needs)
+    (λ c. search needs)
+    (λ c. search needs)
+    (λ c. search needs)
+    (λ c. search needs)
+    add-spare-to
+    spare-to-requires
     gap-to-requires
     sub-put-entry
     part-put-entry-start

@@ -1,0 +1,2 @@
+mod Sparing
+mod SpareExamples
