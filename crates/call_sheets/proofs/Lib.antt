@@ -1,2 +1,3 @@
+mod Measuring
 mod Sheeting
 mod SheetExamples

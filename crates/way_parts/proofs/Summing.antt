@@ -31,7 +31,7 @@ total-less φ χ (a ∷ l) b h (inl q) s =
 total-less φ χ (a ∷ l) b h (inr m) s = let k = total-less φ χ l b (λ c n. h c (inr n)) m s in let e = h a (inl refl) in omega arith
 
 -- over lists put together
-total-append : (φ : ℕ → ℕ) (l k : List ℕ) → totalOf φ (l ++ k) ≡ totalOf φ l + totalOf φ k
+pub total-append : (φ : ℕ → ℕ) (l k : List ℕ) → totalOf φ (l ++ k) ≡ totalOf φ l + totalOf φ k
 total-append φ [] k = omega arith
 total-append φ (a ∷ l) k = let h = total-append φ l k in omega arith
 
