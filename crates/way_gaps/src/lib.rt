@@ -84,8 +84,9 @@ pub fn join_ticks(book: CheckedBook, way: &[u32]) -> JoinTicks
     let mut spares = [0u32; 28];
     for k in 0..way.len() {
         let i = way[k];
+        let start = starts[k];
         spares[k] = spare_to(e, &ticks, &arrives, &leaves, &starts, &finishes, i, k + 1);
-        gaps[k] = gap_to(&finishes, i, starts[k]);
+        gaps[k] = gap_to(&finishes, i, start);
     }
     JoinTicks {
         gaps: gaps,

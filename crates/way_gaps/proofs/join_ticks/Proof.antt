@@ -31,6 +31,12 @@ mul-i c = omega (arith, inside c)
 shared-slice-read-i : tie.Need-shared-slice-read-i Inv-loop μ-loop
 shared-slice-read-i c = c .before .loop-test .taken
 
+mul-start : tie.Need-mul-start Inv-loop μ-loop
+mul-start c = let turn : tie.In-loop Inv-loop μ-loop = search in omega (arith, inside turn)
+
+array-read-start : tie.Need-array-read-start Inv-loop μ-loop
+array-read-start c = let turn : tie.In-loop Inv-loop μ-loop = search in omega (arith, inside turn)
+
 add-spare-to : tie.Need-add-spare-to Inv-loop μ-loop
 add-spare-to c = let turn : tie.In-loop Inv-loop μ-loop = search in omega (arith, inside turn)
 
@@ -46,12 +52,6 @@ mul-spares c = let turn : tie.In-loop Inv-loop μ-loop = search in omega (arith,
 
 array-write-spares : tie.Need-array-write-spares Inv-loop μ-loop
 array-write-spares c = let turn : tie.In-loop Inv-loop μ-loop = search in omega (arith, inside turn)
-
-mul-gap-to : tie.Need-mul-gap-to Inv-loop μ-loop
-mul-gap-to c = let turn : tie.In-loop Inv-loop μ-loop = search in omega (arith, inside turn)
-
-array-read-gap-to : tie.Need-array-read-gap-to Inv-loop μ-loop
-array-read-gap-to c = let turn : tie.In-loop Inv-loop μ-loop = search in omega (arith, inside turn)
 
 gap-to-requires : tie.Need-gap-to-requires Inv-loop μ-loop
 gap-to-requires c κs =
@@ -92,6 +92,8 @@ join-ticks-spec =
     loop-holds
     mul-i
     shared-slice-read-i
+    mul-start
+    array-read-start
     (λ c. search needs)
     (λ c. search needs)
     (λ c. search needs)
@@ -101,8 +103,6 @@ join-ticks-spec =
     spare-to-requires
     mul-spares
     array-write-spares
-    mul-gap-to
-    array-read-gap-to
     gap-to-requires
     mul-gaps
     array-write-gaps
