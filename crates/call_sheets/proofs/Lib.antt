@@ -1,3 +1,3 @@
-mod Measuring
+mod Choosing
 mod Sheeting
 mod SheetExamples

@@ -1,2 +1,2 @@
 pub mod SheetCalls
-pub mod Measuring
+pub mod Choosing

@@ -10,7 +10,7 @@ ghost use lib.ListN.{length};
 ghost use Rattle.text_read.specs.Heads.{lineEnd};
 ghost use Rattle.way_sheets.specs.Lines.{partLine, gapLine};
 ghost use Rattle.way_sheets.specs.EntrySize.{playSize, leadSize};
-ghost use Rattle.way_sheet_sizes.specs.Sizing.{HasSize, IsSizeOf};
+ghost use Rattle.way_sheet_sizes.specs.Sizing.{HasSize, IsSizeOf, FitsIn};
 
 // The first line of a part whose number has one digit, and its last line.
 fn part_size() -> usize
@@ -60,4 +60,15 @@ pub fn size_of(book: CheckedBook, way: &[u32], ticks: JoinTicks) -> usize
         sum += lead + play_line_size(lengths[k], starts[k], finishes[k]);
     }
     sum
+}
+
+// Whether the sheets have room in so many bytes. 79 bytes an entry always are enough, so a long list takes no sum.
+pub fn fits_in(book: CheckedBook, way: &[u32], ticks: JoinTicks, bytes: usize) -> bool
+    requires { ⌜ HasSize book (now way) ticks ⌝ }
+    ensures { λ r. ⌜ FitsIn book (now (way .entry)) ticks bytes r ⌝ }
+{
+    if 79 * way.len() <= bytes {
+        return true;
+    }
+    size_of(book, way, ticks) <= bytes
 }

@@ -9,15 +9,15 @@ use Rattle.bytes_read.specs.Words.{words}
 use Rattle.way_theory.specs.FullWays.{fullWays}
 use Rattle.call_reply.specs.ByteLists.{listed}
 use Rattle.call_way_bytes.proofs.Admitting.{Admitted}
-use Rattle.call_sheets.proofs.Measuring.{refused, gone, held, strange, way-read, inside, has-way, has-size, measured}
-use Rattle.call_sheets.proofs.measure.Statement.{statement}
-use Rattle.call_sheets.proofs.measure.Tie as tie
+use Rattle.call_sheets.proofs.Choosing.{refused, gone, held, strange, way-read, inside, has-way, chosen}
+use Rattle.call_sheets.proofs.choose.Statement.{statement}
+use Rattle.call_sheets.proofs.choose.Tie as tie
 
 returns : tie.Need-returns
 returns c =
     let put : tie.After-admit-book = search in
     let failed : tie.Then1 = search in
-    refused _ _ _ (put .admit-book .ensures) (failed .if1 .taken) _ (c .unmeasured .ensures .0) (c .unmeasured .ensures .1)
+    refused _ _ _ (put .admit-book .ensures) (failed .if1 .taken) _ (c .refused-way .ensures .0) (c .refused-way .ensures .1)
 
 -- places, seen from question 18
 abbrev entry : tie.After-is-given → tie.Start
@@ -48,8 +48,8 @@ returns-2 : tie.Need-returns-2
 returns-2 c =
     let asked : tie.After-is-given = search in
     let failed : tie.Then2 = search in
-    strange _ _ _ (put asked .admit-book .ensures) (passed asked .if1 .left) (sym (found asked) ∙ not-true (asked .is-given .result) (failed .if2 .taken)) _ (c .unmeasured2 .ensures .0)
-    (c .unmeasured2 .ensures .1)
+    strange _ _ _ (put asked .admit-book .ensures) (passed asked .if1 .left) (sym (found asked) ∙ not-true (asked .is-given .result) (failed .if2 .taken)) _ (c .refused-way2 .ensures .0)
+    (c .refused-way2 .ensures .1)
 
 -- the given list is a way of the full list
 given : (c : tie.Else2) → let asked : tie.After-is-given = search in listed (entry asked .args .given .now) (fullWays (past asked .book)) ≡ true
@@ -80,30 +80,15 @@ join-ticks-requires c κs =
     let read : tie.After-read-words = search in
     has-way _ _ _ (put asked .admit-book .ensures) (passed asked .if1 .left) (given there) _ (taken read)
 
-array-share-prefix-way-2 : tie.Need-array-share-prefix-way-2
-array-share-prefix-way-2 c = let read : tie.After-read-words = search in within read
-
-slice-aggregate-size-of : tie.Need-slice-aggregate-size-of
-slice-aggregate-size-of c = let read : tie.After-read-words = search in sym (length-take-le _ (read .read-words .result) (within read))
-
-size-of-requires : tie.Need-size-of-requires
-size-of-requires c κs =
-    let asked : tie.After-is-given = search in
-    let there : tie.Else2 = search in
-    let read : tie.After-read-words = search in
-    let told : tie.After-join-ticks = search in
-    has-size _ _ _ (put asked .admit-book .ensures) (passed asked .if1 .left) (given there) _ (taken read) _ (told .join-ticks .ensures)
-
 returns-3 : tie.Need-returns-3
 returns-3 c =
     let asked : tie.After-is-given = search in
     let there : tie.Else2 = search in
     let read : tie.After-read-words = search in
-    let told : tie.After-join-ticks = search in
-    measured _ _ _ (put asked .admit-book .ensures) (passed asked .if1 .left) (given there) _ (taken read) _ (told .join-ticks .ensures) _ (read .read-words .ensures) _ (c .size-of .ensures)
+    chosen _ _ _ (put asked .admit-book .ensures) (passed asked .if1 .left) (given there) _ (taken read) _ (c .join-ticks .ensures) _ (read .read-words .ensures)
 
-pub measure-spec : {M : Type 1} → statement M
-measure-spec =
+pub choose-spec : {M : Type 1} → statement M
+choose-spec =
     tie.close
     (tie.spec
     (λ c κs. search needs)
@@ -116,7 +101,4 @@ measure-spec =
     array-share-prefix-way
     slice-aggregate-join-ticks
     join-ticks-requires
-    array-share-prefix-way-2
-    slice-aggregate-size-of
-    size-of-requires
     returns-3)

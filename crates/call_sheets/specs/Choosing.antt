@@ -5,19 +5,17 @@ use Prim.Native.Nat.{ℕ, _≤_}
 use lib.ListN.{length, take}
 use Rattle.bytes_read.specs.Words.{words}
 use Rattle.book_form.specs.LineTold.{lineTold}
-use Rattle.way_sheets.specs.Sheets.{sheets}
 use Rattle.way_sheets.specs.Writing.{HasSheets}
-use Rattle.call_sheets.specs.declared.Measured.{Measured}
+use Rattle.call_sheets.specs.declared.Chosen.{Chosen}
 use Rattle.call_sheets.specs.SheetCalls.{roomQuestion}
 
 -- past questions 11 to 16 and 18
-pub record MeasuredWay (s g : List ℕ) (r : Measured) : Type 0 where
+pub record ChosenWay (s g : List ℕ) (r : Chosen) : Type 0 where
   pub has : HasSheets s (r .book) (words g) (r .ticks)
   pub way-is : take (r .book .count) (r .way) ≡ words g
   pub inside : r .book .count ≤ length (r .way)
-  pub size-is : r .size ≡ length (sheets (has .book) (words g))
 
-pub record Measures (s g : List ℕ) (r : Measured) : Type 0 where
+pub record Chooses (s g : List ℕ) (r : Chosen) : Type 0 where
   pub number-is : r .number ≡ roomQuestion s g
   pub line-is : r .line ≡ lineTold s (r .number)
-  pub passed : r .number ≡ 0 → MeasuredWay s g r
+  pub passed : r .number ≡ 0 → ChosenWay s g r

@@ -1,4 +1,4 @@
--- From the steps of `measure` to what it ensures.
+-- From the steps of `choose` to what it ensures.
 use mathlib.Core.Path.{_≡_, refl, sym, ap, subst, _∙_}
 use mathlib.Core.Bool.{true, false}
 use mathlib.Core.List.{List}
@@ -12,7 +12,6 @@ use Rattle.book_form.specs.Checked.{checkedOf}
 use Rattle.book_form.specs.LineTold.{lineTold}
 use Rattle.book_form.specs.declared.CheckedBook.{CheckedBook}
 use Rattle.book_form.proofs.LineTold.{untold}
-use Rattle.way_theory.specs.Follow.{size}
 use Rattle.way_theory.specs.Ways.{LeastCostWay}
 use Rattle.way_theory.specs.FullWays.{fullWays}
 use Rattle.way_theory.specs.BookBytes.{waysIn, ways}
@@ -20,9 +19,7 @@ use Rattle.way_joins.specs.Tables.{timingIn, TimingOf}
 use Rattle.way_joins.proofs.Counts.{checked-timing}
 use Rattle.way_network.specs.Held.{Held}
 use Rattle.way_gaps.specs.declared.JoinTicks.{JoinTicks}
-use Rattle.way_gaps.specs.Gaps.{HasWay, TellsTicks}
-use Rattle.way_sheets.specs.Writing.{HasSheets}
-use Rattle.way_sheet_sizes.specs.Sizing.{HasSize, IsSizeOf}
+use Rattle.way_gaps.specs.Gaps.{JoinTicksOf, HasWay, TellsTicks}
 use Rattle.call_reply.specs.ByteLists.{listed}
 use Rattle.call_reply.proofs.Turns.{fails-first}
 use Rattle.call_way_bytes.specs.WaySteps.{AdmitsBook}
@@ -30,12 +27,12 @@ use Rattle.call_way_bytes.specs.declared.AdmittedBook.{AdmittedBook}
 use Rattle.call_way_bytes.proofs.Admitting.{Admitted, admitted-held, admitted}
 use Rattle.call_way_bytes.proofs.WayItems.{listed-way}
 use Rattle.call_way_bytes.proofs.GivenWays.{few, read-given}
-use Rattle.call_sheets.specs.declared.Measured.{Measured}
-use Rattle.call_sheets.specs.Measuring.{Measures}
+use Rattle.call_sheets.specs.declared.Chosen.{Chosen}
+use Rattle.call_sheets.specs.Choosing.{Chooses}
 
 module _ (s g : List ℕ) (a : AdmittedBook) (h : AdmitsBook s a) where
   -- a book that fails one of questions 11 to 16
-  pub refused : ¬ (a .number ≡ 0) → (r : Measured) → r .number ≡ a .number → r .line ≡ a .line → Measures s g r
+  pub refused : ¬ (a .number ≡ 0) → (r : Chosen) → r .number ≡ a .number → r .line ≡ a .line → Chooses s g r
   refused n r p q =
       record {
         number-is = p ∙ fails-first (bookRefusal s) _ (a .number) (h .number-is) n;
@@ -54,7 +51,7 @@ module _ (s g : List ℕ) (a : AdmittedBook) (h : AdmitsBook s a) where
     is-checked = h .book-is ∙ rw (gone .ok, gone .is) refl
 
     -- a list that is no least-cost way
-    pub strange : listed g (fullWays (gone .book)) ≡ false → (r : Measured) → r .number ≡ 18 → r .line ≡ 0 → Measures s g r
+    pub strange : listed g (fullWays (gone .book)) ≡ false → (r : Chosen) → r .number ≡ 18 → r .line ≡ 0 → Chooses s g r
     strange off r p q =
         let no : listed g (ways s) ≡ false = ap (λ o. listed g (waysIn o)) (gone .is) ∙ off in
         record {
@@ -84,32 +81,23 @@ module _ (s g : List ℕ) (a : AdmittedBook) (h : AdmitsBook s a) where
         pub has-way : HasWay (timingIn (a .book)) w
         has-way = record { book = gone .book; timing = timing-of; way = rw same (least .way) }
 
-        module _ (x : JoinTicks) (told : TellsTicks (timingIn (a .book)) w x) where
-          has-sheets : HasSheets s (a .book) w x
-          has-sheets = record {
-            book = gone .book;
-            holds = gone .is;
-            limits = gone .holds .limits;
-            is = is-checked;
-            way = rw same (least .way);
-            ticks = told .each (gone .book) timing-of;
-          }
-
-          pub has-size : HasSize (a .book) w x
-          has-size = record { text = s; has = has-sheets }
-
-          pub measured : (v : List ℕ) → v ≡ padded 512 0 (take 512 (words g)) → (n : ℕ) → IsSizeOf (a .book) w x n
-              → Measures s g (record { number = 0; line = 0; book = a .book; way = v; ticks = x; size = n })
-          measured v q n sized =
-              let given : listed g (ways s) ≡ true = ap (λ o. listed g (waysIn o)) (gone .is) ∙ on in
-              let has : HasSheets s (a .book) (words g) x = subst (λ y. HasSheets s (a .book) y x) same has-sheets in
-              record {
-                number-is = sym (rw (gone .ok, given) refl);
-                line-is = sym (untold s 0 (λ b. refl));
-                passed = λ e. record {
-                  has = has;
-                  way-is = way-read v q;
-                  inside = inside v q;
-                  size-is = subst (λ y. IsSizeOf (a .book) y x n) same sized .each s has;
+        pub chosen : (x : JoinTicks) → TellsTicks (timingIn (a .book)) w x → (v : List ℕ) → v ≡ padded 512 0 (take 512 (words g))
+            → Chooses s g (record { number = 0; line = 0; book = a .book; way = v; ticks = x })
+        chosen x told v q =
+            let given : listed g (ways s) ≡ true = ap (λ o. listed g (waysIn o)) (gone .is) ∙ on in
+            record {
+              number-is = sym (rw (gone .ok, given) refl);
+              line-is = sym (untold s 0 (λ b. refl));
+              passed = λ e. record {
+                has = record {
+                  book = gone .book;
+                  holds = gone .is;
+                  limits = gone .holds .limits;
+                  is = is-checked;
+                  way = least .way;
+                  ticks = subst (λ y. JoinTicksOf (gone .book) y x) same (told .each (gone .book) timing-of);
                 };
-              }
+                way-is = way-read v q;
+                inside = inside v q;
+              };
+            }
