@@ -183,7 +183,7 @@ class Sheets(unittest.TestCase):
             least = 0 if len(way) <= 3 else size - 40
             for lent in range(least, size): self.refused(book, given, FILL[:lent], 21)
             for lent in (0, 1, size // 2): self.refused(book, given, FILL[:lent], 21)
-            for lent in [*range(size, size + 41), 79 * len(way), 79 * len(way) + 1, SHEETS_ROOM]:
+            for lent in [*range(size, size + 41), 79 * len(way) - 1, 79 * len(way), 79 * len(way) + 1, SHEETS_ROOM]:
                 self.assertEqual(self.desk.sheets(book, given, FILL[:lent]), ((OK, size), [text + FILL[size:lent]]), (book, lent))
 
     def test_always_enough(self):

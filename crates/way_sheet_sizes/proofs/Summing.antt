@@ -6,12 +6,11 @@ use native.Mathlib.Omega.{arith}
 use native.Mathlib.Numerals.{add-one}
 use lib.ListN.{length, getD}
 use Rattle.laws.specs.Within.{from, from-member}
-use Rattle.laws.specs.Totals.{totalOf, total-last}
+use Rattle.laws.specs.Totals.{totalOf, total-equal, total-last}
 use Rattle.book_form.specs.declared.CheckedBook.{CheckedBook}
 use Rattle.book_form.proofs.Names.{names-short}
 use Rattle.way_theory.specs.Follow.{size, entryAt}
 use Rattle.way_theory.specs.FullWays.{numbers}
-use Rattle.way_parts.proofs.Summing.{total-equal}
 use Rattle.way_gaps.specs.declared.JoinTicks.{JoinTicks}
 use Rattle.way_gaps.proofs.Filling.{gap-at, spare-at}
 use Rattle.way_sheets.specs.Writing.{HasSheets}

@@ -1,16 +1,13 @@
 -- "the sheets of any of its ways take at most" 79 "bytes for each entry".
-use mathlib.Core.Path.{_≡_, refl}
-use mathlib.Core.Logic.{inl, inr}
+use mathlib.Core.Path.{_≡_}
 use mathlib.Core.Option.{some}
-use mathlib.Core.List.{List, [], _∷_, _++_}
+use mathlib.Core.List.{List, _++_}
 use Prim.Native.Nat.{ℕ, zero, suc, _*_, _-_, _≤_, _<_}
 use native.Mathlib.Omega.{arith}
-use native.Mathlib.Nat.{mul-suc}
 use lib.ListN.{length, length-append}
-use Rattle.laws.specs.Members.{_∈_}
 use Rattle.laws.specs.Within.{from-member}
 use Rattle.laws.specs.Rows.{from-length}
-use Rattle.laws.specs.Totals.{totalOf}
+use Rattle.laws.specs.Totals.{total-most}
 use Rattle.text_read.specs.Heads.{bytes, space, lineEnd, nameEnd, partHead, gapHead, newline}
 use Rattle.text_write.specs.Decimal.{decimal}
 use Rattle.text_write.proofs.Decimal.{decimal-size, row-size}
@@ -86,11 +83,6 @@ entry-most book w j ok =
     let g : gapTo book i j < 1000000 = omega (arith, gap-small book i j, ok .begins) in
     let r : spareTo book i j < 1000000 = omega (arith, spare-small book i j, ok .begins) in
     omega (arith, lead-most i (gapTo book i j) (spareTo book i j) g r, play-most (entryAt book j) ok)
-
--- at most b for each of a list
-total-most : (φ : ℕ → ℕ) (b : ℕ) (l : List ℕ) → ((a : ℕ) → a ∈ l → φ a ≤ b) → totalOf φ l ≤ b * length l
-total-most φ b [] h = omega arith
-total-most φ b (a ∷ l) h = omega (arith, h a (inl refl), total-most φ b l (λ c m. h c (inr m)), mul-suc b (length l))
 
 -- the entries of a book that the bytes s hold
 small-entries : (s : List ℕ) (book : Book) → parse s ≡ some book → WithinLimits book → (j : ℕ) → 1 ≤ j → j ≤ size book → Small (entryAt book j)

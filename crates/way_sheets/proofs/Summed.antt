@@ -6,7 +6,7 @@ use Prim.Native.Nat.{ℕ, zero, suc, _+_, _≤_, _<_}
 use native.Mathlib.Omega.{arith}
 use lib.ListN.{length, length-append}
 use Rattle.laws.specs.Members.{_∈_, Every, append-left, append-right}
-use Rattle.laws.specs.Totals.{totalOf}
+use Rattle.laws.specs.Totals.{totalOf, total-append}
 use Rattle.text_read.specs.Heads.{bytes, space, lineEnd, nameEnd, playHead, partHead, newline}
 use Rattle.text_write.specs.Decimal.{decimal}
 use Rattle.text_write.proofs.Decimal.{decimal-one}
@@ -16,7 +16,6 @@ use Rattle.way_theory.specs.Follow.{spareTicks}
 use Rattle.way_theory.specs.Ways.{IsWay}
 use Rattle.way_theory.specs.FullWays.{numbers}
 use Rattle.way_parts.specs.Parts.{predecessor, parts, playingOrder, Linked, IsPart}
-use Rattle.way_parts.proofs.Summing.{total-append}
 use Rattle.way_parts.proofs.Theorems.{parts-end, parts-few, stands-inside, summed}
 use Rattle.way_gaps.specs.Gaps.{gap}
 use Rattle.way_sheets.specs.Lines.{partLine, playLine, gapLine}
