@@ -17,7 +17,7 @@ fn one_from(power: u32, n: u32) -> usize
 }
 
 // How many digits n has: tests instead of divisions, so that no branch depends on n.
-pub fn digit_count(n: u32) -> usize
+fn digit_count(n: u32) -> usize
     ensures { λ r. ⌜ r ≡ length (decimal n) ⌝ }
 {
     1
