@@ -1,3 +1,3 @@
-mod Choosing
+mod AdmittedWay
 mod Sheeting
 mod SheetExamples

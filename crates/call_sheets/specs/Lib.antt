@@ -1,2 +1,2 @@
 pub mod SheetCalls
-pub mod Choosing
+pub mod AdmittedWay
