@@ -95,9 +95,6 @@ module _ (s : List ℕ) (c : CheckedBook) (w : List ℕ) (x : JoinTicks) (room :
     pub entry-inside : (1 ≤ entry) × (entry ≤ length w) × (entry ≤ size book)
     entry-inside = let m = place-inside w acyclic a q k h in omega (arith, m, has .way .all-entries)
 
-    pub predecessor-inside : predecessor w entry ≤ length w
-    predecessor-inside = let (x, y, z) = entry-inside in acyclic .inside entry x y
-
     next-visit : (n : ℕ) → visits book w n (drop k (playingOrder w)) ≡ visit book w n entry ++ visits book w (begun n (predecessor w entry)) (drop (k + 1) (playingOrder w))
     unfolding visits
     next-visit n = ap (visits book w n) (place-next w acyclic a q k h)
