@@ -15,8 +15,8 @@ struct LentBook {
     desk_reply count(uint16_t cap) { return desk_count(book(), text.size(), cap); }
     desk_reply list() { return desk_listing(book(), text.size(), listing.data(), listing.size()); }
     desk_reply spare(uint32_t earlier, uint32_t later) { return desk_spare(book(), text.size(), earlier, later); }
-    desk_reply sheets_room() { return desk_sheets_room(book(), text.size()); }
-    desk_reply write_sheets() { return desk_sheets(book(), text.size(), way.data(), way.size(), sheets.data(), sheets.size()); }
+    desk_reply sheets_room() { return desk_sheets_room(book(), text.size(), way.data(), way.size()); }
+    desk_reply write_sheets(size_t room = DESK_SHEETS_ROOM) { return desk_sheets(book(), text.size(), way.data(), way.size(), sheets.data(), room); }
     desk_span name() { return desk_name(book(), text.size(), 1); }
     uint32_t questions() { return desk_name_refusal(book(), text.size(), 1); }      // 11 to 16, then 19
     std::string last_line() {

@@ -96,10 +96,10 @@ static void spares(Table &table, const Named &set) {
     table.row({set.what, whole(double(set.books.size())), shown(median(times)), shown(largest(times)), shown(median(questions)), whole(double(pairs)), whole(double(follow))});
 }
 
-// The sheets of the first way, beside next with the same way given, which tests that way too. The sheets have a line for each entry, and take no
-// more than the room.
+// The sheets of the first way, and their room, beside next with the same way given, which tests that way too. The sheets have a line for each entry, and take
+// exactly the room: a list of that length is long enough, and one that is a byte shorter is not.
 static void sheets(Table &table, const Named &set) {
-    std::vector<double> rooms, times, nexts, lengths;
+    std::vector<double> rooms, times, exact, nexts, lengths;
     for (const Book &b : set.books) {
         LentBook book(b);
         book.first();
@@ -107,17 +107,26 @@ static void sheets(Table &table, const Named &set) {
         std::string text(book.sheets.begin(), book.sheets.begin() + r.value);
         size_t plays = 0;
         for (size_t at = text.find("(play "); at != std::string::npos; at = text.find("(play ", at + 1)) plays++;
-        if (room.code != DESK_OK || r.code != DESK_OK || r.value > room.value || plays != b.entries.size()) {
+        if (room.code != DESK_OK || r.code != DESK_OK || r.value != room.value || plays != b.entries.size()) {
             wrong++;
             printf("DIFFERENT, sheets: %u %lld, %zu entries, room %u %lld\n", r.code, (long long)r.value, plays, room.code, (long long)room.value);
+            continue;
+        }
+        const size_t length = size_t(r.value);
+        desk_reply to_the_byte = book.write_sheets(length), shorter = book.write_sheets(length - 1);
+        if (to_the_byte.code != DESK_OK || to_the_byte.value != r.value || shorter.code != 21) {
+            wrong++;
+            printf("DIFFERENT, sheets lent their room: %u %lld, a byte less: %u\n", to_the_byte.code, (long long)to_the_byte.value, shorter.code);
         }
         std::vector<uint8_t> to(book.way.size());
         rooms.push_back(time_of([&] { book.sheets_room(); }));
         times.push_back(time_of([&] { book.write_sheets(); }));
+        exact.push_back(time_of([&] { book.write_sheets(length); }));
         nexts.push_back(time_of([&] { book.next(to); }));
         lengths.push_back(double(r.value));
     }
-    table.row({set.what, whole(double(set.books.size())), shown(median(rooms)), shown(median(times)), shown(largest(times)), shown(median(nexts)), whole(median(lengths))});
+    table.row({set.what, whole(double(set.books.size())), shown(median(rooms)), shown(median(times)), shown(largest(times)), shown(median(exact)), shown(median(nexts)),
+        whole(median(lengths))});
 }
 
 // Books that are long to read: the longest that is accepted, and 16,384 bytes of entries and of moves.
@@ -174,7 +183,7 @@ int main() {
     }
     {
         printf("### Part sheets, of the first way\n\n");
-        Table table({"books", "how many", "`desk_sheets_room`", "`desk_sheets`", "at most", "`desk_next`, the same way given", "bytes of the sheets"});
+        Table table({"books", "how many", "`desk_sheets_room`", "`desk_sheets`", "at most", "the same, lent exactly its length", "`desk_next`, the same way given", "bytes of the sheets"});
         for (auto &s : sets) sheets(table, s);
     }
     printf("### The questions\n\n");

@@ -11,7 +11,7 @@
 #define DESK_H
 
 /* The version of the library and of the program ways. */
-#define DESK_VERSION "4.0.0"
+#define DESK_VERSION "5.0.0"
 
 #include <stddef.h>
 #include <stdint.h>
@@ -29,8 +29,8 @@ enum {
     DESK_NO_MOVE = 103 /* there is no move from the one entry to the other */
 };
 
-/* The most that an accepted book or network has, for lists of a fixed size; and room for the longest listing and for the sheets of any book,
- * in bytes. */
+/* The most that an accepted book or network has, for lists of a fixed size; and room for the longest listing and for the sheets of any way of
+ * any book, in bytes. */
 #define DESK_BOOK_BYTES 16384
 #define DESK_ENTRIES 28
 #define DESK_NODES 64
@@ -38,8 +38,8 @@ enum {
 #define DESK_LISTING_ROOM 91028
 #define DESK_SHEETS_ROOM 2212
 
-/* value: with DESK_OK the cost, the count, the length of the listing, the spare, which may be below 0, the room for the sheets or their length,
- * and otherwise 0.
+/* value: with DESK_OK the cost, the count, the length of the listing, that of the sheets, which desk_sheets_room tells without writing them, or
+ * the spare, which may be below 0; and otherwise 0.
  * line: with 13, 14 and 15 the first line of the book that fails that question, counted from 1, and otherwise 0. */
 typedef struct {
     uint32_t code;
@@ -78,9 +78,9 @@ typedef struct {
  *   15  every entry on instruments from 1 to 16, with start < finish <= 1000000
  *   16  at most 28 entries
  *   17  the lent list a multiple of four bytes, with room for E numbers
- *   18  the given list E numbers long, and a least-cost way of the book
+ *   18  (next; sheets and their room, straight after 16) the given list E numbers long, and a least-cost way of the book
  *   19  (names and spares, straight after 16) the entry, or both entries, from 1 to E
- *   21  (sheets, straight after 18) room for 79 bytes an entry
+ *   21  (sheets, straight after 18) the lent list with room for the sheets, to the byte
  * Each question is put of the whole input before the next. The least-cost ways are listed in order: of two, the one with the smaller number
  * at the first entry where they differ comes first. A way fills the first E numbers of its list; all other bytes keep what they held. With
  * every code but DESK_OK the lent list does not change.
@@ -122,10 +122,11 @@ desk_reply desk_listing(const uint8_t *book, size_t book_len, uint8_t *text, siz
  * Codes: DESK_OK, DESK_NO_MOVE, 11 to 16, 19. */
 desk_reply desk_spare(const uint8_t *book, size_t book_len, uint32_t earlier, uint32_t later);
 
-/* The room that desk_sheets asks for, in bytes: 79 * E, at most DESK_SHEETS_ROOM. It is worked out from the book alone, and the sheets of any
- * way of the book take at most that.
- * Codes: DESK_OK, 11 to 16. */
-desk_reply desk_sheets_room(const uint8_t *book, size_t book_len);
+/* The room that the part sheets of the least-cost way given take, in bytes: the value is exactly the length of the text that desk_sheets writes
+ * for that way. Nothing is written. Another way of the book may take more or less; each takes at most 79 * E, so at most DESK_SHEETS_ROOM.
+ * Without entries given is the empty list, and the room is 0.
+ * Codes: DESK_OK, 11 to 16, 18. */
+desk_reply desk_sheets_room(const uint8_t *book, size_t book_len, const uint8_t *given, size_t given_len);
 
 /* The part sheets of the least-cost way given, written to text, a sheet for each part: its entries in playing order, with the ticks between
  * them. The parts come by rising number of the entries that open them; N counts them from 1. The lines of a sheet, each closed by byte 10:
@@ -144,7 +145,8 @@ desk_reply desk_sheets_room(const uint8_t *book, size_t book_len);
  *   )
  * If all three are one part and each move takes 24 ticks, the gaps are (gap 24 0) and (gap 40 16).
  * The sheets stand at the front of the list, no byte 0 follows them, and the bytes after them keep what they held; the value is their length.
- * A list of less than 79 * E bytes is refused, even if the sheets would fit. Without entries there is no sheet, and the length is 0.
+ * A list that is shorter than that is refused. One of exactly that length, which desk_sheets_room tells, is filled to its last byte, and
+ * DESK_SHEETS_ROOM bytes are always enough. Without entries there is no sheet, and the length is 0.
  * Codes: DESK_OK, 11 to 16, 18, 21. */
 desk_reply desk_sheets(const uint8_t *book, size_t book_len, const uint8_t *given, size_t given_len, uint8_t *text, size_t text_len);
 

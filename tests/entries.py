@@ -20,7 +20,7 @@ ENTRIES = {                            # the lists that are read, the lists that
     "desk_count": (["book"], [], ["cap"]),
     "desk_listing": (["book"], ["text"], []),
     "desk_spare": (["book"], [], ["earlier", "later"]),
-    "desk_sheets_room": (["book"], [], []),
+    "desk_sheets_room": (["book", "given"], [], []),
     "desk_sheets": (["book", "given"], ["text"], []),
     "desk_name": (["book"], [], ["entry"]),
     "desk_name_refusal": (["book"], [], ["entry"]),
@@ -65,7 +65,7 @@ def expected(entry, a):
     line = reader.line if "book" in a else 0
     if entry.endswith("count"): return reader.count(a["cap"]), [], line
     if entry == "desk_listing": return *reader.listing(*lent), line
-    if entry == "desk_sheets_room": return reader.sheets_room(), [], line
+    if entry == "desk_sheets_room": return reader.sheets_room(a["given"]), [], line
     if entry == "desk_sheets": return *reader.sheets(a["given"], *lent), line
     if "given" not in a: return *reader.first(*lent), line
     if a["given"] in reader.place: reader.finger = reader.place[a["given"]]

@@ -1,6 +1,7 @@
-"""A writer of part sheets for the tests, written from document 02 alone, its requests 2 and 7, and independent of the library. Books are those of book_reader."""
+"""A writer of part sheets for the tests, written from document 02 alone, its requests 2 and 7, and independent of the library. Books are those of book_reader.
+How many bytes sheets take is the length of their text."""
 
-ROOM = 79                              # bytes an entry
+MOST = 79                              # bytes an entry, of the sheets of any way
 
 
 def parts(way):

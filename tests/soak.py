@@ -80,8 +80,8 @@ class Round(unittest.TestCase):
         return 300
 
     def large_books(self):
-        """28 entries: the first way is that of the first flow of the book's network, by its certificate, and its sheets are the writer's; the spares of all pairs
-        of entries."""
+        """28 entries: the first way is that of the first flow of the book's network, by its certificate, and its sheets are the writer's, in a list of exactly
+        their length and in no shorter one; the spares of all pairs of entries."""
         for _ in range(5):
             text = large_book(self.rng)
             book = book_reader.read(text)
@@ -92,8 +92,10 @@ class Round(unittest.TestCase):
             self.assertEqual((code, cost), (answer, value), text)
             if code == OK:
                 laid = way_trial.flow_of(book, arcs, trial.Reader._numbers(way))
-                (_, length), (sheets,) = self.ways.sheets(text, way, bytes(28 * sheet_writer.ROOM))
-                self.assertEqual(sheets[:length], sheet_writer.sheets(text, book, trial.Reader._numbers(way)), text)
+                sheets = sheet_writer.sheets(text, book, trial.Reader._numbers(way))
+                self.assertEqual(self.ways.sheets_room(text, way), (OK, len(sheets)), text)
+                self.assertEqual(self.ways.sheets(text, way, bytes(len(sheets))), ((OK, len(sheets)), [sheets]), text)
+                self.assertEqual(self.ways.sheets(text, way, bytes(len(sheets) - 1)), ((21, 0), [bytes(len(sheets) - 1)]), text)
                 self.assertEqual(flow, numbers(laid), text)
                 self.assertTrue(trial.is_first(balances, arcs, laid), text)
         return 5

@@ -16,7 +16,7 @@ ARCS = [(0, 1, 0, 2, 1), (0, 1, 0, 2, 1), (1, 2, 0, 1, 0), (2, 1, 0, 1, 0)]
 BALANCES, ALL_ARCS = network([2, -2, 0], ARCS)               # six least-cost flows; (2, 0, 1, 1) is the last
 LINES = [numbers((a, 2 - a, b, b)) for a in range(3) for b in range(2)]
 WAYS = [numbers((0, 0, 1)), numbers((0, 1, 2))]              # of the book EXAMPLE
-ROOM = 3 * 79                                                # for its sheets
+ROOMS = [ways_reader(EXAMPLE).sheets_room(way)[1] for way in WAYS]     # what their sheets take, by the writer
 NUMBERS = sorted({*EXTREMES, 2, 3, 255, 256, 2**16 - 1, 2**16, 2**24, *(s * (m + k) for s in (1, -1) for m in (10**6, 10**9) for k in (0, 1))})
 REFUSED = [book for question, book in refused()]
 ENTRY_NUMBERS = [0, 1, 2, 3, 4, 27, 28, 29, 255, 256, 257, 2**16, 2**16 + 1, 2**31 - 1, 2**31, 2**31 + 1, 2**32 - 3, 2**32 - 2, 2**32 - 1]
@@ -30,7 +30,7 @@ def arguments(entry, a):
 def fair(entry, rng):
     """Arguments that the entry does not refuse."""
     if "network" in entry: a = dict(balances=BALANCES, arcs=ALL_ARCS, given=LINES[0], flows=rng.randbytes(16), prices=rng.randbytes(12), cap=6)
-    else: a = dict(book=EXAMPLE, given=WAYS[0], way=rng.randbytes(12), text=rng.randbytes(ROOM if entry == "desk_sheets" else 68), cap=2, entry=2, earlier=1, later=3)
+    else: a = dict(book=EXAMPLE, given=WAYS[0], way=rng.randbytes(12), text=rng.randbytes(ROOMS[0] if entry == "desk_sheets" else 68), cap=2, entry=2, earlier=1, later=3)
     return arguments(entry, a)
 
 
@@ -75,7 +75,8 @@ def any_book(rng):
     book = rng.choice(REFUSED) if rng.random() < 0.3 else small_book(rng, 4)
     e = book.count(b"(entry")
     given = rng.choice([*ways_reader(book).lines, numbers([rng.randint(0, j) for j in range(e)])])
-    return dict(book=book, given=given, way=rng.randbytes(4 * e), text=rng.randbytes(320), cap=3, entry=1, earlier=1, later=2)
+    room = ways_reader(book).sheets_room(given)[1]
+    return dict(book=book, given=given, way=rng.randbytes(4 * e), text=rng.randbytes(rng.choice((room, 320))), cap=3, entry=1, earlier=1, later=2)
 
 
 def damaged_calls(rng, surface):
@@ -118,7 +119,7 @@ class Boundary(unittest.TestCase):
                 for size in range(len(a[name]) + 25): self.compare(entry, {**a, name: (a[name] + self.rng.randbytes(24))[:size]})
             for one, two in itertools.combinations([name for name in lists(entry) if len(a[name]) <= 16], 2):
                 for i, j in itertools.product(range(19), repeat=2): self.compare(entry, {**a, one: (a[one] + bytes(6))[:i], two: (a[two] + bytes(6))[:j]})
-        self.answered({"desk_first": {OK, 12, 17}, "desk_next": {OK, 12, 17, 18}, "desk_listing": {OK, 12}, "desk_spare": {OK, 12}, "desk_sheets_room": {OK, 12}, "desk_sheets": {OK, 12, 18, 21}, "desk_network_first": {OK, NONE, 1, 2, 3, 7},
+        self.answered({"desk_first": {OK, 12, 17}, "desk_next": {OK, 12, 17, 18}, "desk_listing": {OK, 12}, "desk_spare": {OK, 12}, "desk_sheets_room": {OK, 12, 18}, "desk_sheets": {OK, 12, 18, 21}, "desk_network_first": {OK, NONE, 1, 2, 3, 7},
                        "desk_network_first_priced": {OK, NONE, 1, 2, 3, 7}, "desk_network_next": {OK, 1, 2, 3, 7, 8}})
 
     def test_empty(self):
@@ -127,7 +128,7 @@ class Boundary(unittest.TestCase):
             for choice in itertools.product(range(3), repeat=len(lists(entry))):
                 empty = {name: b"" for name, kind in zip(lists(entry), choice) if kind}
                 self.compare(entry, {**a, **empty}, {name: Fenced(b"") for name, kind in zip(lists(entry), choice) if kind == 2})
-        self.answered({"desk_first": {OK, 12, 17}, "desk_next": {OK, 12, 17, 18}, "desk_count": {OK, 12}, "desk_listing": {OK, 12}, "desk_spare": {OK, 12}, "desk_sheets_room": {OK, 12}, "desk_sheets": {OK, 12, 18, 21}, "desk_name_refusal": {0, 12},
+        self.answered({"desk_first": {OK, 12, 17}, "desk_next": {OK, 12, 17, 18}, "desk_count": {OK, 12}, "desk_listing": {OK, 12}, "desk_spare": {OK, 12}, "desk_sheets_room": {OK, 12, 18}, "desk_sheets": {OK, 12, 18, 21}, "desk_name_refusal": {0, 12},
                        "desk_network_first": {OK, NONE, 1, 7}, "desk_network_next": {OK, 1, 7, 8}})
 
     def test_addresses(self):
@@ -146,9 +147,11 @@ class Boundary(unittest.TestCase):
                         b = {**a, name: a[name] + bytes(more) if more >= 0 else a[name][:more]}
                         self.compare(entry, b, {n: Fenced(b[n], end) for n, end in zip(lists(entry), at_end)})
         for book in REFUSED + list(THOUSAND.values()):
+            given = [*ways_reader(book).lines, b""][0]
+            room = ways_reader(book).sheets_room(given)[1]
             for at_end in (True, False):
                 for entry in ("desk_count", "desk_name", "desk_name_refusal", "desk_listing", "desk_spare", "desk_sheets_room", "desk_sheets"):
-                    other = dict(book=book, text=self.rng.randbytes(40000 if entry == "desk_listing" else 79 * 9), given=[*ways_reader(book).lines, b""][0])
+                    other = dict(book=book, text=self.rng.randbytes(40000 if entry == "desk_listing" else room), given=given)
                     a = {name: other.get(name, value) for name, value in fair(entry, self.rng).items()}
                     self.compare(entry, a, {name: Fenced(a[name], at_end) for name in lists(entry)})
         both = made(1, 0, [], [(b"a", 1, 0, 1), (b"b", 1, 2, 3, 4)])                # cut at every byte of both forms of an entry
@@ -163,13 +166,16 @@ class Boundary(unittest.TestCase):
         self.assertEqual(self.seen, {"desk_listing": {OK, NONE, *range(11, 17)}})
 
     def test_sheets(self):
-        """Lent lists of every length to sheets, with every way of a book and with lists that are none, of a book without entries, of one without a way and of those that are refused."""
+        """The room for sheets, and lent lists of every length to them, with every way of a book and with lists that are none, of a book without entries, of one without a way and
+        of those that are refused."""
         none = made(1, 0, [], [(b"a", 1, 0, 2), (b"b", 1, 1, 3)])
         for book, given in (*((EXAMPLE, way) for way in WAYS), (made(), b""), (made(), b"\0"), (none, b""), (none, numbers((0, 0)))):
-            for size in range(ROOM + 30): self.compare("desk_sheets", dict(book=book, given=given, text=self.rng.randbytes(size)))
-        for book, given, size in itertools.product(REFUSED, (b"", WAYS[0], b"\0"), (0, 1, ROOM - 1, ROOM, 2212)):
-            self.compare("desk_sheets", dict(book=book, given=given, text=self.rng.randbytes(size)))
-        self.assertEqual(self.seen, {"desk_sheets": {OK, 18, 21, *range(11, 17)}})
+            self.compare("desk_sheets_room", dict(book=book, given=given))
+            for size in [*range(max(ROOMS) + 30), 3 * 79, 2212]: self.compare("desk_sheets", dict(book=book, given=given, text=self.rng.randbytes(size)))
+        for book, given in itertools.product(REFUSED, (b"", WAYS[0], b"\0")):
+            self.compare("desk_sheets_room", dict(book=book, given=given))
+            for size in (0, 1, ROOMS[0] - 1, ROOMS[0], 2212): self.compare("desk_sheets", dict(book=book, given=given, text=self.rng.randbytes(size)))
+        self.assertEqual(self.seen, {"desk_sheets_room": {OK, 18, *range(11, 17)}, "desk_sheets": {OK, 18, 21, *range(11, 17)}})
 
     def test_longer(self):
         """Lent lists far longer than a line: the bytes beyond it stay."""
@@ -187,12 +193,12 @@ class Boundary(unittest.TestCase):
                 for value in NUMBERS:
                     for place in range(0, len(a[name]), 4): self.compare(entry, {**a, name: a[name][:place] + numbers([value]) + a[name][place + 4:]})
                     self.compare(entry, {**a, name: numbers([value] * (len(a[name]) // 4))})
-        self.answered({"desk_next": {OK, 18}, "desk_sheets": {OK, 18}, "desk_network_first": {OK, NONE, 3, 4, 5, 6}, "desk_network_first_priced": {OK, NONE, 3, 4, 5, 6},
+        self.answered({"desk_next": {OK, 18}, "desk_sheets_room": {OK, 18}, "desk_sheets": {OK, 18}, "desk_network_first": {OK, NONE, 3, 4, 5, 6}, "desk_network_first_priced": {OK, NONE, 3, 4, 5, 6},
                        "desk_network_next": {OK, 3, 4, 5, 6, 8}, "desk_network_count": {OK, 3, 4, 5, 6}})
 
     def test_given(self):
         """All lists of numbers from -1 to 3 as the given one: the lines are taken, and no others. Then every bit of a line changed."""
-        for entry, lines in (("desk_network_next", LINES), ("desk_next", WAYS), ("desk_sheets", WAYS)):
+        for entry, lines in (("desk_network_next", LINES), ("desk_next", WAYS), ("desk_sheets_room", WAYS), ("desk_sheets", WAYS)):
             a, size = fair(entry, self.rng), len(lines[0])
             taken = [given for given in map(numbers, itertools.product(range(-1, 4), repeat=size // 4)) if self.compare(entry, {**a, "given": given}) in (OK, END)]
             self.assertEqual(sorted(taken), sorted(lines))
@@ -243,8 +249,9 @@ class Boundary(unittest.TestCase):
         self.compare("desk_network_next", {**arguments("desk_network_next", a), "given": zeros.data}, {"balances": zeros, "arcs": zeros, "given": zeros})
         text = List(EXAMPLE)
         self.compare("desk_next", dict(book=EXAMPLE, given=EXAMPLE, way=b"\x55" * 12), {"book": text, "given": text})
-        self.compare("desk_sheets", dict(book=EXAMPLE, given=EXAMPLE, text=b"\x55" * ROOM), {"book": text, "given": text})
-        self.answered({"desk_network_first": {OK}, "desk_network_first_priced": {OK}, "desk_network_next": {END, 8}, "desk_network_count": {OK}, "desk_next": {18}, "desk_sheets": {18}})
+        self.compare("desk_sheets_room", dict(book=EXAMPLE, given=EXAMPLE), {"book": text, "given": text})
+        self.compare("desk_sheets", dict(book=EXAMPLE, given=EXAMPLE, text=b"\x55" * ROOMS[0]), {"book": text, "given": text})
+        self.answered({"desk_network_first": {OK}, "desk_network_first_priced": {OK}, "desk_network_next": {END, 8}, "desk_network_count": {OK}, "desk_next": {18}, "desk_sheets_room": {18}, "desk_sheets": {18}})
 
     def test_any_bytes(self):
         """Any bytes for each list, and for all of them."""
@@ -259,7 +266,7 @@ class Boundary(unittest.TestCase):
         for _ in range(6000):
             for entry, code in damaged_calls(self.rng, self.surface): self.seen.setdefault(entry, set()).add(code)
         books, nets = {*range(11, 17)}, {*range(1, 7)}
-        self.answered({"desk_first": {OK, NONE, 17, *books}, "desk_next": {OK, END, 17, 18, *books}, "desk_count": {OK, MORE, *books}, "desk_listing": {OK, NONE, *books}, "desk_spare": {OK, NO_MOVE, 19, *books}, "desk_sheets_room": {OK, *books}, "desk_sheets": {OK, 18, 21, *books}, "desk_name_refusal": {0, 19, *books},
+        self.answered({"desk_first": {OK, NONE, 17, *books}, "desk_next": {OK, END, 17, 18, *books}, "desk_count": {OK, MORE, *books}, "desk_listing": {OK, NONE, *books}, "desk_spare": {OK, NO_MOVE, 19, *books}, "desk_sheets_room": {OK, 18, *books}, "desk_sheets": {OK, 18, 21, *books}, "desk_name_refusal": {0, 19, *books},
                        "desk_network_first": {OK, NONE, 7, *nets}, "desk_network_first_priced": {OK, NONE, 7, *nets}, "desk_network_next": {OK, END, 7, 8, *nets}, "desk_network_count": {OK, MORE, *nets}})
 
 

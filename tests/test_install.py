@@ -93,10 +93,10 @@ class Install(unittest.TestCase):
         self.assertEqual(re.findall(r"^\.B DESK_LISTING_ROOM\n\((\d+)\) bytes", page.read_text(), re.M), [room])
 
     def test_sheets_room(self):
-        """The room for the sheets of 28 entries is one number, in the header and in desk(3)."""
+        """The room in which the sheets of any way fit is one number, in the header and in desk(3)."""
         room = re.search(r"^#define DESK_SHEETS_ROOM (\d+)$", HEADER.read_text(), re.M)[1]
         page = (self.prefix / "share/man/man3/desk.3").read_text()
-        self.assertEqual(re.findall(r"^asks for: (\d+) for each entry, at most\n\.B DESK_SHEETS_ROOM\n\((\d+)\)\.$", page, re.M), [(str(int(room) // 28), room)])
+        self.assertEqual(re.findall(r"at most (\d+) for each entry, so at most\n\.B DESK_SHEETS_ROOM\n\((\d+)\)\.$", page, re.M), [(str(int(room) // 28), room)])
 
     def test_build(self):
         """Installing builds what is not there, the library first and the program after it."""

@@ -110,9 +110,11 @@ class WaySession(Session):
         return self.rng.choice(self.dearer) if self.dearer and self.rng.random() < 0.4 else super().wrong()
 
     def sheets(self):
-        """The sheets of any item, or a call for them that is refused. The finger stays."""
+        """The room for the sheets of any item, and the sheets in a list of about that length; or calls for them that are refused. The finger stays."""
         given = self.rng.choice(self.reader.lines) if self.reader.lines and self.rng.random() < 0.7 else self.wrong()
-        text = self.rng.randbytes(max(0, 79 * self.reader.m + self.rng.choice((0, 0, 5, -1))))
+        got, wanted = self.desk.sheets_room(self.net, given), self.reader.sheets_room(given)
+        if got != wanted: self.test.fail("room for the sheets of %r of %s: %r, and not %r" % (given, self.shown(), got, wanted))
+        text = self.rng.randbytes(max(0, (wanted[1] or 79 * self.reader.m) + self.rng.choice((0, 0, 5, -1))))
         got, wanted = self.desk.sheets(self.net, given, text), self.reader.sheets(given, text)
         if got != wanted: self.test.fail("sheets of %r of %s: %r, and not %r" % (given, self.shown(), got, wanted))
         self.calls[wanted[0][0]] = self.calls.get(wanted[0][0], 0) + 1
@@ -291,8 +293,8 @@ class WayCalls(unittest.TestCase):
         for given in (b"", numbers([0] * 3), b"\x33" * 5):
             self.assertEqual(self.desk.sheets(book, given, full), ((wanted, 0), [full]), book)
             self.assertEqual(self.desk.line, line, book)
-        self.assertEqual(self.desk.sheets_room(book), (wanted, 0), book)
-        self.assertEqual(self.desk.line, line, book)
+            self.assertEqual(self.desk.sheets_room(book, given), (wanted, 0), book)
+            self.assertEqual(self.desk.line, line, book)
         for earlier, later in ((1, 2), (1, 1), (0, 1), (1, 29), (2**32 - 1, 0)):
             self.assertEqual(self.desk.spare(book, earlier, later), (wanted, 0), book)
             self.assertEqual(self.desk.line, line, book)
@@ -450,9 +452,11 @@ class WayCalls(unittest.TestCase):
             for given in ways: told(self.desk.next(book, given, lent[:size]))
         for cap in (0, 1, len(ways), CAP): told(self.desk.count(book, cap))
         for size in (0, 40, len(lent)): told(self.desk.listing(book, lent[:size]))
-        told(self.desk.sheets_room(book))
         for earlier, later in itertools.product(range(min(e, 7) + 2), repeat=2): told(self.desk.spare(book, earlier, later))
-        for given, size in itertools.product(ways, (79 * e, max(0, 79 * e - 1))): told(self.desk.sheets(book, given, lent[:size]))
+        for given in ways:
+            _, room = answer = self.desk.sheets_room(book, given)
+            told(answer)
+            for size in (room, max(0, room - 1), 79 * e): told(self.desk.sheets(book, given, lent[:size]))
         return found + [(self.desk.name(book, j)[1], self.desk.name_refusal(book, j)) for j in range(e + 2)]
 
     def test_long_forms(self):

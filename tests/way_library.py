@@ -17,7 +17,7 @@ class Desk:
         self._entries = {name: Entry(library, "desk_" + name, result, lists, *more)
                          for name, result, lists, more in [("first", Reply, 2, []), ("next", Reply, 3, []), ("count", Reply, 1, [ctypes.c_uint16]),
                                                            ("listing", Reply, 2, []), ("spare", Reply, 1, [ctypes.c_uint32] * 2),
-                                                           ("sheets_room", Reply, 1, []), ("sheets", Reply, 3, []),
+                                                           ("sheets_room", Reply, 2, []), ("sheets", Reply, 3, []),
                                                            ("name", Span, 1, [ctypes.c_uint32]),
                                                            ("name_refusal", ctypes.c_uint32, 1, [ctypes.c_uint32])]}
 
@@ -50,8 +50,8 @@ class Desk:
     def spare(self, book, earlier, later):
         return self._call("spare", [book], [], earlier, later)[0]
 
-    def sheets_room(self, book):
-        return self._call("sheets_room", [book], [])[0]
+    def sheets_room(self, book, given):
+        return self._call("sheets_room", [book, given], [])[0]
 
     def sheets(self, book, given, text):
         return self._call("sheets", [book, given], [text])

@@ -131,13 +131,19 @@ class Reader(trial.Reader):
         size = len(self.text)
         return (self.OK, size), [self.text + text[size:] if size <= len(text) else text]
 
-    def sheets_room(self):
-        return (self.refused, 0) if self.refused else (self.OK, sheet_writer.ROOM * self.m)
+    def _written(self, given):
+        """The question that a call for the sheets of that way fails, or 0, and their text."""
+        if self.refused: return self.refused, b""
+        if given not in self.place: return self.WRONG, b""
+        return 0, sheet_writer.sheets(self.source, self.book, self._numbers(given))
+
+    def sheets_room(self, given):
+        """The answer: the length of the text that is written. The finger stays."""
+        question, written = self._written(given)
+        return question or self.OK, len(written)
 
     def sheets(self, given, text):
         """The answer, and the lent list after the call. The finger stays."""
-        if self.refused: return (self.refused, 0), [text]
-        if given not in self.place: return (self.WRONG, 0), [text]
-        if len(text) < sheet_writer.ROOM * self.m: return (self.NARROW, 0), [text]
-        written = sheet_writer.sheets(self.source, self.book, self._numbers(given))
-        return (self.OK, len(written)), [written + text[len(written):]]
+        question, written = self._written(given)
+        if not question and len(text) < len(written): question = self.NARROW
+        return ((question, 0), [text]) if question else ((self.OK, len(written)), [written + text[len(written):]])

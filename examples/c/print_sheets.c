@@ -88,14 +88,17 @@ static int find_way(const char *name, const book *b, unsigned long number, uint8
 static int print_sheets(const char *name, const book *b, unsigned long number) {
     uint8_t way[4 * DESK_ENTRIES];
     size_t length = 4 * count_entries(b);
-    desk_reply room = desk_sheets_room(b->bytes, b->length);
-
-    if (room.code != DESK_OK)
-        return refused(name, room);
     int status = find_way(name, b, number, way, length);
+
     if (status != PRINTED)
         return status;
-    uint8_t *text = malloc((size_t)room.value + 1); /* without entries the room is 0, for which malloc may give NULL */
+    /* The room is exactly what the sheets of this way take. Without entries there is no sheet, and it is 0. */
+    desk_reply room = desk_sheets_room(b->bytes, b->length, way, length);
+    if (room.code != DESK_OK)
+        return refused(name, room);
+    if (room.value == 0)
+        return PRINTED;
+    uint8_t *text = malloc((size_t)room.value);
     if (text == NULL) {
         perror("print_sheets");
         return TROUBLE;

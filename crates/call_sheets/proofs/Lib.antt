@@ -1,2 +1,3 @@
+mod AdmittedWay
 mod Sheeting
 mod SheetExamples

@@ -28,7 +28,8 @@ one-sheet = refl
 abbrev askedOf : List ℕ × ℕ → ℕ
 askedOf c = sheetsQuestion sample (encodeWords (c .0)) (c .1)
 
--- "21, after 18, if the lent list holds fewer than" 79 "× E bytes": room, a byte fewer, a way that is dearer, two numbers in a list without room
-codes : map askedOf ((0 ∷ 0 ∷ 1 ∷ [], 237) ∷ (0 ∷ 0 ∷ 1 ∷ [], 236) ∷ (0 ∷ 0 ∷ 2 ∷ [], 237) ∷ (0 ∷ 0 ∷ [], 0) ∷ []) ≡ 0 ∷ 21 ∷ 18 ∷ 18 ∷ []
-unfolding wayList fullWays bytes thenRead _>>=_ _>>_ _<|>_ give guard remaining begins text front run valueFrom number word row more upTo many move longForm shortForm entry opening book whole parse lines.moves lines.allPass ℕ-discrete
+-- "refusal 21 comes in writing when the lent list is shorter than that and at no other time": room, a byte fewer, a way that is dearer, two numbers in
+-- a list without room
+codes : map askedOf ((0 ∷ 0 ∷ 1 ∷ [], 115) ∷ (0 ∷ 0 ∷ 1 ∷ [], 114) ∷ (0 ∷ 1 ∷ 2 ∷ [], 114) ∷ (0 ∷ 1 ∷ 2 ∷ [], 113) ∷ (0 ∷ 0 ∷ 2 ∷ [], 237) ∷ (0 ∷ 0 ∷ [], 0) ∷ []) ≡ 0 ∷ 21 ∷ 0 ∷ 21 ∷ 18 ∷ 18 ∷ []
+unfolding wayList fullWays bytes thenRead _>>=_ _>>_ _<|>_ give guard remaining begins text front run valueFrom number word row more upTo many move longForm shortForm entry opening book whole parse lines.moves lines.allPass ℕ-discrete digits decimal partOf parts flatten partLine playLine gapLine playsAfter plays sheet sheetsFrom sheets
 codes = refl

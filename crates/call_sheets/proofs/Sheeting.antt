@@ -1,129 +1,104 @@
--- From the steps of the calls of the part sheets to what they ensure.
-use mathlib.Core.Path.{_≡_, refl, sym, ap, subst, _∙_}
-use mathlib.Core.Bool.{true, false}
-use mathlib.Core.List.{List, []}
-use Prim.Native.Nat.{ℕ, suc, _*_, _≤_, _<_}
+-- From a way that is admitted to what the calls ensure.
+use mathlib.Core.Path.{_≡_, refl, sym, ap, _∙_}
+use mathlib.Core.Bool.{Bool, true, false}
+use mathlib.Core.List.{List}
+use Prim.Native.Nat.{ℕ, _≤_}
 use native.Mathlib.Omega.{arith}
 use lib.IntN.{pos}
 use lib.ListN.{length, take}
 use lib.Dec.{leb}
-use borrow.Author.Tests.{le-leb, lt-leb}
+use borrow.Author.Tests.{leb-true}
 use Rattle.laws.specs.Tests.{ask}
 use Rattle.laws.specs.Padded.{padded}
 use Rattle.bytes_read.specs.Words.{words, over}
-use Rattle.book_form.specs.Book.{Book}
-use Rattle.book_form.specs.Questions.{bookRefusal}
-use Rattle.book_form.specs.Checked.{checkedOf}
-use Rattle.book_form.specs.LineTold.{linesAsked, lineTold}
-use Rattle.book_form.specs.declared.CheckedBook.{CheckedBook}
+use Rattle.book_form.specs.LineTold.{lineTold}
 use Rattle.book_form.proofs.LineTold.{untold}
-use Rattle.way_theory.specs.Follow.{size}
-use Rattle.way_theory.specs.Ways.{LeastCostWay}
-use Rattle.way_theory.specs.FullWays.{fullWays}
-use Rattle.way_theory.specs.BookBytes.{waysIn, ways, entryCount}
-use Rattle.way_network.specs.Held.{Held}
+use Rattle.way_joins.specs.Tables.{timingIn}
+use Rattle.way_gaps.specs.declared.JoinTicks.{JoinTicks}
+use Rattle.way_gaps.specs.Gaps.{TellsTicks}
 use Rattle.way_sheets.specs.Sheets.{sheets}
-use Rattle.way_sheets.specs.Writing.{HasSheets, WritesSheets}
+use Rattle.way_sheets.specs.Writing.{HasSheets, HasRoom, WritesSheets}
 use Rattle.way_sheets.proofs.Sizes.{sheets-size}
+use Rattle.way_sheet_sizes.specs.Sizing.{HasSize, IsSizeOf, FitsIn}
 use Rattle.call_reply.specs.declared.Reply.{Reply}
-use Rattle.call_reply.specs.Replies.{codeAlone, refusedAt, valueReply}
-use Rattle.call_reply.specs.ByteLists.{listed}
+use Rattle.call_reply.specs.Replies.{orElse, codeAlone, refusedAt, valueReply}
 use Rattle.call_reply.proofs.Turns.{fails-first}
 use Rattle.call_reply.proofs.Refusing.{if-not, refused-value}
-use Rattle.call_way_bytes.specs.WaySteps.{AdmitsBook}
 use Rattle.call_way_bytes.specs.declared.AdmittedBook.{AdmittedBook}
-use Rattle.call_way_bytes.proofs.Admitting.{Admitted, admitted-held, admitted-count, admitted}
-use Rattle.call_way_bytes.proofs.WayItems.{listed-way}
-use Rattle.call_way_bytes.proofs.GivenWays.{read-given}
-use Rattle.call_sheets.specs.SheetCalls.{roomOf, BookSheetsRoom, sheetsQuestion, sheetsText, BookSheets}
+use Rattle.call_sheets.specs.SheetCalls.{sheetsText, roomQuestion, BookSheetsRoom, sheetsQuestion, BookSheets}
+use Rattle.call_sheets.specs.AdmittedWay.{AdmitsWay}
+use Rattle.call_sheets.proofs.AdmittedWay.{ok, way-read, has-sheets}
 
--- a call that fails one of questions 11 to 16
-module _ (s : List ℕ) (r : AdmittedBook) (h : AdmitsBook s r) (n : ¬ (r .number ≡ 0)) (x : Reply) (q : x ≡ refusedAt (r .number) (r .line)) where
-  -- whatever questions are put after them, and whatever the value would be
-  refused-with : (k v : ℕ) → r .number ≡ k → x ≡ valueReply k (lineTold s k) v
-  refused-with k v e = q ∙ refused-value (r .number) (r .line) v n ∙ ap (λ l. valueReply (r .number) l v) (h .line-is) ∙ ap (λ i. valueReply i (lineTold s i) v) e
+module _ (s g : List ℕ) (r : AdmittedBook) (h : AdmitsWay s g r) where
+  -- a call that fails one of questions 11 to 16 and 18
+  module _ (n : ¬ (r .number ≡ 0)) (x : Reply) (q : x ≡ refusedAt (r .number) (r .line)) where
+    -- whatever is asked after them, and whatever the value would be
+    refused-with : (k v : ℕ) → r .number ≡ k → x ≡ valueReply k (lineTold s k) v
+    refused-with k v e = q ∙ refused-value (r .number) (r .line) v n ∙ ap (λ l. valueReply (r .number) l v) (h .line-is) ∙ ap (λ i. valueReply i (lineTold s i) v) e
 
-  pub room-refused : BookSheetsRoom s x
-  room-refused = refused-with (bookRefusal s) _ (h .number-is)
+    pub room-refused : BookSheetsRoom s g x
+    room-refused = refused-with (roomQuestion s g) _ (h .number-is)
 
-  pub sheets-refused : (g l : List ℕ) → BookSheets s g l x l
-  sheets-refused g l =
-      let e : r .number ≡ sheetsQuestion s g (length l) = fails-first (bookRefusal s) _ (r .number) (h .number-is) n in
-      record { reply-is = refused-with (sheetsQuestion s g (length l)) _ e; text-is = sym (if-not (sheetsQuestion s g (length l)) _ l (λ z. n (e ∙ z))) }
+    pub sheets-refused : (l : List ℕ) → BookSheets s g l x l
+    sheets-refused l =
+        let e : r .number ≡ sheetsQuestion s g (length l) = fails-first (roomQuestion s g) _ (r .number) (h .number-is) n in
+        record { reply-is = refused-with (sheetsQuestion s g (length l)) _ e; text-is = sym (if-not (sheetsQuestion s g (length l)) _ l (λ z. n (e ∙ z))) }
 
--- a call that fails a question after them, which tells no line
-fails-later : (s g l : List ℕ) (k : ℕ) → sheetsQuestion s g (length l) ≡ suc k → ((b : Book) → linesAsked b (suc k) .1 ≡ []) → (x : Reply) → x ≡ codeAlone (suc k) → BookSheets s g l x l
-fails-later s g l k e unasked x q = record { reply-is = q ∙ rw (e, untold s (suc k) unasked) refl; text-is = rw e }
+  -- past them: v is what was read of the way, x its gaps and spares
+  module _ (z : r .number ≡ 0) (v : List ℕ) (read : v ≡ padded 512 0 (take 512 (words g))) (x : JoinTicks) (told : TellsTicks (timingIn (r .book)) (take (r .book .count) v) x) where
+    abbrev w : List ℕ
+    w = take (r .book .count) v
 
--- past them
-module _ (s : List ℕ) (r : AdmittedBook) (h : AdmitsBook s r) (z : r .number ≡ 0) where
-  pub gone : Admitted s (r .book)
-  gone = admitted s r h z
+    has : HasSheets s (r .book) w x
+    has = has-sheets s g r h z v read x told
 
-  is-checked : r .book ≡ checkedOf (length s) (gone .book)
-  is-checked = h .book-is ∙ rw (gone .ok, gone .is) refl
+    pub has-size : HasSize (r .book) w x
+    has-size = record { text = s; has = has }
 
-  count-is : r .book .count ≡ size (gone .book)
-  count-is = ap (λ (c : CheckedBook). c .count) is-checked
+    same-text : sheets (has .book) w ≡ sheetsText s g
+    same-text = ap (sheets (has .book)) (way-read s g r h z v read) ∙ sym (rw (has .holds) refl)
 
-  pub held : Held (r .book)
-  held = admitted-held gone
+    few : length (sheetsText s g) ≤ 2212
+    few = omega (arith, ap length same-text, sheets-size s (has .book) (has .holds) (has .limits) w (has .way), has .limits .few)
 
-  room-is : (n : ℕ) → n ≡ roomOf (r .book .count) → n ≡ roomOf (entryCount s)
-  room-is n e = e ∙ ap roomOf (admitted-count gone)
+    module _ (n : ℕ) (is : IsSizeOf (r .book) w x n) where
+      long : n ≡ length (sheetsText s g)
+      long = is .each s has ∙ ap length same-text
 
-  pub room-told : (n : ℕ) → n ≡ roomOf (r .book .count) → BookSheetsRoom s (record { code = 0; line = 0; value = pos n })
-  room-told n e =
-      rw (gone .ok, untold s 0 (λ b. refl)) (ap (valueReply 0 0) (room-is n e))
+      pub size-few : n ≤ 2212
+      size-few = omega (arith, long, few)
 
-  module _ (g l : List ℕ) where
-    pub strange : listed g (fullWays (gone .book)) ≡ false → (x : Reply) → x ≡ codeAlone 18 → BookSheets s g l x l
-    strange off x q =
-        let no : listed g (ways s) ≡ false = ap (λ o. listed g (waysIn o)) (gone .is) ∙ off in
-        fails-later s g l 17 (rw (gone .ok, no) refl) (λ b. refl) x q
+      pub room-told : BookSheetsRoom s g (record { code = 0; line = 0; value = pos n })
+      room-told = rw (ok s g r h z, untold s 0 (λ b. refl)) (ap (valueReply 0 0) long)
 
-    module _ (on : listed g (fullWays (gone .book)) ≡ true) (n : ℕ) (e : n ≡ roomOf (r .book .count)) where
-      given : listed g (ways s) ≡ true
-      given = ap (λ o. listed g (waysIn o)) (gone .is) ∙ on
-
+    module _ (l : List ℕ) (fit : Bool) (is : FitsIn (r .book) w x (length l) fit) where
       -- 21 is left to be put
-      past-18 : sheetsQuestion s g (length l) ≡ ask (leb (roomOf (entryCount s)) (length l)) 21 0
-      past-18 = rw (gone .ok, given) refl
+      past-18 : sheetsQuestion s g (length l) ≡ ask fit 21 0
+      past-18 =
+          ap (λ k. orElse k (ask (leb (length (sheetsText s g)) (length l)) 21 0)) (ok s g r h z)
+          ∙ ap (λ t. ask (leb (length t) (length l)) 21 0) (sym same-text)
+          ∙ ap (λ t. ask t 21 0) (sym (is .each s has))
 
-      pub too-short : length l < n → (x : Reply) → x ≡ codeAlone 21 → BookSheets s g l x l
-      too-short k x q =
-          let no = lt-leb (roomOf (entryCount s)) (length l) (omega (arith, k, room-is n e)) in
-          fails-later s g l 20 (past-18 ∙ ap (λ t. ask t 21 0) no) (λ b. refl) x q
+      pub too-short : fit ≡ false → (y : Reply) → y ≡ codeAlone 21 → BookSheets s g l y l
+      too-short off y q =
+          let e : sheetsQuestion s g (length l) ≡ 21 = past-18 ∙ ap (λ t. ask t 21 0) off in
+          record { reply-is = q ∙ rw (e, untold s 21 (λ b. refl)) refl; text-is = rw e refl }
 
-      least : LeastCostWay (gone .book) (words g)
-      least = listed-way (gone .book) (gone .holds .limits) g on .1
-
-      -- the numbers given are the way
-      pub way-read : (v : List ℕ) → v ≡ padded 512 0 (take 512 (words g)) → take (r .book .count) v ≡ words g
-      way-read v q = read-given (r .book) held g (listed-way (gone .book) (gone .holds .limits) g on .0 ∙ ap (λ k. 4 * k) (sym count-is)) v q
-
-      module _ (k : n ≤ length l) (w : List ℕ) (same : w ≡ words g) where
-        size-few : length (sheets (gone .book) (words g)) ≤ n
-        size-few = omega (arith, sheets-size s (gone .book) (gone .is) (gone .holds .limits) (words g) (least .way), e, count-is)
-
-        pub has-sheets : HasSheets s (r .book) w (length l)
-        has-sheets =
-            subst (λ v. HasSheets s (r .book) v (length l)) (sym same)
-            (record { book = gone .book; holds = gone .is; limits = gone .holds .limits; is = is-checked; way = least .way; room = omega (arith, size-few, k) })
+      module _ (on : fit ≡ true) where
+        pub has-room : HasRoom s (r .book) w x (length l)
+        has-room = record { has = has; room = leb-true _ _ (sym (is .each s has) ∙ on) }
 
         module _ (l′ : List ℕ) (m : ℕ) (wrote : WritesSheets s w l l′ m) where
-          long : m ≡ length (sheets (gone .book) w)
-          long = wrote .each (gone .book) (gone .is) .end ∙ omega arith
+          end : m ≡ length (sheets (has .book) w)
+          end = wrote .each (has .book) (has .holds) .end ∙ omega arith
 
-          pub written-few : m ≤ n
-          written-few = omega (arith, long, size-few, ap (λ v. length (sheets (gone .book) v)) same)
+          pub written-few : m ≤ 2212
+          written-few = omega (arith, end, ap length same-text, few)
 
           pub written : BookSheets s g l (record { code = 0; line = 0; value = pos m }) l′
           written =
-              let text : sheetsText s g ≡ sheets (gone .book) w = rw (gone .is) (ap (sheets (gone .book)) (sym same)) in
-              let yes = le-leb (roomOf (entryCount s)) (length l) (omega (arith, k, room-is n e)) in
-              let passed : sheetsQuestion s g (length l) ≡ 0 = past-18 ∙ ap (λ t. ask t 21 0) yes in
+              let passed : sheetsQuestion s g (length l) ≡ 0 = past-18 ∙ ap (λ t. ask t 21 0) on in
               record {
-                reply-is = rw (passed, untold s 0 (λ b. refl)) (ap (valueReply 0 0) (long ∙ ap length (sym text)));
-                text-is = rw passed (wrote .each (gone .book) (gone .is) .is ∙ rw long (ap (λ t. over t l) (sym text)));
+                reply-is = rw (passed, untold s 0 (λ b. refl)) (ap (valueReply 0 0) (end ∙ ap length same-text));
+                text-is = rw passed (wrote .each (has .book) (has .holds) .is ∙ rw end (ap (λ t. over t l) same-text));
               }

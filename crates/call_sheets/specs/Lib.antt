@@ -1,1 +1,2 @@
 pub mod SheetCalls
+pub mod AdmittedWay

@@ -1,28 +1,43 @@
 // The calls of the part sheets.
 use call_reply::Reply;
-ghost use mathlib.Core.Path.{_≡_};
-ghost use Prim.Native.Nat.{_≤_};
-ghost use Rattle.call_sheets.specs.SheetCalls.{roomOf, BookSheetsRoom, BookSheets};
+use call_way_bytes::AdmittedBook;
+ghost use Rattle.call_sheets.specs.SheetCalls.{BookSheetsRoom, BookSheets};
+ghost use Rattle.call_sheets.specs.AdmittedWay.{AdmitsWay};
 
-// The bytes that the sheets of a book with so many entries may take.
-fn room_of(entries: usize) -> usize
-    requires { ⌜ entries ≤ 28 ⌝ }
-    ensures { λ r. ⌜ (r ≡ roomOf entries) × (r ≤ 2212) ⌝ }
-{
-    79 * entries
-}
-
-// The room that writing the sheets of a book asks for. Questions 11 to 16.
-pub fn room(book: &[u8]) -> Reply
-    ensures { λ r. ⌜ BookSheetsRoom (now (book .entry)) r ⌝ }
+// Puts questions 11 to 16 and 18.
+fn admit_way(book: &[u8], given: &[u8]) -> AdmittedBook
+    ensures { λ r. ⌜ AdmitsWay (now (book .entry)) (now (given .entry)) r ⌝ }
 {
     let admitted = call_way_bytes::admit_book(book);
     let number = admitted.number;
     if number != 0 {
-        return call_reply::refused_at(number, admitted.line);
+        return admitted;
     }
     let b = admitted.book;
-    let n = room_of(b.count);
+    if call_way_bytes::is_given(b, given) {
+        return admitted;
+    }
+    AdmittedBook {
+        number: 18,
+        line: 0,
+        book: b,
+    }
+}
+
+// How many bytes the sheets of the least-cost way given take. Questions 11 to 16 and 18.
+pub fn room(book: &[u8], given: &[u8]) -> Reply
+    ensures { λ r. ⌜ BookSheetsRoom (now (book .entry)) (now (given .entry)) r ⌝ }
+{
+    let asked = admit_way(book, given);
+    let number = asked.number;
+    if number != 0 {
+        return call_reply::refused_at(number, asked.line);
+    }
+    let b = asked.book;
+    let e = b.count;
+    let numbers = bytes_read::read_words(given);
+    let ticks = way_gaps::join_ticks(b, &numbers[..e]);
+    let n = way_sheet_sizes::size_of(b, &numbers[..e], ticks);
     Reply {
         code: 0,
         line: 0,
@@ -34,21 +49,19 @@ pub fn room(book: &[u8]) -> Reply
 pub fn write(book: &[u8], given: &[u8], text: &mut [u8]) -> Reply
     ensures { λ r. ⌜ BookSheets (now (book .entry)) (now (given .entry)) (now (text .entry)) r (now (text .exit)) ⌝ }
 {
-    let admitted = call_way_bytes::admit_book(book);
+    let admitted = admit_way(book, given);
     let number = admitted.number;
     if number != 0 {
         return call_reply::refused_at(number, admitted.line);
     }
     let b = admitted.book;
-    if !call_way_bytes::is_given(b, given) {
-        return call_reply::code_alone(18);
-    }
     let e = b.count;
-    if text.len() < room_of(e) {
+    let numbers = bytes_read::read_words(given);
+    let ticks = way_gaps::join_ticks(b, &numbers[..e]);
+    if !way_sheet_sizes::fits_in(b, &numbers[..e], ticks, text.len()) {
         return call_reply::code_alone(21);
     }
-    let numbers = bytes_read::read_words(given);
-    let n = way_sheets::put_sheets(book, b, &numbers[..e], text);
+    let n = way_sheets::put_sheets(book, b, &numbers[..e], ticks, text);
     Reply {
         code: 0,
         line: 0,

@@ -53,7 +53,7 @@ use Rattle.way_parts.specs.Parts.{parts}
 use Rattle.way_parts.specs.Ticks.{ticksOf, FollowInTime}
 use Rattle.way_sheets.specs.Sheets.{sheets}
 use Rattle.call_spare.specs.SpareCall.{spareQuestion}
-use Rattle.call_sheets.specs.SheetCalls.{sheetsQuestion}
+use Rattle.call_sheets.specs.SheetCalls.{roomQuestion, sheetsQuestion}
 
 -- Demand 1. That every call ends and keeps to the memory lent to it is what the prover shows of every function. It "answers each bad book or network
 -- with the number of the first question it fails and changes nothing, and refuses nothing else". s is what is seen of a call that is lent l; with each question goes
@@ -140,11 +140,18 @@ module _ (s : List ℕ) where
     pub itself : spareQuestion s i j ≡ 0 → i ≡ j → r .code ≡ 103
     pub follows : spareQuestion s i j ≡ 0 → (b : Book) → parse s ≡ some b → (mayFollow b i j ≡ true) ↔ ((r .code ≡ 0) × (pos 0 ≤ℤ r .value))
 
-  -- The room of the sheets. 79 × E bytes, and "the sheets of any of its ways take at most" so much.
-  pub record SheetsRoomDemands (r : Reply) : Type 0 where
-    pub demand1 : Demand1 {Lists = Unit {0}} (lineTold s) (bookRefusal s) tt (sees r tt)
-    pub room : bookRefusal s ≡ 0 → r .value ≡ pos (79 * entryCount s)
-    pub enough : bookRefusal s ≡ 0 → (b : Book) → parse s ≡ some b → (w : List ℕ) → IsWay b w → length (sheets b w) ≤ 79 * entryCount s
+  -- The room of the sheets of the way given by g, which is a least-cost way: "exactly how many bytes the sheets will take"
+  pub record SheetsMeasured (g : List ℕ) (r : Reply) : Type 0 where
+    pub book : Book
+    pub holds : parse s ≡ some book
+    pub least-cost : LeastCostWay book (words g)
+    pub value-is : r .value ≡ pos (length (sheets book (words g)))
+
+  -- "the sheets of any of its ways take at most" 79 "bytes for each entry"
+  pub record SheetsRoomDemands (g : List ℕ) (r : Reply) : Type 0 where
+    pub demand1 : Demand1 {Lists = Unit {0}} (lineTold s) (roomQuestion s g) tt (sees r tt)
+    pub measured : r .code ≡ 0 → SheetsMeasured g r
+    pub at-most : bookRefusal s ≡ 0 → (b : Book) → parse s ≡ some b → (w : List ℕ) → IsWay b w → length (sheets b w) ≤ 79 * entryCount s
 
   -- The sheets of the way given by g, which is a least-cost way, at the front of the lent list. "Every entry stands on exactly one sheet, and the ticks
   -- played on all sheets sum to those of the book."
@@ -162,6 +169,15 @@ module _ (s : List ℕ) where
   pub record SheetsDemands (g l : List ℕ) (r : Reply) (l′ : List ℕ) : Type 0 where
     pub demand1 : Demand1 (lineTold s) (sheetsQuestion s g (length l)) l (sees r l′)
     pub written : r .code ≡ 0 → SheetsWritten g l r l′
+
+  -- The room p, and then the sheets r of the same way. "Once 11 to 16 and 18 are passed, refusal 21 comes in writing when the lent list is shorter than
+  -- that and at no other time."
+  pub record WriteInRoomDemands (g l : List ℕ) (p r : Reply) (l′ : List ℕ) : Type 0 where
+    pub room : SheetsRoomDemands g p
+    pub sheets : SheetsDemands g l r l′
+    pub refused : ¬ (p .code ≡ 0) → r ≡ p
+    pub too-short : p .code ≡ 0 → (n : ℕ) → p .value ≡ pos n → length l < n → r .code ≡ 21
+    pub enough : p .code ≡ 0 → (n : ℕ) → p .value ≡ pos n → n ≤ length l → r ≡ p
 
   -- The name of entry j, by two calls, p the part and n the number. "The name of an entry is given back as the part of the book that holds it. A refused
   -- name call gives the empty part, which no name is; a second call on the same book and entry gives the number of the refusal, or 0."

@@ -7,7 +7,8 @@ ghost use Rattle.call_reply.specs.Replies.{sees};
 ghost use Rattle.call_network.specs.NetworkCalls.{lends};
 ghost use Rattle.demands.specs.Demands.{FirstFlowDemands, NextFlowDemands, CountFlowsDemands, RunFlowsDemands};
 ghost use Rattle.demands.specs.Demands.{FirstWayDemands, NextWayDemands, CountWaysDemands, RunWaysDemands};
-ghost use Rattle.demands.specs.Demands.{ListWaysDemands, SpareDemands, SheetsRoomDemands, SheetsDemands, NameOfDemands, madeOf};
+ghost use Rattle.demands.specs.Demands.{ListWaysDemands, SpareDemands, NameOfDemands, madeOf};
+ghost use Rattle.demands.specs.Demands.{SheetsRoomDemands, SheetsDemands, WriteInRoomDemands};
 use book_names::Span;
 use call_reply::Reply;
 
@@ -68,16 +69,33 @@ pub fn spare_between(book: &[u8], earlier: u32, later: u32) -> Reply
     desk::desk_spare(book, earlier, later)
 }
 
-pub fn room_of_sheets(book: &[u8]) -> Reply
-    ensures { λ r. ⌜ SheetsRoomDemands (now (book .entry)) r ⌝ }
+pub fn room_of_sheets(book: &[u8], given: &[u8]) -> Reply
+    ensures { λ r. ⌜ SheetsRoomDemands (now (book .entry)) (now (given .entry)) r ⌝ }
 {
-    desk::desk_sheets_room(book)
+    desk::desk_sheets_room(book, given)
 }
 
 pub fn write_sheets(book: &[u8], given: &[u8], text: &mut [u8]) -> Reply
     ensures { λ r. ⌜ SheetsDemands (now (book .entry)) (now (given .entry)) (now (text .entry)) r (now (text .exit)) ⌝ }
 {
     desk::desk_sheets(book, given, text)
+}
+
+// What both calls of the sheets of a way reply.
+pub struct RoomAndSheets {
+    pub room: Reply,
+    pub sheets: Reply,
+}
+
+pub fn write_in_room(book: &[u8], given: &[u8], text: &mut [u8]) -> RoomAndSheets
+    ensures { λ r. ⌜ WriteInRoomDemands (now (book .entry)) (now (given .entry)) (now (text .entry)) (r .room) (r .sheets) (now (text .exit)) ⌝ }
+{
+    let room = desk::desk_sheets_room(book, given);
+    let sheets = desk::desk_sheets(book, given, text);
+    RoomAndSheets {
+        room: room,
+        sheets: sheets,
+    }
 }
 
 // The part of the book that holds the name of an entry, and the number of the question that refuses it, or 0.

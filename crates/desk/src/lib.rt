@@ -83,10 +83,10 @@ pub extern "C" fn desk_spare(book: &[u8], earlier: u32, later: u32) -> Reply
 }
 
 #[no_mangle]
-pub extern "C" fn desk_sheets_room(book: &[u8]) -> Reply
-    ensures { λ r. ⌜ BookSheetsRoom (now (book .entry)) r ⌝ }
+pub extern "C" fn desk_sheets_room(book: &[u8], given: &[u8]) -> Reply
+    ensures { λ r. ⌜ BookSheetsRoom (now (book .entry)) (now (given .entry)) r ⌝ }
 {
-    call_sheets::room(book)
+    call_sheets::room(book, given)
 }
 
 #[no_mangle]

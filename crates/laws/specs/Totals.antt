@@ -4,7 +4,7 @@ use mathlib.Core.Logic.{inl, inr}
 use mathlib.Core.List.{List, [], _∷_, _++_, map}
 use Prim.Native.Nat.{ℕ, zero, suc, _+_, _*_, _-_, _≤_, _<_}
 use native.Mathlib.Omega.{arith}
-use native.Mathlib.Nat.{suc-inj, add-zero, add-suc}
+use native.Mathlib.Nat.{suc-inj, add-zero, add-suc, mul-suc}
 use lib.ListN.{length, getD}
 use lib.IntN.{ℤ, pos, _+ℤ_, pos-+ℤ-pos}
 use Rattle.laws.specs.Linear.{lin, given}
@@ -20,6 +20,14 @@ total (x ∷ f) = x + total f
 abbrev pub totalOf : (ℕ → ℕ) → List ℕ → ℕ
 totalOf φ l = total (map φ l)
 
+pub total-equal : (φ χ : ℕ → ℕ) (l : List ℕ) → ((a : ℕ) → a ∈ l → φ a ≡ χ a) → totalOf φ l ≡ totalOf χ l
+total-equal φ χ [] h = refl
+total-equal φ χ (a ∷ l) h = let k = total-equal φ χ l (λ b m. h b (inr m)) in let e = h a (inl refl) in omega arith
+
+pub total-append : (φ : ℕ → ℕ) (l k : List ℕ) → totalOf φ (l ++ k) ≡ totalOf φ l + totalOf φ k
+total-append φ [] k = omega arith
+total-append φ (a ∷ l) k = let h = total-append φ l k in omega arith
+
 pub total-add : (φ χ : ℕ → ℕ) (l : List ℕ) → totalOf (λ a. φ a + χ a) l ≡ totalOf φ l + totalOf χ l
 total-add φ χ [] = refl
 total-add φ χ (a ∷ l) = let h = total-add φ χ l in omega arith
@@ -31,6 +39,11 @@ total-none φ (a ∷ l) h = let u = h a (inl refl) in let v = total-none φ l (�
 pub total-ones : (φ : ℕ → ℕ) (l : List ℕ) → ((a : ℕ) → a ∈ l → φ a ≤ 1) → totalOf φ l ≤ length l
 total-ones φ [] h = omega arith
 total-ones φ (a ∷ l) h = let k = total-ones φ l (λ b m. h b (inr m)) in let u = h a (inl refl) in omega arith
+
+-- at most b for each of a list
+pub total-most : (φ : ℕ → ℕ) (b : ℕ) (l : List ℕ) → ((a : ℕ) → a ∈ l → φ a ≤ b) → totalOf φ l ≤ b * length l
+total-most φ b [] h = omega arith
+total-most φ b (a ∷ l) h = omega (arith, h a (inl refl), total-most φ b l (λ c m. h c (inr m)), mul-suc b (length l))
 
 -- where φ is at most 1, as many are left as it misses
 pub total-rest : (φ : ℕ → ℕ) (l : List ℕ) → ((a : ℕ) → a ∈ l → φ a ≤ 1) → totalOf (λ a. 1 - φ a) l + totalOf φ l ≡ length l

@@ -7,12 +7,11 @@ use native.Mathlib.Omega.{arith}
 use lib.ListN.{length, getD}
 use Rattle.laws.specs.Members.{keep, keepIf}
 use Rattle.laws.specs.Within.{from}
-use Rattle.laws.specs.Totals.{total, totalOf}
+use Rattle.laws.specs.Totals.{total, totalOf, total-equal}
 use Rattle.way_theory.specs.Ways.{times}
 use Rattle.way_theory.specs.WayFlow.{oneIfSame}
 use Rattle.way_theory.proofs.OneIfSame.{same-one, other-none, same-iff}
 use Rattle.way_theory.proofs.Counting.{total-same}
-use Rattle.way_parts.proofs.Summing.{total-equal}
 
 times-append : (j : ℕ) (l k : List ℕ) → times j (l ++ k) ≡ times j l + times j k
 times-append j [] k = omega arith

@@ -1,4 +1,4 @@
-pub mod Summing
+mod Summing
 mod HowOften
 mod Successors
 mod Induction

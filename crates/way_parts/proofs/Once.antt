@@ -11,13 +11,13 @@ use borrow.Author.Tests.{eq-eqb, ne-eqb}
 use Rattle.laws.specs.Members.{_∈_, Every, every-append, every-member}
 use Rattle.laws.specs.Within.{from, from-member}
 use Rattle.laws.specs.Rows.{from-length}
-use Rattle.laws.specs.Totals.{total, totalOf, total-add}
+use Rattle.laws.specs.Totals.{total, totalOf, total-equal, total-add}
 use Rattle.way_theory.specs.Ways.{times}
 use Rattle.way_theory.specs.WayFlow.{oneIfSame}
 use Rattle.way_theory.proofs.OneIfSame.{other-none}
 use Rattle.way_parts.specs.Parts.{predecessor, successor, openers, playedFrom, partOf, parts, playingOrder}
 use Rattle.way_parts.specs.Acyclic.{Acyclic}
-use Rattle.way_parts.proofs.Summing.{total-equal, total-by-times}
+use Rattle.way_parts.proofs.Summing.{total-by-times}
 use Rattle.way_parts.proofs.HowOften.{times-flatten, total-times, times-kept-no, times-kept-yes, times-from}
 use Rattle.way_parts.proofs.Successors.{IsSuccessor, is-successor, successor-is, oneIfIs, next-exactly}
 use Rattle.way_parts.proofs.Induction.{part-induction, every-part}

@@ -1,21 +1,17 @@
 -- Totals over a list: compared member by member, over lists put together, and by how often each number stands in the list.
 use mathlib.Core.Path.{_≡_, refl, sym, ap, _∙_}
 use mathlib.Core.Logic.{inl, inr}
-use mathlib.Core.List.{List, [], _∷_, _++_, map, flatten}
+use mathlib.Core.List.{List, [], _∷_, map, flatten}
 use Prim.Native.Nat.{ℕ, zero, suc, _+_, _*_, _≤_, _<_}
 use native.Mathlib.Omega.{arith}
 use native.Mathlib.Nat.{mul-add}
 use native.Mathlib.Decide.{ℕ-discrete}
 use Rattle.laws.specs.Members.{_∈_}
 use Rattle.laws.specs.Within.{from, from-member}
-use Rattle.laws.specs.Totals.{total, totalOf, total-add, total-none}
+use Rattle.laws.specs.Totals.{total, totalOf, total-equal, total-append, total-add, total-none}
 use Rattle.way_theory.specs.Ways.{times}
 use Rattle.way_theory.specs.WayFlow.{oneIfSame}
 use Rattle.way_theory.proofs.OneIfSame.{same-one, other-none}
-
-pub total-equal : (φ χ : ℕ → ℕ) (l : List ℕ) → ((a : ℕ) → a ∈ l → φ a ≡ χ a) → totalOf φ l ≡ totalOf χ l
-total-equal φ χ [] h = refl
-total-equal φ χ (a ∷ l) h = let k = total-equal φ χ l (λ b m. h b (inr m)) in let e = h a (inl refl) in omega arith
 
 -- at least as much everywhere, and more at b
 pub total-less : (φ χ : ℕ → ℕ) (l : List ℕ) (b : ℕ) → ((a : ℕ) → a ∈ l → φ a ≤ χ a) → b ∈ l → φ b < χ b → totalOf φ l < totalOf χ l
@@ -31,10 +27,6 @@ total-less φ χ (a ∷ l) b h (inl q) s =
 total-less φ χ (a ∷ l) b h (inr m) s = let k = total-less φ χ l b (λ c n. h c (inr n)) m s in let e = h a (inl refl) in omega arith
 
 -- over lists put together
-total-append : (φ : ℕ → ℕ) (l k : List ℕ) → totalOf φ (l ++ k) ≡ totalOf φ l + totalOf φ k
-total-append φ [] k = omega arith
-total-append φ (a ∷ l) k = let h = total-append φ l k in omega arith
-
 pub total-flatten : (φ : ℕ → ℕ) (ls : List (List ℕ)) → totalOf φ (flatten ls) ≡ total (map (λ l. totalOf φ l) ls)
 unfolding flatten
 total-flatten φ [] = refl

@@ -1,5 +1,5 @@
 -- The loop over the playing order: what is written after k entries, and the entry of one turn as the program reads it.
-use mathlib.Core.Path.{_≡_, refl, ap, ap₂, sym, subst, _∙_}
+use mathlib.Core.Path.{_≡_, refl, ap, sym, subst, _∙_}
 use mathlib.Core.List.{List, [], _++_, append-assoc}
 use mathlib.Core.Option.{some, Option·some-injective}
 use Prim.Native.Nat.{ℕ, zero, suc, _+_, _-_, _≤_, _<_}
@@ -8,23 +8,21 @@ use lib.ListN.{length, take, drop, getD, length-append}
 use lib.Seq.{drop-length}
 use Rattle.laws.specs.Padded.{padded}
 use Rattle.laws.specs.Appended.{Appended, appended-none, appended-long, appended-then}
-use Rattle.book_lines.specs.Lines.{Entry}
-use Rattle.book_lines.specs.Columns.{column, nobody}
 use Rattle.book_form.specs.Book.{Book, parse}
 use Rattle.book_form.specs.declared.CheckedBook.{CheckedBook}
-use Rattle.book_form.proofs.Judging.{column-at}
 use Rattle.book_form.proofs.Names.{checked-name}
-use Rattle.way_theory.specs.Follow.{size, entryAt, spareTicks}
-use Rattle.way_joins.specs.Tables.{timingIn, TimingOf, HasTiming}
-use Rattle.way_joins.proofs.Counts.{checked-timing}
+use Rattle.way_theory.specs.Follow.{size, entryAt}
 use Rattle.way_parts.specs.Parts.{predecessor, playingOrder}
 use Rattle.way_parts.specs.Acyclic.{Acyclic}
 use Rattle.way_parts.proofs.Ranks.{way-acyclic}
 use Rattle.way_parts.proofs.Theorems.{as-many}
 use Rattle.way_parts.proofs.Places.{place-inside, place-next}
-use Rattle.way_sheets.specs.Lines.{playLine, gapLine}
-use Rattle.way_sheets.specs.Sheets.{gap, sheets}
-use Rattle.way_sheets.specs.Writing.{closing, lead, begun, gapTo, spareTo, SparesTo, HasSheets, WritesSheets}
+use Rattle.way_gaps.specs.declared.JoinTicks.{JoinTicks}
+use Rattle.way_gaps.proofs.Filling.{gap-at, spare-at}
+use Rattle.way_sheets.specs.Lines.{playLine}
+use Rattle.way_sheets.specs.Sheets.{sheets}
+use Rattle.way_sheets.specs.Writing.{closing, lead, begun, HasSheets, HasRoom, WritesSheets}
+use Rattle.way_sheets.proofs.Columns.{start-is, finish-is}
 use Rattle.way_sheets.proofs.Visits.{visit, visits, visits-all}
 
 -- the first k entries of the playing order are written, and n parts are begun
@@ -46,7 +44,10 @@ begun-more : (n i : ℕ) → begun n i ≤ n + 1
 begun-more n zero = omega arith
 begun-more n (suc i) = omega arith
 
-module _ (s : List ℕ) (c : CheckedBook) (w : List ℕ) (room : ℕ) (has : HasSheets s c w room) where
+module _ (s : List ℕ) (c : CheckedBook) (w : List ℕ) (x : JoinTicks) (room : ℕ) (roomy : HasRoom s c w x room) where
+  abbrev has : HasSheets s c w x
+  has = roomy .has
+
   abbrev book : Book
   book = has .book
 
@@ -72,17 +73,8 @@ module _ (s : List ℕ) (c : CheckedBook) (w : List ℕ) (room : ℕ) (has : Has
   abbrev nameRead : ℕ → List ℕ
   nameRead j = let from = getD (c .names) (j - 1) 0 in take (from + getD (c .lengths) (j - 1) 0 - from) (drop from s)
 
-  -- entry j by the columns
+  -- the name of entry j lies in the bytes
   module _ (j : ℕ) (h : 1 ≤ j) (k : j ≤ size book) where
-    at-entry : (f : Entry → ℕ) → getD (column f (book .entries)) (j - 1) 0 ≡ f (entryAt book j)
-    at-entry f = column-at f (book .entries) (j - 1) (omega arith)
-
-    start-is : getD (c .starts) (j - 1) 0 ≡ entryAt book j .start
-    start-is = ap (λ (x : CheckedBook). getD (x .starts) (j - 1) 0) (has .is) ∙ at-entry (λ e. e .start)
-
-    finish-is : getD (c .finishes) (j - 1) 0 ≡ entryAt book j .finish
-    finish-is = ap (λ (x : CheckedBook). getD (x .finishes) (j - 1) 0) (has .is) ∙ at-entry (λ e. e .finish)
-
     pub name-inside : getD (c .names) (j - 1) 0 + getD (c .lengths) (j - 1) 0 ≤ length s
     name-inside =
         subst (λ (x : CheckedBook). getD (x .names) (j - 1) 0 + getD (x .lengths) (j - 1) 0 ≤ length s) (sym (has .is)) (checked-name s book (has .holds) (j - 1) (omega arith) .0)
@@ -95,25 +87,6 @@ module _ (s : List ℕ) (c : CheckedBook) (w : List ℕ) (room : ℕ) (has : Has
         ∙ ap (λ (x : CheckedBook). take (getD (x .lengths) (j - 1) 0) (drop (getD (x .names) (j - 1) 0) s)) (has .is)
         ∙ checked-name s book (has .holds) (j - 1) (omega arith) .1
 
-  -- what the spare of a join is looked up in
-  timing-of : TimingOf book (timingIn c)
-  timing-of = checked-timing book c (length s) (has .limits) (has .is)
-
-  pub has-timing : HasTiming (timingIn c)
-  has-timing = record { book = book; timing = timing-of }
-
-  pub count-is : c .count ≡ length w
-  count-is = ap (λ (x : CheckedBook). x .count) (has .is) ∙ sym (has .way .all-entries)
-
-  lead-is : (n i j r : ℕ) → 1 ≤ j → j ≤ size book → i ≤ size book → r ≡ spareTo book i j
-      → lead n i (gapTo (c .finishes) i (getD (c .starts) (j - 1) 0)) r ≡ lead n i (gap book i j) (spareTicks book i j)
-  unfolding lead
-  lead-is n zero j r h k l q = refl
-  lead-is n (suc i) j r h k l q =
-      let e : suc i - 1 ≡ i = omega arith in
-      let f = rw e at (finish-is (suc i) (omega arith) l) in
-      ap₂ gapLine (omega (arith, f, start-is j h k, ap (λ m. getD (book .entries) m nobody .finish) e)) q
-
   -- the entry at place k of the playing order, which the array a holds
   module _ (a : List ℕ) (q : a ≡ padded 28 0 (playingOrder w)) (k : ℕ) (h : k < length w) where
     abbrev entry : ℕ
@@ -122,63 +95,57 @@ module _ (s : List ℕ) (c : CheckedBook) (w : List ℕ) (room : ℕ) (has : Has
     pub entry-inside : (1 ≤ entry) × (entry ≤ length w) × (entry ≤ size book)
     entry-inside = let m = place-inside w acyclic a q k h in omega (arith, m, has .way .all-entries)
 
-    pub predecessor-inside : predecessor w entry ≤ length w
-    predecessor-inside = let (x, y, z) = entry-inside in acyclic .inside entry x y
-
     next-visit : (n : ℕ) → visits book w n (drop k (playingOrder w)) ≡ visit book w n entry ++ visits book w (begun n (predecessor w entry)) (drop (k + 1) (playingOrder w))
     unfolding visits
     next-visit n = ap (visits book w n) (place-next w acyclic a q k h)
 
     -- what the program writes in this turn
-    abbrev turn : ℕ → ℕ → ℕ → List ℕ
-    turn n g x = lead n (predecessor w entry) g x ++ playLine (nameRead entry) (getD (c .starts) (entry - 1) 0) (getD (c .finishes) (entry - 1) 0)
+    abbrev turn : ℕ → List ℕ
+    turn n = lead n (predecessor w entry) (getD (x .gaps) (entry - 1) 0) (getD (x .spares) (entry - 1) 0) ++ playLine (nameRead entry) (getD (c .starts) (entry - 1) 0) (getD (c .finishes) (entry - 1) 0)
 
-    module _ (g : ℕ) (e : g ≡ gapTo (c .finishes) (predecessor w entry) (getD (c .starts) (entry - 1) 0)) (spare : ℕ)
-        (found : SparesTo (timingIn c) (predecessor w entry) (entry - 1 + 1) spare) where
-      spare-is : spare ≡ spareTo book (predecessor w entry) entry
-      spare-is =
-          let (x, y, z) = entry-inside in
-          let same : entry - 1 + 1 ≡ entry = omega arith in
-          rw same at (found .each book timing-of)
+    turn-is : (n : ℕ) → turn n ≡ visit book w n entry
+    unfolding visit
+    turn-is n =
+        let (a, b, d) = entry-inside in
+        rw (
+          gap-at book w x (has .ticks) entry a d,
+          spare-at book w x (has .ticks) entry a d,
+          name-is entry a d,
+          start-is s c w x has entry a d,
+          finish-is s c w x has entry a d,
+        ) refl
 
-      turn-is : (n : ℕ) → turn n g spare ≡ visit book w n entry
-      unfolding visit
-      turn-is n =
-          let (x, y, z) = entry-inside in
-          let l = lead-is n (predecessor w entry) entry spare x z (omega (arith, predecessor-inside, has .way .all-entries)) spare-is in
-          rw (e, l, name-is entry x z, start-is entry x z, finish-is entry x z) refl
+    module _ {b o : List ℕ} {at n : ℕ} (d : Puts s w b o at n k) where
+      pub put-room : room ≤ length b → at + length (turn n) ≤ length o
+      put-room fit =
+          omega (
+            arith,
+            roomy .room,
+            ap length whole-is,
+            ap length (it d .whole),
+            length-append (it d .done) (visits book w n (drop k (playingOrder w))),
+            ap length (next-visit n),
+            length-append (visit book w n entry) (visits book w (begun n (predecessor w entry)) (drop (k + 1) (playingOrder w))),
+            ap length (turn-is n),
+            it d .put .end,
+            appended-long (it d .put),
+          )
 
-      module _ {b o : List ℕ} {at n : ℕ} (d : Puts s w b o at n k) where
-        pub put-room : room ≤ length b → at + length (turn n g spare) ≤ length o
-        put-room fit =
-            omega (
-              arith,
-              has .room,
-              ap length whole-is,
-              ap length (it d .whole),
-              length-append (it d .done) (visits book w n (drop k (playingOrder w))),
-              ap length (next-visit n),
-              length-append (visit book w n entry) (visits book w (begun n (predecessor w entry)) (drop (k + 1) (playingOrder w))),
-              ap length (turn-is n),
-              it d .put .end,
-              appended-long (it d .put),
-            )
-
-        pub put-more : {p : List ℕ} {r m : ℕ} → Appended o at (turn n g spare) p r → m ≡ begun n (predecessor w entry) → Puts s w b p r m (k + 1)
-        put-more {p} {r} {m} f z = record { each = λ c e. subst (λ x. Put x w b p r m (k + 1)) (same-book c e) more }
-          where
-            more : Put book w b p r m (k + 1)
-            more = record {
-              done = it d .done ++ visit book w n entry;
-              whole =
-                  ap (λ x. it d .done ++ visit book w n entry ++ visits book w x (drop (k + 1) (playingOrder w))) z
-                  ∙ append-assoc (it d .done) (visit book w n entry) (visits book w (begun n (predecessor w entry)) (drop (k + 1) (playingOrder w)))
-                  ∙ ap (λ x. it d .done ++ x) (sym (next-visit n))
-                  ∙ it d .whole;
-              put = appended-then (it d .put) (subst (λ x. Appended o at x p r) (turn-is n) f);
-              few = omega (arith, z, it d .few, begun-more n (predecessor w entry));
-              some = omega arith;
-            }
+      pub put-more : {p : List ℕ} {r m : ℕ} → Appended o at (turn n) p r → m ≡ begun n (predecessor w entry) → Puts s w b p r m (k + 1)
+      put-more {p} {r} {m} f z = record { each = λ c e. subst (λ x. Put x w b p r m (k + 1)) (same-book c e) more }
+        where
+          more : Put book w b p r m (k + 1)
+          more = record {
+            done = it d .done ++ visit book w n entry;
+            whole =
+                ap (λ x. it d .done ++ visit book w n entry ++ visits book w x (drop (k + 1) (playingOrder w))) z
+                ∙ append-assoc (it d .done) (visit book w n entry) (visits book w (begun n (predecessor w entry)) (drop (k + 1) (playingOrder w)))
+                ∙ ap (λ x. it d .done ++ x) (sym (next-visit n))
+                ∙ it d .whole;
+            put = appended-then (it d .put) (subst (λ x. Appended o at x p r) (turn-is n) f);
+            few = omega (arith, z, it d .few, begun-more n (predecessor w entry));
+            some = omega arith;
+          }
 
   -- after the last entry
   module _ {b o : List ℕ} {at n k : ℕ} (d : Puts s w b o at n k) (h : length w ≤ k) where
@@ -192,7 +159,7 @@ module _ (s : List ℕ) (c : CheckedBook) (w : List ℕ) (room : ℕ) (has : Has
     last-room fit =
         omega (
           arith,
-          has .room,
+          roomy .room,
           ap length whole-is,
           ap length (it d .whole),
           length-append (it d .done) (visits book w n (drop k (playingOrder w))),

@@ -11,13 +11,14 @@ use Rattle.way_theory.specs.Follow.{spareTicks}
 use Rattle.way_theory.specs.Ways.{IsWay}
 use Rattle.way_parts.specs.Parts.{predecessor, parts, playingOrder, Linked, IsPart}
 use Rattle.way_parts.proofs.Theorems.{parts-end, stands-inside}
+use Rattle.way_gaps.specs.Gaps.{gap, gapBefore, spareBefore}
 use Rattle.way_sheets.specs.Lines.{partLine, gapLine}
-use Rattle.way_sheets.specs.Sheets.{playOf, gap, playsAfter, plays, sheet, sheetsFrom, sheets}
+use Rattle.way_sheets.specs.Sheets.{playOf, playsAfter, plays, sheet, sheetsFrom, sheets}
 use Rattle.way_sheets.specs.Writing.{closing, lead, begun}
 
 -- entry j, where n parts are begun; then each entry of a list, and the end of the last part
 unfoldable pub visit : Book → List ℕ → ℕ → ℕ → List ℕ
-visit book w n j = lead n (predecessor w j) (gap book (predecessor w j) j) (spareTicks book (predecessor w j) j) ++ playOf book j
+visit book w n j = lead n (predecessor w j) (gapBefore book w j) (spareBefore book w j) ++ playOf book j
 
 unfoldable pub visits : Book → List ℕ → ℕ → List ℕ → List ℕ
 visits book w n [] = closing n

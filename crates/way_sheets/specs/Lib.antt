@@ -1,3 +1,4 @@
 pub mod Sheets
 pub mod Lines
 pub mod Writing
+pub mod EntrySize

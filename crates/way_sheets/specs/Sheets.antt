@@ -1,19 +1,16 @@
 -- Document 02, requests 2 and 7: the sheets of a way.
 use mathlib.Core.List.{List, [], _∷_, _++_}
-use Prim.Native.Nat.{ℕ, suc, _-_}
+use Prim.Native.Nat.{ℕ, suc}
 use Rattle.text_read.specs.Heads.{lineEnd}
 use Rattle.book_form.specs.Book.{Book}
 use Rattle.way_theory.specs.Follow.{entryAt, spareTicks}
 use Rattle.way_parts.specs.Parts.{parts}
+use Rattle.way_gaps.specs.Gaps.{gap}
 use Rattle.way_sheets.specs.Lines.{partLine, playLine, gapLine}
 
 -- the line of entry j: "W", "S" and "F" are its name, start and finish
 abbrev pub playOf : Book → ℕ → List ℕ
 playOf book j = playLine (entryAt book j .name) (entryAt book j .start) (entryAt book j .finish)
-
--- "G being the ticks from one entry's F to the next one's S"; in a part that S is never before the F (`parts-in-time`)
-abbrev pub gap : Book → ℕ → ℕ → ℕ
-gap book i j = entryAt book j .start - entryAt book i .finish
 
 -- "for each entry in playing order `(play (name W) S F)`, with `(gap G)` between two": what follows entry i in its part. 02, request 7: "every
 -- `(gap G)` becomes `(gap G R)` with R the spare", which in a part is never below 0 (`parts-in-time`)

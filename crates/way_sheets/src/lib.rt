@@ -4,15 +4,14 @@ use text_read::heads;
 use text_write::put_item;
 use text_write::put_row;
 use text_write::put_text;
-use way_joins::Spare;
+use way_gaps::JoinTicks;
 ghost use mathlib.Core.Path.{_≡_};
 ghost use mathlib.Core.List.{_++_};
-ghost use Prim.Native.Nat.{_+_, _-_, _≤_};
+ghost use Prim.Native.Nat.{_+_, _≤_};
 ghost use lib.ListN.{length};
 ghost use Rattle.laws.specs.Appended.{Appended};
-ghost use Rattle.way_joins.specs.Tables.{timingWith, HasTiming};
 ghost use Rattle.way_sheets.specs.Lines.{partLine, playLine, gapLine};
-ghost use Rattle.way_sheets.specs.Writing.{closing, lead, begun, gapTo, ticksTold, SparesTo, HasSheets, WritesSheets};
+ghost use Rattle.way_sheets.specs.Writing.{closing, lead, begun, HasRoom, WritesSheets};
 
 // The first line of part n.
 fn put_part_line(out: &mut [u8], at: usize, n: u32) -> usize
@@ -93,96 +92,41 @@ fn begun(n: u32, i: u32) -> u32
     if i == 0 { n + 1 } else { n }
 }
 
-// a less b, and 0 where b is more.
-fn less(a: u32, b: u32) -> u32
-    ensures { λ r. ⌜ r ≡ a - b ⌝ }
-{
-    if b < a { a - b } else { 0 }
-}
-
-// The gap from entry i to a start; 0 where i is 0.
-fn gap_to(finishes: &[u32; 28], i: u32, start: u32) -> u32
-    requires { ⌜ i ≤ 28 ⌝ }
-    ensures { λ r. ⌜ r ≡ gapTo (now (finishes .entry)) i start ⌝ }
-{
-    if i == 0 {
-        return 0;
-    }
-    less(start, finishes[(i - 1) as usize])
-}
-
-// The ticks of a spare; 0 where it is less, or there is no move.
-fn ticks_told(spare: Spare) -> u32
-    ensures { λ r. ⌜ r ≡ ticksTold spare ⌝ }
-{
-    match spare {
-        Spare::NoMove => 0,
-        Spare::Ticks(ticks) => {
-            if 0 <= ticks {
-                return ticks as u32;
-            }
-            0
-        }
-    }
-}
-
-// The spare ticks of the join from entry i to entry j; 0 where i is 0.
-fn spare_to<'a>(
-    e: usize,
-    ticks: &'a [u32],
-    arrives: &'a [u32],
-    leaves: &'a [u32],
-    starts: &'a [u32],
-    finishes: &'a [u32],
-    i: u32,
-    j: usize,
-) -> u32
-    requires { let book = timingWith e (now ticks) (now arrives) (now leaves) (now starts) (now finishes) in
-        ⌜ HasTiming book × (i ≤ e) × (1 ≤ j) × (j ≤ e) ⌝ }
-    ensures { λ r.
-        let book = timingWith e (now (ticks .entry)) (now (arrives .entry)) (now (leaves .entry)) (now (starts .entry)) (now (finishes .entry)) in
-        ⌜ SparesTo book i j r ⌝ }
-{
-    if i == 0 {
-        return 0;
-    }
-    let spare = way_joins::spare_of(e, ticks, arrives, leaves, starts, finishes, i as usize, j);
-    ticks_told(spare)
-}
-
-// The sheets of a way of a book, at the front of a list that has room for them; how long they are. `text` is the bytes of the book.
-pub fn put_sheets(text: &[u8], book: CheckedBook, way: &[u32], out: &mut [u8]) -> usize
-    requires { ⌜ HasSheets (now text) book (now way) (length (now out)) ⌝ }
+// The sheets of a way of a book, at the front of a list that has room for them; how long they are. `text` is the bytes of the book, and
+// `ticks` has the gaps and the spares of the way.
+pub fn put_sheets(
+    text: &[u8],
+    book: CheckedBook,
+    way: &[u32],
+    ticks: JoinTicks,
+    out: &mut [u8],
+) -> usize
+    requires { ⌜ HasRoom (now text) book (now way) ticks (length (now out)) ⌝ }
     ensures { λ r. ⌜ WritesSheets (now (text .entry)) (now (way .entry)) (now (out .entry)) (now (out .exit)) r ⌝ }
 {
     let order = way_parts::playing_order(way);
-    let e = book.count;
-    let ticks = book.ticks;
-    let arrives = book.arrives;
-    let leaves = book.leaves;
     let starts = book.starts;
     let finishes = book.finishes;
     let names = book.names;
     let lengths = book.lengths;
+    let gaps = ticks.gaps;
+    let spares = ticks.spares;
     let mut at = 0;
     let mut n = 0;
     for k in 0..way.len() {
         let j = (order[k] - 1) as usize;
         let i = way[j];
-        let start = starts[j];
         let from = names[j];
         let to = from + lengths[j];
-        let spare = spare_to(e, &ticks, &arrives, &leaves, &starts, &finishes, i, j + 1);
-        let gap = gap_to(&finishes, i, start);
         at = put_entry(
             out,
             at,
             n,
             i,
-            gap,
-            spare,
+            gaps[j],
+            spares[j],
             &text[from..to],
-            start,
+            starts[j],
             finishes[j],
         );
         n = begun(n, i);

@@ -2,20 +2,19 @@
 use Prim.Native.Nat.{_+_, _-_, _≤_}
 use native.Mathlib.Omega.{arith}
 use lib.ListN.{length, getD}
-use borrow.Author.Needs.{needs}
 use Rattle.laws.specs.Appended.{appended-long}
-use Rattle.way_sheets.proofs.Turn.{Puts, put-none, begun-few, acyclic, has-timing, count-is, entry-inside, predecessor-inside, name-inside, put-room, put-more, last-room, put-all, written}
+use Rattle.way_sheets.proofs.Turn.{Puts, put-none, begun-few, acyclic, entry-inside, name-inside, put-room, put-more, last-room, put-all, written}
 use Rattle.way_sheets.proofs.put_sheets.Statement.{statement}
 use Rattle.way_sheets.proofs.put_sheets.Tie as tie
 
 abbrev Inv-loop : tie.InvT-loop
-Inv-loop text way out₀ order e ticks arrives leaves starts finishes names lengths at₀ n₀ k₀ k-end out at n k = Puts text way out₀ out at n k
+Inv-loop text way out₀ order starts finishes names lengths gaps spares at₀ n₀ k₀ k-end out at n k = Puts text way out₀ out at n k
 
 abbrev μ-loop : tie.MeasureT-loop
-μ-loop text way out₀ order e ticks arrives leaves starts finishes names lengths at₀ n₀ k₀ k-end out at n k = length way - k
+μ-loop text way out₀ order starts finishes names lengths gaps spares at₀ n₀ k₀ k-end out at n k = length way - k
 
 playing-order-requires : tie.Need-playing-order-requires Inv-loop μ-loop
-playing-order-requires c κs = let start : tie.Start Inv-loop μ-loop = search in acyclic _ _ _ _ (start .pre)
+playing-order-requires c κs = let start : tie.Start Inv-loop μ-loop = search in acyclic _ _ _ _ _ (start .pre)
 
 loop-holds : tie.Need-loop-holds Inv-loop μ-loop
 loop-holds c = put-none _ _ _
@@ -32,8 +31,8 @@ inside : (c : tie.In-loop Inv-loop μ-loop)
     → let e = getD (ordered c .playing-order .result) (c .before .loop .k) 0 in
     (1 ≤ e) × (e ≤ length (begin c .args .way .now)) × (length (begin c .args .way .now) ≤ 28)
 inside c =
-    let e = entry-inside _ _ _ _ (begin c .pre) _ (ordered c .playing-order .ensures) _ (c .loop-test .taken) in
-    (e .0, e .1, acyclic _ _ _ _ (begin c .pre) .few)
+    let e = entry-inside _ _ _ _ _ (begin c .pre) _ (ordered c .playing-order .ensures) _ (c .loop-test .taken) in
+    (e .0, e .1, acyclic _ _ _ _ _ (begin c .pre) .few)
 
 mul-j : tie.Need-mul-j Inv-loop μ-loop
 mul-j c = omega (arith, inside c, c .loop-test .taken)
@@ -53,12 +52,6 @@ mul-i c = omega (arith, inside c)
 shared-slice-read-i : tie.Need-shared-slice-read-i Inv-loop μ-loop
 shared-slice-read-i c = omega (arith, inside (c .before))
 
-mul-start : tie.Need-mul-start Inv-loop μ-loop
-mul-start c = omega (arith, inside (c .before))
-
-array-read-start : tie.Need-array-read-start Inv-loop μ-loop
-array-read-start c = omega (arith, inside (c .before))
-
 mul-from : tie.Need-mul-from Inv-loop μ-loop
 mul-from c = omega (arith, inside (c .before))
 
@@ -76,26 +69,11 @@ named : (c : tie.In-loop Inv-loop μ-loop)
     → let j = getD (ordered c .playing-order .result) (c .before .loop .k) 0 - 1 in
     getD (begin c .args .book .names) j 0 + getD (begin c .args .book .lengths) j 0 ≤ length (begin c .args .text .now)
 named c =
-    let e = entry-inside _ _ _ _ (begin c .pre) _ (ordered c .playing-order .ensures) _ (c .loop-test .taken) in
-    name-inside _ _ _ _ (begin c .pre) _ (e .0) (e .2)
+    let e = entry-inside _ _ _ _ _ (begin c .pre) _ (ordered c .playing-order .ensures) _ (c .loop-test .taken) in
+    name-inside _ _ _ _ _ (begin c .pre) _ (e .0) (e .2)
 
 add-to : tie.Need-add-to Inv-loop μ-loop
 add-to c = omega (arith, named (c .before))
-
-gap-to-requires : tie.Need-gap-to-requires Inv-loop μ-loop
-gap-to-requires c κs =
-    let turn : tie.In-loop Inv-loop μ-loop = search in
-    omega (arith, inside turn, predecessor-inside _ _ _ _ (begin turn .pre) _ (ordered turn .playing-order .ensures) _ (turn .loop-test .taken))
-
-add-spare-to : tie.Need-add-spare-to Inv-loop μ-loop
-add-spare-to c = let turn : tie.In-loop Inv-loop μ-loop = search in omega (arith, inside turn)
-
-spare-to-requires : tie.Need-spare-to-requires Inv-loop μ-loop
-spare-to-requires c κs =
-    let turn : tie.In-loop Inv-loop μ-loop = search in
-    let p = begin turn .pre in
-    let i = predecessor-inside _ _ _ _ p _ (ordered turn .playing-order .ensures) _ (turn .loop-test .taken) in
-    (has-timing _ _ _ _ p, omega (arith, i, count-is _ _ _ _ p), omega arith, omega (arith, inside turn, count-is _ _ _ _ p))
 
 sub-put-entry : tie.Need-sub-put-entry Inv-loop μ-loop
 sub-put-entry c = omega arith
@@ -112,17 +90,33 @@ mul-put-entry c = let turn : tie.In-loop Inv-loop μ-loop = search in omega (ari
 array-read-put-entry : tie.Need-array-read-put-entry Inv-loop μ-loop
 array-read-put-entry c = let turn : tie.In-loop Inv-loop μ-loop = search in omega (arith, inside turn)
 
+mul-put-entry-2 : tie.Need-mul-put-entry-2 Inv-loop μ-loop
+mul-put-entry-2 c = let turn : tie.In-loop Inv-loop μ-loop = search in omega (arith, inside turn)
+
+array-read-put-entry-2 : tie.Need-array-read-put-entry-2 Inv-loop μ-loop
+array-read-put-entry-2 c = let turn : tie.In-loop Inv-loop μ-loop = search in omega (arith, inside turn)
+
+mul-put-entry-3 : tie.Need-mul-put-entry-3 Inv-loop μ-loop
+mul-put-entry-3 c = let turn : tie.In-loop Inv-loop μ-loop = search in omega (arith, inside turn)
+
+array-read-put-entry-3 : tie.Need-array-read-put-entry-3 Inv-loop μ-loop
+array-read-put-entry-3 c = let turn : tie.In-loop Inv-loop μ-loop = search in omega (arith, inside turn)
+
+mul-put-entry-4 : tie.Need-mul-put-entry-4 Inv-loop μ-loop
+mul-put-entry-4 c = let turn : tie.In-loop Inv-loop μ-loop = search in omega (arith, inside turn)
+
+array-read-put-entry-4 : tie.Need-array-read-put-entry-4 Inv-loop μ-loop
+array-read-put-entry-4 c = let turn : tie.In-loop Inv-loop μ-loop = search in omega (arith, inside turn)
+
 -- the parts begun
 few : (c : tie.In-loop Inv-loop μ-loop) → c .before .loop .n ≤ 28
-few c = omega (arith, begun-few _ _ _ _ (begin c .pre) (c .before .loop .inv), inside c, c .loop-test .taken)
+few c = omega (arith, begun-few _ _ _ _ _ (begin c .pre) (c .before .loop .inv), inside c, c .loop-test .taken)
 
 put-entry-requires : tie.Need-put-entry-requires Inv-loop μ-loop
 put-entry-requires c κs =
     let turn : tie.In-loop Inv-loop μ-loop = search in
-    let gap : tie.After-gap-to Inv-loop μ-loop = search in
-    let spare : tie.After-spare-to Inv-loop μ-loop = search in
     let d = turn .before .loop .inv in
-    (few turn, put-room _ _ _ _ (begin turn .pre) _ (ordered turn .playing-order .ensures) _ (turn .loop-test .taken) _ (gap .gap-to .ensures) _ (spare .spare-to .ensures) d (omega arith))
+    (few turn, put-room _ _ _ _ _ (begin turn .pre) _ (ordered turn .playing-order .ensures) _ (turn .loop-test .taken) d (omega arith))
 
 begun-requires : tie.Need-begun-requires Inv-loop μ-loop
 begun-requires c κs = let turn : tie.In-loop Inv-loop μ-loop = search in few turn
@@ -140,29 +134,27 @@ loop-less c =
 loop-again : tie.Need-loop-again Inv-loop μ-loop
 loop-again c =
     let turn : tie.In-loop Inv-loop μ-loop = search in
-    let gap : tie.After-gap-to Inv-loop μ-loop = search in
-    let spare : tie.After-spare-to Inv-loop μ-loop = search in
     let entered : tie.After-put-entry Inv-loop μ-loop = search in
-    put-more _ _ _ _ (begin turn .pre) _ (ordered turn .playing-order .ensures) _ (turn .loop-test .taken) _ (gap .gap-to .ensures) _ (spare .spare-to .ensures) (turn .before .loop .inv)
+    put-more _ _ _ _ _ (begin turn .pre) _ (ordered turn .playing-order .ensures) _ (turn .loop-test .taken) (turn .before .loop .inv)
     (entered .put-entry .ensures) (c .begun .ensures)
 
 put-closing-requires : tie.Need-put-closing-requires Inv-loop μ-loop
 put-closing-requires c κs =
     let start : tie.Start Inv-loop μ-loop = search in
     let left : tie.After-loop Inv-loop μ-loop = search in
-    last-room _ _ _ _ (start .pre) (left .before .loop .inv) (left .loop-test .left) (omega arith)
+    last-room _ _ _ _ _ (start .pre) (left .before .loop .inv) (left .loop-test .left) (omega arith)
 
 same-length : tie.Need-same-length Inv-loop μ-loop
 same-length c =
     let start : tie.Start Inv-loop μ-loop = search in
     let left : tie.After-loop Inv-loop μ-loop = search in
-    appended-long (put-all _ _ _ _ (start .pre) (left .before .loop .inv) (left .loop-test .left) (c .before .before .put-closing .ensures))
+    appended-long (put-all _ _ _ _ _ (start .pre) (left .before .loop .inv) (left .loop-test .left) (c .before .before .put-closing .ensures))
 
 returns : tie.Need-returns Inv-loop μ-loop
 returns c =
     let start : tie.Start Inv-loop μ-loop = search in
     let left : tie.After-loop Inv-loop μ-loop = search in
-    written _ _ _ _ (start .pre) (left .before .loop .inv) (left .loop-test .left) (c .before .before .put-closing .ensures)
+    written _ _ _ _ _ (start .pre) (left .before .loop .inv) (left .loop-test .left) (c .before .before .put-closing .ensures)
 
 pub put-sheets-spec : {M : Type 1} → statement M
 put-sheets-spec =
@@ -178,26 +170,22 @@ put-sheets-spec =
     cast-j
     mul-i
     shared-slice-read-i
-    mul-start
-    array-read-start
     mul-from
     array-read-from
     mul-to
     array-read-to
     add-to
-    (λ c. search needs)
-    (λ c. search needs)
-    (λ c. search needs)
-    (λ c. search needs)
-    (λ c. search needs)
-    add-spare-to
-    spare-to-requires
-    gap-to-requires
+    mul-put-entry
+    array-read-put-entry
+    mul-put-entry-2
+    array-read-put-entry-2
     sub-put-entry
     part-put-entry-start
     part-put-entry-end
-    mul-put-entry
-    array-read-put-entry
+    mul-put-entry-3
+    array-read-put-entry-3
+    mul-put-entry-4
+    array-read-put-entry-4
     put-entry-requires
     begun-requires
     add-k

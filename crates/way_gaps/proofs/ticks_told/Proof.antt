@@ -7,9 +7,9 @@ use mir.Syntax.{w32}
 use mir.Val.{SFits, toZ, ofZ}
 use mir.Facts.{toZ-ofZ}
 use borrow.Author.Needs.{needs}
-use Rattle.way_sheets.proofs.Cases.{cast-told, told-taken, told-left}
-use Rattle.way_sheets.proofs.ticks_told.Statement.{statement}
-use Rattle.way_sheets.proofs.ticks_told.Tie as tie
+use Rattle.way_gaps.proofs.Cases.{cast-told, told-taken, told-left}
+use Rattle.way_gaps.proofs.ticks_told.Statement.{statement}
+use Rattle.way_gaps.proofs.ticks_told.Tie as tie
 
 abbrev ticks : tie.After-known-told → ℤ
 ticks c = c .before .spare .given .0 .0

@@ -1,9 +1,9 @@
 -- By whether there is a predecessor.
 use mathlib.Core.Path.{_∙_}
 use borrow.Author.Needs.{needs}
-use Rattle.way_sheets.proofs.Cases.{spare-first, spare-later}
-use Rattle.way_sheets.proofs.spare_to.Statement.{statement}
-use Rattle.way_sheets.proofs.spare_to.Tie as tie
+use Rattle.way_gaps.proofs.Cases.{spare-first, spare-later}
+use Rattle.way_gaps.proofs.spare_to.Statement.{statement}
+use Rattle.way_gaps.proofs.spare_to.Tie as tie
 
 returns : tie.Need-returns
 returns c = record { each = λ b T. spare-first b _ _ (c .if1 .taken) }
