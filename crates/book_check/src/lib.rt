@@ -1,4 +1,6 @@
 // The check of a book: its form, read from the bytes, and then its questions.
+#![tactic(auto)]
+
 ghost use Rattle.text_read.specs.Reader.{ReadsFront};
 ghost use Rattle.book_form.specs.Book.{opening};
 ghost use Rattle.book_check.specs.Closing.{Closing};

@@ -1,4 +1,6 @@
 // What a check of a book hands back, and the questions 13 to 16 put to what its lines gave.
+#![tactic(auto)]
+
 ghost use Rattle.std.specs.Prelude.{◌≡◌};
 ghost use Rattle.book_form.specs.Questions.{question_of, line_of};
 ghost use Rattle.book_form.specs.Checked.{no_book};

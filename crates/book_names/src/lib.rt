@@ -1,4 +1,6 @@
 // The names of a book's entries: where one lies, the name, and the question that refuses it; question 19 as a test.
+#![tactic(auto)]
+
 ghost use Rattle.std.specs.Prelude.{◌≡◌};
 ghost use Rattle.book_names.specs.Name.{is_entry, NameGiven};
 ghost use Rattle.book_names.specs.BookNames.{BookName, BookNameRefusal};

@@ -1,4 +1,6 @@
 // Lists of 32-bit numbers lent as bytes, four a number, two's complement, lowest first: reading them.
+#![tactic(auto)]
+
 ghost use Rattle.std.specs.Prelude.{◌≡◌, ◌+◌, ◌*◌, ◌/◌, ◌≤◌, ◌<◌, min, length, get_or, take, pos};
 ghost use Rattle.laws.specs.Padded.{padded};
 ghost use Rattle.bytes_read.specs.Words.{word_at, signed, unsigned, words, ints};

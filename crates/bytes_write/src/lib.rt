@@ -1,4 +1,6 @@
 // Lists of 32-bit numbers written to lists of bytes that are lent.
+#![tactic(auto)]
+
 ghost use Rattle.std.specs.Prelude.{◌≡◌, ◌+◌, ◌*◌, ◌/◌, ◌≤◌, min, length, take};
 ghost use Rattle.bytes_read.specs.Words.{encode_words, encode_ints, over};
 ghost use Rattle.bytes_write.specs.Writing.{fitting, put_word};

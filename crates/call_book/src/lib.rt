@@ -1,4 +1,6 @@
 // The calls of a book, as `desk` hands them to C: each ensures what a caller sees of it, refused calls included.
+#![tactic(auto)]
+
 ghost use Rattle.call_book.specs.BookEntries.{BookFirst, BookNext, BookCount};
 
 use call_reply::Reply;

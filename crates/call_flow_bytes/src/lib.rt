@@ -1,4 +1,6 @@
 // The flows of a network as the bytes of a call: questions 7 and 8, and a flow and its prices written.
+#![tactic(auto)]
+
 ghost use Rattle.std.specs.Prelude.{◌≡◌, true, length};
 ghost use Rattle.net_model.specs.Struct.{Sound};
 ghost use Rattle.net_questions.specs.Questions.{number_of};

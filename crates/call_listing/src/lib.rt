@@ -1,4 +1,6 @@
 // The listing of a book.
+#![tactic(auto)]
+
 ghost use Rattle.std.specs.Prelude.{◌≡◌, ◌≤◌, length};
 ghost use Rattle.way_list.specs.Room.{listing_room};
 ghost use Rattle.call_listing.specs.Listing.{Printed, BookListing, WritesListing};

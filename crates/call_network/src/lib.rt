@@ -1,4 +1,6 @@
 // The calls of a network, as `desk` hands them to C: each ensures what a caller sees of it, refused calls included.
+#![tactic(auto)]
+
 ghost use Rattle.call_network.specs.NetworkEntries.{NetworkFirst, NetworkFirstPriced, NetworkNext, NetworkCount};
 
 use call_reply::Reply;

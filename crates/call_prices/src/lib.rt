@@ -1,4 +1,6 @@
 // The prices of a network, worked out from a least-cost flow that is given: those of every least-cost flow.
+#![tactic(auto)]
+
 ghost use Rattle.call_prices.specs.PriceCall.{NetworkPrices};
 
 use call_reply::Reply;

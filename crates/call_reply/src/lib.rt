@@ -1,4 +1,6 @@
 // What the calls of a network and of a book share: the reply, and the lists lent.
+#![tactic(auto)]
+
 ghost use Rattle.std.specs.Prelude.{◌≡◌, true, length, take};
 ghost use Rattle.std.proofs.Math.Option.{some};
 ghost use Rattle.laws.specs.Count.{counted};

@@ -1,4 +1,6 @@
 // The calls of the part sheets.
+#![tactic(auto)]
+
 ghost use Rattle.call_sheets.specs.SheetCalls.{BookSheetsRoom, BookSheets};
 ghost use Rattle.call_sheets.specs.AdmittedWay.{AdmitsWay};
 

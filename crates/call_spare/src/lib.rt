@@ -1,4 +1,6 @@
 // The call of the spare of a join.
+#![tactic(auto)]
+
 ghost use Rattle.std.specs.Prelude.{◌≡◌, ◌≤◌};
 ghost use Rattle.way_network.specs.Held.{Held};
 ghost use Rattle.call_spare.specs.SpareCall.{spare_reply, SparesIn, BookSpare};

@@ -1,4 +1,6 @@
 // The ways of a book as the bytes of a call: questions 17 and 18, and a way written.
+#![tactic(auto)]
+
 ghost use Rattle.std.specs.Prelude.{◌≡◌, true, length};
 ghost use Rattle.way_network.specs.Held.{Held};
 ghost use Rattle.way_enumerate.specs.WayEnumerator.{EnumeratesSome};

@@ -1,4 +1,6 @@
 // The three demands, put to the entries that C calls: each function calls entries of `desk` as C does, and ensures what the demands say of the calls.
+#![tactic(auto)]
+
 ghost use Rattle.std.proofs.Math.Option.{none, some};
 ghost use Rattle.std.specs.Prelude.{◌*◌, ◌/◌, length, take};
 ghost use Rattle.laws.specs.Rules.{first, next};

@@ -1,4 +1,6 @@
 // What C calls. Each entry hands the call on, and ensures what the function that takes it ensures.
+#![tactic(auto)]
+
 ghost use Rattle.call_network.specs.NetworkEntries.{NetworkFirst, NetworkFirstPriced, NetworkNext, NetworkCount};
 ghost use Rattle.call_prices.specs.PriceCall.{NetworkPrices};
 ghost use Rattle.call_book.specs.BookEntries.{BookFirst, BookNext, BookCount};

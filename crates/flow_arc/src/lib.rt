@@ -1,5 +1,7 @@
 // One arc of a least-cost flow lowered or raised while the arcs before it stay.
 // `free` marks arcs of reduced cost 0: no least-cost flow differs from another on the rest.
+#![tactic(auto)]
+
 ghost use Rattle.std.specs.Prelude.{[], suc, ◌≤◌, ◌<◌, length, get_or, take};
 ghost use Rattle.net_model.specs.Network.{arcs, low, up};
 ghost use Rattle.net_theory.specs.Graph.{net_with};

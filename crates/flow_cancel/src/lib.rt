@@ -1,4 +1,6 @@
 // Cancelling negative cycles (Klein), those with much capacity first (capacity scaling), until there is none.
+#![tactic(auto)]
+
 ghost use Rattle.std.specs.Prelude.{◌≡◌, [], ◌≤◌, ◌<◌, length};
 ghost use Rattle.net_theory.specs.Graph.{net_with};
 ghost use Rattle.flow_relax.specs.Labels.{Relaxable};

@@ -1,4 +1,6 @@
 // Numbers brought within the bounds of the arcs.
+#![tactic(auto)]
+
 ghost use Rattle.std.specs.Prelude.{◌≡◌, ◌+◌, ◌≤◌, min};
 ghost use Rattle.flow_clamp.specs.Clamped.{Clampable, WritesWithin};
 

@@ -1,6 +1,8 @@
 // Which arcs can be raised or lowered, in one pass over the arcs from the last down.
 // The pass keeps the transitive closure of the residual steps of the free arcs passed (crate flow_preorder): an arc can be raised or lowered if its
 // step closes a cycle. The closure of all of them shows which arcs can be neither.
+#![tactic(auto)]
+
 ghost use Rattle.std.specs.Prelude.{◌≡◌, [], suc, ◌≤◌, ◌<◌, length};
 ghost use Rattle.net_model.specs.Network.{arcs};
 ghost use Rattle.net_theory.specs.Graph.{net_with};

@@ -1,5 +1,7 @@
 // What goes through the full list of a network, as a state by value: the item that it stands on, its cost, and marks on arcs, worked out once
 // for the whole list: an arc without a mark has one number in all items.
+#![tactic(auto)]
+
 ghost use Rattle.std.specs.Prelude.{◌≡◌, false, ◌+◌, ◌≤◌, take, replicate};
 ghost use Rattle.laws.specs.Count.{counted};
 ghost use Rattle.net_model.specs.FullList.{first_flow, next_flow, count_flows};

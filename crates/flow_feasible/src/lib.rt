@@ -1,5 +1,7 @@
 // The search for a flow. It starts at a list within the bounds and sends from nodes with an excess to nodes with a deficit, until
 // there is no excess, or none of it can be sent: the nodes reached then certify that there is no flow.
+#![tactic(auto)]
+
 ghost use Rattle.std.specs.Prelude.{◌≡◌, [], ℕ, ◌≤◌, ◌<◌, length, get_or, pos, ◌<ℤ◌};
 ghost use Rattle.laws.specs.Range.{Bounded};
 ghost use Rattle.laws.specs.Sum.{sum};

@@ -1,4 +1,6 @@
 // The first least-cost flow of a network, and the test of a given flow.
+#![tactic(auto)]
+
 ghost use Rattle.std.specs.Prelude.{◌≡◌, length};
 ghost use Rattle.net_model.specs.Network.{arcs, LeastCost};
 ghost use Rattle.net_model.specs.Accepted.{AcceptedNet};

@@ -1,4 +1,6 @@
 // The search for a negative cycle in the residual network of a flow: rounds over the arcs until one changes no label, or predecessors come to a cycle.
+#![tactic(auto)]
+
 ghost use Rattle.std.specs.Prelude.{◌≡◌, [], ℕ, ◌≤◌, ◌<◌, length, get_or, pos};
 ghost use Rattle.net_theory.specs.Graph.{net_with};
 ghost use Rattle.net_theory.specs.Limits.{SmallEnds};

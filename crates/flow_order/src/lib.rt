@@ -1,5 +1,7 @@
 // The least-cost flows in order: the least flow from an arc on, the next flow, and the count.
 // `free` marks arcs of reduced cost 0: no least-cost flow differs from another on the rest.
+#![tactic(auto)]
+
 ghost use Rattle.std.specs.Prelude.{◌≡◌, false, [], ◌+◌, ◌≤◌};
 ghost use Rattle.std.proofs.Math.Option.{some};
 ghost use Rattle.net_model.specs.Network.{arcs};

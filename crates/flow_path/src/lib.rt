@@ -1,5 +1,7 @@
 // Searches in the residual network, and the walks that they find.
 // A residual arc is a code: 2a is arc a forward, 2a + 1 is arc a backward.
+#![tactic(auto)]
+
 ghost use Rattle.std.specs.Prelude.{◌≡◌, [], ◌≤◌, ◌<◌, length};
 ghost use Rattle.net_model.specs.Network.{arcs};
 ghost use Rattle.net_theory.specs.Reach.{Spread};

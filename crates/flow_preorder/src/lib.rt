@@ -1,6 +1,8 @@
 // Which of 64 nodes lead to which: each to itself, and by any number of steps, which are added one at a time.
 // There is a row of 64 bits for each node, and row 64 with the nodes that another node leads to. A step from a node that is not in row 64
 // changes the row of that node and row 64 only, and most steps are such.
+#![tactic(auto)]
+
 ghost use Rattle.std.specs.Prelude.{◌≡◌, ℕ, ◌<◌, eqb, length};
 ghost use Rattle.flow_preorder.specs.NodeSet.{has};
 ghost use Rattle.flow_preorder.specs.Preorder.{Preorder, Alone, JoinedSet, JoinedRows, Extended};

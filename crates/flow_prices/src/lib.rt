@@ -1,6 +1,8 @@
 // The price search: labels corrected in at most 64 rounds over the arcs, until they are the prices. It is run on least-cost flows alone, where
 // every label is at every moment the cost of a residual walk: within 63,000,000 either way, and each sum within 64,000,000. So 32 bits hold all of
 // its numbers (request 4).
+#![tactic(auto)]
+
 ghost use Rattle.std.specs.Prelude.{◌≡◌, cond, ◌&&◌, [], ℕ, suc, ◌+◌, ◌<◌, length, pos, ◌+ℤ◌, ◌≤ℤ◌};
 ghost use Rattle.std.specs.Int.Signed.{lt_z};
 ghost use Rattle.std.specs.Int.{w32};

@@ -1,5 +1,7 @@
 // What can go along a walk in the residual network, and pushing along it.
 // A residual arc is a code: 2a is arc a forward, 2a + 1 is arc a backward.
+#![tactic(auto)]
+
 ghost use Rattle.std.specs.Prelude.{◌≡◌, true, false, [], ◌+◌, ◌-◌, ◌/◌, ◌%◌, ◌≤◌, ◌<◌, min, eqb, length, get_or, take};
 ghost use Rattle.laws.specs.Members.{Every};
 ghost use Rattle.net_model.specs.Network.{arcs, low, up};

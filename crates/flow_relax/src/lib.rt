@@ -1,4 +1,6 @@
 // Labels of the nodes, corrected in rounds over the residual arcs of a flow (Bellman and Ford).
+#![tactic(auto)]
+
 ghost use Rattle.std.specs.Prelude.{◌≡◌, ◌&&◌, [], suc, ◌+◌, ◌≤◌, ◌<◌, length, get_or, pos, ◌+ℤ◌};
 ghost use Rattle.std.specs.Int.Signed.{lt_z};
 ghost use Rattle.std.specs.Int.{w64};

@@ -1,5 +1,7 @@
 // A guess of a least-cost flow: the primal network simplex. Its numbers are unsigned and wrap, and all that is promised of the guess is
 // that it is within the bounds: whoever needs a flow tests it.
+#![tactic(auto)]
+
 ghost use Rattle.std.specs.Prelude.{◌≡◌, ℕ, ◌<◌, ◌≤◌, [], length};
 ghost use Rattle.net_model.specs.Network.{nodes, arcs, low, up};
 ghost use Rattle.net_theory.specs.Graph.{net_with};

@@ -1,4 +1,6 @@
 // The checked network: the struct of a network that passes questions 1 to 6, or the first question that it fails.
+#![tactic(auto)]
+
 ghost use Rattle.std.specs.Prelude.{◌≡◌, map, ◌/◌, ◌≤◌, length, pos, nat_abs};
 ghost use Rattle.laws.specs.Padded.{padded};
 ghost use Rattle.bytes_read.specs.Words.{ints};

@@ -1,4 +1,6 @@
 // The struct that stands for a network, an arc as it comes, and where a residual arc starts.
+#![tactic(auto)]
+
 ghost use Rattle.std.specs.Prelude.{◌≡◌, ◌/◌, ◌<◌, length, get_or};
 ghost use Rattle.net_model.specs.Residual.{either};
 

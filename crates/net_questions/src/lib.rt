@@ -1,4 +1,6 @@
 // Questions 1 to 6, put to two lists of bytes.
+#![tactic(auto)]
+
 ghost use Rattle.std.specs.Prelude.{◌≡◌, ◌+◌, ◌*◌, ◌-◌, ◌≤◌, length, get_or, pos};
 ghost use Rattle.laws.specs.Tests.{all};
 ghost use Rattle.bytes_read.specs.Words.{ints};

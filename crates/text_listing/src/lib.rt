@@ -1,4 +1,6 @@
 // The lines of a listing. Each `put` writes one into a lent list of bytes from the place `at` on, and answers the place after it.
+#![tactic(auto)]
+
 ghost use Rattle.std.specs.Prelude.{◌++◌, ◌+◌, ◌≤◌, length};
 ghost use Rattle.laws.specs.Appended.{Appended};
 ghost use Rattle.text_read.specs.Heads.{space};

@@ -1,4 +1,6 @@
 // Readers of text. Each reads what stands at the front of `rest`, and answers how many bytes it takes: 0 if it is not there.
+#![tactic(auto)]
+
 pub mod heads;
 
 ghost use Rattle.std.specs.Prelude.{◌<◌, ◌≤◌, ◌≡◌, length, take};

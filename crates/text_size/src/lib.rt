@@ -1,4 +1,6 @@
 // How many bytes the texts of `text_write` take, without writing them.
+#![tactic(auto)]
+
 ghost use Rattle.std.specs.Prelude.{◌≡◌, cond, ◌++◌, ◌≤◌, leb, length};
 ghost use Rattle.text_read.specs.Heads.{line_end};
 ghost use Rattle.text_write.specs.Decimal.{decimal};

@@ -1,4 +1,6 @@
 // Texts and numbers, written into a lent list of bytes from the place `at` on. Each `put` answers the place after what it wrote.
+#![tactic(auto)]
+
 ghost use Rattle.std.specs.Prelude.{◌≡◌, ◌++◌, ◌+◌, ◌≤◌, length};
 ghost use Rattle.laws.specs.Appended.{Appended};
 ghost use Rattle.text_read.specs.Heads.{line_end};

@@ -1,4 +1,6 @@
 // An enumerator of the full list of a book, as a state by value: that of its network, whose flows are read as ways.
+#![tactic(auto)]
+
 ghost use Rattle.std.specs.Prelude.{◌≡◌, ◌+◌, ◌≤◌, length};
 ghost use Rattle.flow_enumerate.specs.Enumerator.{word_after};
 ghost use Rattle.flow_enumerate.specs.declared.Place.TheVariants.{Item, None};

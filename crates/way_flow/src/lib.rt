@@ -1,4 +1,6 @@
 // The way of a flow, and the flow of a way.
+#![tactic(auto)]
+
 ghost use Rattle.std.specs.Prelude.{◌≡◌, cond, ◌-◌, ◌/◌, ◌≤◌, ◌<◌, eqb, length, set};
 ghost use Rattle.way_theory.specs.Ways.{times};
 ghost use Rattle.way_theory.specs.WayFlow.{one_if_same};

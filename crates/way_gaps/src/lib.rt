@@ -1,4 +1,6 @@
 // The ticks between each entry of a way and its predecessor: the gap, and the spare, which is what the move leaves of it.
+#![tactic(auto)]
+
 ghost use Rattle.std.specs.Prelude.{◌≡◌, ◌-◌, ◌≤◌};
 ghost use Rattle.way_joins.specs.Tables.{timing_with, timing_in, HasTiming};
 ghost use Rattle.way_gaps.specs.Gaps.{gap_by, ticks_told, SparesTo, HasWay, TellsTicks};

@@ -1,4 +1,6 @@
 // Whether an entry of a book may follow another, with what spare, and what the join costs.
+#![tactic(auto)]
+
 ghost use Rattle.std.specs.Prelude.{◌≡◌, ◌≤◌};
 ghost use Rattle.way_theory.specs.Follow.{spare_with};
 ghost use Rattle.way_joins.specs.declared.Spare.TheVariants.{Ticks};

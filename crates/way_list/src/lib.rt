@@ -1,4 +1,6 @@
 // The listing of the ways that an enumerator goes through.
+#![tactic(auto)]
+
 ghost use Rattle.std.specs.Prelude.{◌≡◌, ◌+◌, ◌≤◌, length};
 ghost use Rattle.flow_enumerate.specs.declared.Place.TheVariants.{Item};
 ghost use Rattle.way_enumerate.specs.WayEnumerator.{EnumeratesSome};

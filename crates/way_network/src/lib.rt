@@ -1,4 +1,6 @@
 // The network of a checked book.
+#![tactic(auto)]
+
 ghost use Rattle.std.specs.Prelude.{◌≡◌, [], ◌∷◌, ◌++◌, ◌+◌, ◌*◌, ◌-◌, ◌≤◌, ◌<◌, pos, neg_ℤ, replicate};
 ghost use Rattle.laws.specs.Padded.{padded};
 ghost use Rattle.way_theory.specs.Ways.{one_if};

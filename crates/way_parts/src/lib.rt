@@ -1,4 +1,6 @@
 // The parts of a way.
+#![tactic(auto)]
+
 ghost use Rattle.std.specs.Prelude.{◌≡◌, ◌+◌, ◌≤◌, length};
 ghost use Rattle.laws.specs.Padded.{padded};
 ghost use Rattle.laws.specs.Appended.{Appended};

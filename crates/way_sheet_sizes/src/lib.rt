@@ -1,4 +1,6 @@
 // How many bytes the sheets of a way take, without writing them: what each line takes, summed over the entries in book order.
+#![tactic(auto)]
+
 ghost use Rattle.std.specs.Prelude.{◌≡◌, ◌+◌, ◌≤◌, length};
 ghost use Rattle.text_read.specs.Heads.{line_end};
 ghost use Rattle.way_sheets.specs.Lines.{part_line, gap_line};

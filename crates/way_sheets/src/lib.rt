@@ -1,4 +1,6 @@
 // The sheets of a way, written into a lent list of bytes. Each `put` answers the place after what it wrote.
+#![tactic(auto)]
+
 ghost use Rattle.std.specs.Prelude.{◌≡◌, ◌++◌, ◌+◌, ◌≤◌, length};
 ghost use Rattle.laws.specs.Appended.{Appended};
 ghost use Rattle.way_sheets.specs.Lines.{part_line, play_line, gap_line};

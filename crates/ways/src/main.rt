@@ -1,4 +1,5 @@
 // Prints the listing of the book on standard input.
+#![tactic(auto)]
 
 // One byte more than the longest accepted book has: a longer one is read so far, and refused.
 fn book_buffer() -> [u8; 16385] {

@@ -11,8 +11,7 @@ use mir.Val.{Fits, SFits, to_z, of_z}
 use mir.Facts.{to_z-of_z}
 use Rattle.bytes_read.specs.Words.{unsigned}
 use Rattle.bytes_read.proofs.Minus.{minus_neg}
-use Rattle.bytes_read.proofs.to_unsigned.Statement.{statement}
-use Rattle.bytes_read.proofs.to_unsigned.Tie as tie
+use Rattle.bytes_read.proofs.to_unsigned.Goals as goal
 
 -- what each step of the code needs of a number x with those bits
 up : (x : ℤ) → SFits w32 x → le_z (pos 0) (to_z w32 (of_z w32 x)) ≡ true
@@ -37,23 +36,20 @@ down (negsuc n) f e =
       right = rw (to_z-of_z f, minus_neg n, to_z-of_z g);
     }
 
-cast-result : tie.Need-overflow-cast-result
-cast-result c = (up c.before.args.x c.before.ranges.x c.if1.true).0
+pub overflow_cast-result : goal.overflow_cast-result
+overflow_cast-result c = (up c.args.x c.ranges.x c.if-x-ge0.true).0
 
-sub-k : tie.Need-overflow-sub-k
-sub-k c = (down c.before.args.x c.before.ranges.x c.if1.false).fits_first
+pub overflow_sub-k : goal.overflow_sub-k
+overflow_sub-k c = (down c.args.x c.ranges.x c.if-x-ge0.false).fits_first
 
-cast-result-2 : tie.Need-overflow-cast-result-2
-cast-result-2 c = (down c.before.args.x c.before.ranges.x c.if1.false).fits-then
+pub overflow_cast-result-else-x-ge0 : goal.overflow_cast-result-else-x-ge0
+overflow_cast-result-else-x-ge0 c = (down c.args.x c.ranges.x c.if-x-ge0.false).fits-then
 
-sub-result : tie.Need-overflow-sub-result
-sub-result c = (down c.before.args.x c.before.ranges.x c.if1.false).fits_last
+pub overflow_sub-result : goal.overflow_sub-result
+overflow_sub-result c = (down c.args.x c.ranges.x c.if-x-ge0.false).fits_last
 
-returns : tie.Need-returns
-returns c = (up c.before.args.x c.before.ranges.x c.if1.true).1
+pub returns-then-x-ge0 : goal.returns-then-x-ge0
+returns-then-x-ge0 c = (up c.args.x c.ranges.x c.if-x-ge0.true).1
 
-returns-2 : tie.Need-returns-2
-returns-2 c = (down c.before.args.x c.before.ranges.x c.if1.false).right
-
-pub to-unsigned-spec : {M : Type 1} → statement M
-to-unsigned-spec = tie.close (tie.spec cast-result sub-k cast-result-2 sub-result returns returns-2)
+pub returns-else-x-ge0 : goal.returns-else-x-ge0
+returns-else-x-ge0 c = (down c.args.x c.ranges.x c.if-x-ge0.false).right
