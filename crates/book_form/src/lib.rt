@@ -11,7 +11,7 @@ use book_lines::moves::Moves;
 use book_lines::verdict::first_bad;
 
 // The first question that a book fails, and for 13 to 15 the first line that fails it.
-#[derive(Drop)]
+#[derive(Clone, Copy)]
 pub enum Answer {
     Accepted,
     TooLong,
@@ -78,7 +78,7 @@ pub fn line(answer: Answer) -> u32
 }
 
 // The lines `(book`, `(players P)` and `(fee C)`.
-#[derive(Drop)]
+#[derive(Clone, Copy)]
 pub struct Opening {
     pub players: u32,
     pub fee: u32,

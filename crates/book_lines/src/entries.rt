@@ -9,7 +9,7 @@ use text_read::{heads, read_numbers, read_text, read_word};
 
 // The line of an entry, of either form: a join arrives at the first instrument, and leaves from the second. `left` is how many bytes of `rest`
 // are left where the name begins.
-#[derive(Drop)]
+#[derive(Clone, Copy)]
 pub struct EntryLine {
     pub left: usize,
     pub length: usize,
@@ -21,7 +21,7 @@ pub struct EntryLine {
 }
 
 // The numbers of an entry, of either form.
-#[derive(Drop)]
+#[derive(Clone, Copy)]
 struct EntryNumbers {
     arrives: u32,
     leaves: u32,

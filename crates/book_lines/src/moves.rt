@@ -7,7 +7,7 @@ ghost use Rattle.book_lines.specs.Passes.{Put, MovesRead};
 use crate::verdict::{first_bad, is_instrument};
 use text_read::{heads, read_row};
 
-#[derive(Drop)]
+#[derive(Clone, Copy)]
 pub struct Move {
     pub source: u32,
     pub target: u32,

@@ -7,7 +7,7 @@ ghost use Rattle.book_names.specs.BookNames.{BookName, BookNameRefusal};
 
 // A part of a book.
 #[repr(C)]
-#[derive(Drop)]
+#[derive(Clone, Copy)]
 pub struct Span {
     pub start: usize,
     pub length: usize,

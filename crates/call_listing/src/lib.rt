@@ -8,7 +8,7 @@ ghost use Rattle.call_listing.specs.Listing.{Printed, BookListing, WritesListing
 use call_reply::Reply;
 
 // A text that is written, so many bytes, and the code and the line of the reply.
-#[derive(Drop)]
+#[derive(Clone, Copy)]
 struct Written {
     len: usize,
     code: u32,

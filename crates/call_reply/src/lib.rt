@@ -12,7 +12,7 @@ use flow_enumerate::Place;
 // code: 0 with an item or a value, 100 "none", 101 "end", 102 "more", 103 "no move", any other the number of the question failed.
 // line: the first line of a book that fails the question, with 13, 14 and 15. value: the cost, the count, the length, the room or the spare.
 #[repr(C)]
-#[derive(Drop)]
+#[derive(Clone, Copy)]
 pub struct Reply {
     pub code: u32,
     pub line: u32,

@@ -43,7 +43,7 @@ pub fn prices_of_flow(balances: &[u8], arcs: &[u8], given: &[u8], prices: &mut [
 }
 
 // What the first flow with prices and the prices of a flow given reply.
-#[derive(Drop)]
+#[derive(Clone, Copy)]
 pub struct FirstAndGiven {
     pub first: Reply,
     pub given: Reply,
@@ -118,7 +118,7 @@ pub fn write_sheets(book: &[u8], given: &[u8], text: &mut [u8]) -> Reply
 }
 
 // What both calls of the sheets of a way reply.
-#[derive(Drop)]
+#[derive(Clone, Copy)]
 pub struct RoomAndSheets {
     pub room: Reply,
     pub sheets: Reply,
@@ -136,7 +136,7 @@ pub fn write_in_room(book: &[u8], given: &[u8], text: &mut [u8]) -> RoomAndSheet
 }
 
 // The part of the book that holds the name of an entry, and the number of the question that refuses it, or 0.
-#[derive(Drop)]
+#[derive(Clone, Copy)]
 pub struct Named {
     pub part: Span,
     pub number: u32,
@@ -154,7 +154,7 @@ pub fn name_of(book: &[u8], entry: u32) -> Named
 }
 
 // The replies of the calls of a run; where the first one writes nothing, it is the only call, and its reply stands three times.
-#[derive(Drop)]
+#[derive(Clone, Copy)]
 pub struct RunReplies {
     pub one: Reply,
     pub two: Reply,

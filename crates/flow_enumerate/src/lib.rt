@@ -10,7 +10,7 @@ ghost use Rattle.flow_least.specs.Answers.{LeastIf};
 ghost use Rattle.flow_enumerate.specs.Enumerator.{state_net, state_flow, item_of, word_after, item_after, Stands, Steps, Resumes, PriceArray};
 
 // Where an enumerator stands: on no item yet, on an item, or on none, for there is no item ("none") or no further one ("end").
-#[derive(Drop)]
+#[derive(Clone, Copy)]
 pub enum Place {
     Start,
     Item,

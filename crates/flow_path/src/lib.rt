@@ -10,7 +10,7 @@ ghost use Rattle.net_theory.specs.Ready.{Searchable};
 ghost use Rattle.flow_path.specs.Reaching.{NoneReached, SearchTree, SpreadArc, Round, Reach, Traceable, Trace, FindsWalk};
 
 // Whether a walk was found: how many codes it has, or that there is none.
-#[derive(Drop)]
+#[derive(Clone, Copy)]
 pub enum Route {
     Codes(usize),
     Cut,

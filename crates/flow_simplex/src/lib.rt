@@ -102,7 +102,7 @@ fn push_up(
 
 // A path up the tree to the node `join`: `amount` can go along it, which is the residual capacity of the arc above the node `leave` or,
 // if that is ROOT, the most that was asked for.
-#[derive(Drop)]
+#[derive(Clone, Copy)]
 struct PathToJoin {
     join: u8,
     leave: u8,
@@ -153,7 +153,7 @@ fn path_to_join(
 
 // What leaves the tree: the arc above `leave`, or the entering arc itself if that is ROOT. The code `into` of the entering arc leads into
 // the subtree of `leave`; the two sides of the cycle meet at `join`.
-#[derive(Drop)]
+#[derive(Clone, Copy)]
 struct Leaving {
     into: usize,
     leave: u8,

@@ -18,7 +18,7 @@ pub struct Network {
 }
 
 // An arc as it came.
-#[derive(Drop)]
+#[derive(Clone, Copy)]
 pub struct Arc {
     pub tail: i32,
     pub head: i32,

@@ -11,7 +11,7 @@ ghost use Rattle.net_questions.specs.Arcs.{no_arc};
 use net_model::Arc;
 
 // The question that a network fails, 1 to 6 in this order.
-#[derive(Drop)]
+#[derive(Clone, Copy)]
 pub enum Verdict {
     Accepted,
     NodeCount,
@@ -23,7 +23,7 @@ pub enum Verdict {
 }
 
 // Questions 3, 4 and 5.
-#[derive(Drop)]
+#[derive(Clone, Copy)]
 pub enum ArcQuestion {
     Ends,
     Bounds,

@@ -6,7 +6,7 @@ pub mod heads;
 ghost use Rattle.std.specs.Prelude.{◌<◌, ◌≤◌, ◌≡◌, length, take};
 ghost use Rattle.text_read.specs.Reader.{digit, word_byte, text, number, word, ReadsFront, no_row, NumbersRead, RowRead};
 
-#[derive(Drop)]
+#[derive(Clone, Copy)]
 pub struct Number {
     pub value: u32,
     pub used: usize,

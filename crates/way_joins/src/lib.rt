@@ -10,14 +10,14 @@ ghost use Rattle.way_joins.specs.Joins.{spare_told, join_if, Spares, Joins};
 use book_lines::moves::place_of;
 
 // The answer to whether entry j may follow entry i: the spare ticks, 0 or more if it may, or that there is no move.
-#[derive(Drop)]
+#[derive(Clone, Copy)]
 pub enum Spare {
     NoMove,
     Ticks(i32),
 }
 
 // The cost of a join, or that there is none.
-#[derive(Drop)]
+#[derive(Clone, Copy)]
 pub enum Join {
     No,
     At(u32),

@@ -13,7 +13,7 @@ use net_model::Network;
 use way_joins::Join;
 
 // An arc in the types of the arrays, without its bounds.
-#[derive(Drop)]
+#[derive(Clone, Copy)]
 struct NetworkArc {
     tail: u8,
     head: u8,
