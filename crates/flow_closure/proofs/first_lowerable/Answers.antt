@@ -12,6 +12,7 @@ use Rattle.flow_closure.specs.Candidates.{FirstLowerable}
 use Rattle.flow_closure.proofs.Closure.{closure_start, closure_skip}
 use Rattle.flow_closure.proofs.Candidates.{before_arc, lowers, lowerable, not_lowerable, lowerable_start, lowerable_step, lowerable_first, lowerable_from}
 use Rattle.flow_closure.proofs.first_lowerable.Goals as goal
+use Rattle.flow_closure.proofs.first_lowerable.Goals.{then-closes_cycle, else-closes_cycle}
 
 pub alone-requires : goal.alone-requires
 alone-requires c = refl
@@ -82,12 +83,12 @@ loop-a-preserved c =
     let l = c.loop-a in (
       omega (arith, c.loop-a-test.true),
       c.add_arc.ensures,
-      ⊎_elim
-          (λ w. subst (λ (k : ℕ). FirstLowerable net c.args.flow.now c.args.free.now (l.a - 1) k) (sym w.1) (lowerable_first net c.args.flow.now c.args.free.now l.a l.first l.invariant.2
-          (lowerable net _ _ c.requires.0 (l.a - 1) l.rows low _ behind (c.closes_cycle.ensures.closes w.0.taken))))
-          (λ w. subst (λ (k : ℕ). FirstLowerable net c.args.flow.now c.args.free.now (l.a - 1) k) (sym w.1) (lowerable_step net c.args.flow.now c.args.free.now l.a l.first some l.invariant.2
-          (not_lowerable net _ _ c.requires.0 (l.a - 1) l.rows low _ behind (c.closes_cycle.ensures.none w.0.left))))
-          c.if-closes_cycle.branch,
+      elim c.if-closes_cycle.branch [
+        then-closes_cycle w ↦ subst (λ (k : ℕ). FirstLowerable net c.args.flow.now c.args.free.now (l.a - 1) k) (sym w.first-is) (lowerable_first net c.args.flow.now c.args.free.now l.a l.first l.invariant.2
+          (lowerable net _ _ c.requires.0 (l.a - 1) l.rows low _ behind (c.closes_cycle.ensures.closes w.if-closes_cycle.true)))
+        | else-closes_cycle w ↦ subst (λ (k : ℕ). FirstLowerable net c.args.flow.now c.args.free.now (l.a - 1) k) (sym w.first-is) (lowerable_step net c.args.flow.now c.args.free.now l.a l.first some l.invariant.2
+          (not_lowerable net _ _ c.requires.0 (l.a - 1) l.rows low _ behind (c.closes_cycle.ensures.none w.if-closes_cycle.false)))
+      ],
     )
 
 pub returns : goal.returns

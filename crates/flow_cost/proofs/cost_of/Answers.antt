@@ -20,14 +20,14 @@ bounds-flow-a c = omega (arith, c.loop-a-test.true, c.requires.flow_len)
 
 pub product-sum-requires : goal.product-sum-requires
 product-sum-requires c =
-    let cost_is : let x = get_or c.args.costs.now c.loop-a.a (pos 0) in to_z w32 (of_z w32 x) ≡ x = to_z-of_z (search rules) in
+    let cost_is : let x = get_or c.args.costs.now c.loop-a.a (pos 0) in to_z w32 (of_z w32 x) ≡ x = to_z-of_z {w = w32} (search rules) in
     let p = c.requires in
     rw cost_is (p.cost_small c.loop-a.a c.loop-a-test.true, p.flow_small c.loop-a.a c.loop-a-test.true)
 
 pub overflow_add-sum : goal.overflow_add-sum
 overflow_add-sum c =
-    let cost_is : let x = get_or c.args.costs.now c.loop-a.a (pos 0) in to_z w32 (of_z w32 x) ≡ x = to_z-of_z (search rules) in
-    let term_is : to_z w64 (of_z w64 c.product-sum.result) ≡ term c.args.costs.now c.args.flow.now c.loop-a.a = to_z-of_z (record { sfits = c.product-sum.type_inv }) ∙ c.product-sum.ensures ∙ rw cost_is in
+    let cost_is : let x = get_or c.args.costs.now c.loop-a.a (pos 0) in to_z w32 (of_z w32 x) ≡ x = to_z-of_z {w = w32} (search rules) in
+    let term_is : to_z w64 (of_z w64 c.product-sum.result) ≡ term c.args.costs.now c.args.flow.now c.loop-a.a = to_z-of_z {w = w64} (record { sfits = c.product-sum.type_inv }) ∙ c.product-sum.ensures ∙ rw cost_is in
     more_fits c.args.costs.now c.args.flow.now c.loop-a.a _ _ c.requires c.loop-a-test.true c.loop-a.invariant.1 term_is
 
 pub loop-a-smaller : goal.loop-a-smaller
@@ -35,9 +35,9 @@ loop-a-smaller c = omega (arith, c.loop-a-test.true)
 
 pub loop-a-preserved : goal.loop-a-preserved
 loop-a-preserved c =
-    let cost_is : let x = get_or c.args.costs.now c.loop-a.a (pos 0) in to_z w32 (of_z w32 x) ≡ x = to_z-of_z (search rules) in
-    let term_is : to_z w64 (of_z w64 c.product-sum.result) ≡ term c.args.costs.now c.args.flow.now c.loop-a.a = to_z-of_z (record { sfits = c.product-sum.type_inv }) ∙ c.product-sum.ensures ∙ rw cost_is in
-    (omega (arith, c.loop-a-test.true), rw add-one (to_z-of_z (add-sum c) ∙ rw (c.loop-a.invariant.1, term_is)))
+    let cost_is : let x = get_or c.args.costs.now c.loop-a.a (pos 0) in to_z w32 (of_z w32 x) ≡ x = to_z-of_z {w = w32} (search rules) in
+    let term_is : to_z w64 (of_z w64 c.product-sum.result) ≡ term c.args.costs.now c.args.flow.now c.loop-a.a = to_z-of_z {w = w64} (record { sfits = c.product-sum.type_inv }) ∙ c.product-sum.ensures ∙ rw cost_is in
+    (omega (arith, c.loop-a-test.true), rw add-one (to_z-of_z (more_fits c.args.costs.now c.args.flow.now c.loop-a.a _ _ c.requires c.loop-a-test.true c.loop-a.invariant.1 term_is) ∙ rw (c.loop-a.invariant.1, term_is)))
 
 pub returns : goal.returns
 returns c = let s = c.args in

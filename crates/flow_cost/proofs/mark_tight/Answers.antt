@@ -49,10 +49,10 @@ pub reduced-r-requires : goal.reduced-r-requires
 reduced-r-requires c =
     let arc : ℕ = c.loop-a.a in
     let net : Net = net_with [] c.args.tails.now c.args.heads.now [] [] c.args.costs.now in
-    let cost_is : let N = net in to_z w32 (of_z w32 (cost N arc)) ≡ cost N arc = to_z-of_z (search rules) in
+    let cost_is : let N = net in to_z w32 (of_z w32 (cost N arc)) ≡ cost N arc = to_z-of_z {w = w32} (search rules) in
     let label : ℕ → ℤ = λ v. get_or c.args.labels.now v (pos 0) in
-    let tail-label : let v = tail net arc in to_z w64 (of_z w64 (label v)) ≡ label v = to_z-of_z (search rules) in
-    let head-label : let v = head net arc in to_z w64 (of_z w64 (label v)) ≡ label v = to_z-of_z (search rules) in
+    let tail-label : let v = tail net arc in to_z w64 (of_z w64 (label v)) ≡ label v = to_z-of_z {w = w64} (search rules) in
+    let head-label : let v = head net arc in to_z w64 (of_z w64 (label v)) ≡ label v = to_z-of_z {w = w64} (search rules) in
     let p = c.requires in
     let l = c.loop-a-test.true in
     rw (cost_is, tail-label, head-label) (p.costs.cost_small arc l, p.label_small _ (p.ends.tail_in arc l), p.label_small _ (p.ends.head_in arc l))
@@ -68,9 +68,9 @@ loop-a-preserved c =
     let arc : ℕ = c.loop-a.a in
     let net : Net = net_with [] c.args.tails.now c.args.heads.now [] [] c.args.costs.now in
     let label : ℕ → ℤ = λ v. get_or c.args.labels.now v (pos 0) in
-    let cost_is : let N = net in to_z w32 (of_z w32 (cost N arc)) ≡ cost N arc = to_z-of_z (search rules) in
-    let tail-label : let v = tail net arc in to_z w64 (of_z w64 (label v)) ≡ label v = to_z-of_z (search rules) in
-    let head-label : let v = head net arc in to_z w64 (of_z w64 (label v)) ≡ label v = to_z-of_z (search rules) in
+    let cost_is : let N = net in to_z w32 (of_z w32 (cost N arc)) ≡ cost N arc = to_z-of_z {w = w32} (search rules) in
+    let tail-label : let v = tail net arc in to_z w64 (of_z w64 (label v)) ≡ label v = to_z-of_z {w = w64} (search rules) in
+    let head-label : let v = head net arc in to_z w64 (of_z w64 (label v)) ≡ label v = to_z-of_z {w = w64} (search rules) in
     let is : c.reduced-r.result ≡ reduced net label arc = c.reduced-r.ensures ∙ rw (cost_is, tail-label, head-label) in
     let l = c.loop-a in
     let m =

@@ -21,4 +21,4 @@ pub returns : goal.returns
 returns c =
     let wide : to_z w64 (of_z w64 (to_z w32 (of_z w32 c.args.c))) ≡ c.args.c = to_z-of_z (widens c.ranges.c) ∙ to_z-of_z c.ranges.c in
     let signed : to_z w64 c.args.x ≡ pos c.args.x = to_z_pos w64 (omega (arith, c.requires.1)) in
-    to_z-of_z (mul-result c) ∙ ap₂ ◌*ℤ◌ wide signed
+    to_z-of_z (product_fits c.args.c c.args.x _ _ wide signed c.requires.0 c.requires.1) ∙ ap₂ ◌*ℤ◌ wide signed

@@ -18,11 +18,11 @@ overflow_add-result c =
 pub overflow_sub-result : goal.overflow_sub-result
 overflow_sub-result c =
     let wide : to_z w64 (of_z w64 (to_z w32 (of_z w32 c.args.c))) ≡ c.args.c = to_z-of_z (widens c.ranges.c) ∙ to_z-of_z c.ranges.c in
-    let sum_is : to_z w64 (of_z w64 (to_z w64 (of_z w64 (to_z w32 (of_z w32 c.args.c))) +ℤ to_z w64 (of_z w64 c.args.p))) ≡ c.args.c +ℤ c.args.p = to_z-of_z (add-result c) ∙ ap₂ ◌+ℤ◌ wide (to_z-of_z c.ranges.p) in
+    let sum_is : to_z w64 (of_z w64 (to_z w64 (of_z w64 (to_z w32 (of_z w32 c.args.c))) +ℤ to_z w64 (of_z w64 c.args.p))) ≡ c.args.c +ℤ c.args.p = to_z-of_z {w = w64} (sum_fits c.args.c c.args.p _ _ wide (to_z-of_z c.ranges.p) c.requires.0 c.requires.1) ∙ ap₂ ◌+ℤ◌ wide (to_z-of_z c.ranges.p) in
     difference_fits c.args.c c.args.p c.args.q _ _ sum_is (to_z-of_z c.ranges.q) c.requires.0 c.requires.1 c.requires.2
 
 pub returns : goal.returns
 returns c =
     let wide : to_z w64 (of_z w64 (to_z w32 (of_z w32 c.args.c))) ≡ c.args.c = to_z-of_z (widens c.ranges.c) ∙ to_z-of_z c.ranges.c in
-    let sum_is : to_z w64 (of_z w64 (to_z w64 (of_z w64 (to_z w32 (of_z w32 c.args.c))) +ℤ to_z w64 (of_z w64 c.args.p))) ≡ c.args.c +ℤ c.args.p = to_z-of_z (add-result c) ∙ ap₂ ◌+ℤ◌ wide (to_z-of_z c.ranges.p) in
-    to_z-of_z (sub-result c) ∙ ap₂ ◌-ℤ◌ sum_is (to_z-of_z c.ranges.q)
+    let sum_is : to_z w64 (of_z w64 (to_z w64 (of_z w64 (to_z w32 (of_z w32 c.args.c))) +ℤ to_z w64 (of_z w64 c.args.p))) ≡ c.args.c +ℤ c.args.p = to_z-of_z {w = w64} (sum_fits c.args.c c.args.p _ _ wide (to_z-of_z c.ranges.p) c.requires.0 c.requires.1) ∙ ap₂ ◌+ℤ◌ wide (to_z-of_z c.ranges.p) in
+    to_z-of_z (difference_fits c.args.c c.args.p c.args.q _ _ sum_is (to_z-of_z c.ranges.q) c.requires.0 c.requires.1 c.requires.2) ∙ ap₂ ◌-ℤ◌ sum_is (to_z-of_z c.ranges.q)

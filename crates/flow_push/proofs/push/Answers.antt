@@ -37,7 +37,7 @@ loop-i-preserved c =
     let left : ℕ → List ℕ = λ i. drop i (take c.args.len c.args.codes.now) in
     let i = c.loop-i.i in (
   omega (arith, c.loop-i-test.true),
-  c.push_one.auto.0 ∙ c.loop-i.invariant.1,
+  c.push_one.auto.flow ∙ c.loop-i.invariant.1,
   rw add-one (push_step net c.args.d _ c.loop-i.flow (left i) (get_or c.args.codes.now i 0) (left (suc i))
       (rest_cons c.args.codes.now c.args.len c.requires.0 i c.loop-i-test.true) c.loop-i.invariant.2 _ c.push_one.ensures),
 )

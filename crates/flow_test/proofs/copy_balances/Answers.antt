@@ -28,7 +28,7 @@ loop-i-smaller c = omega (arith, c.loop-i-test.true)
 
 pub loop-i-preserved : goal.loop-i-preserved
 loop-i-preserved c = let a = c.loop-i in let p = c.args.balances.now in
-    let e : to_z w64 (of_z w64 c.to_i64-x.result) ≡ get_or p a.i (pos 0) = to_z-of_z (record { sfits = c.to_i64-x.type_inv }) ∙ c.to_i64-x.ensures ∙ to_z-of_z {w = w32} (search rules) in (
+    let e : to_z w64 (of_z w64 c.to_i64-x.result) ≡ get_or p a.i (pos 0) = to_z-of_z {w = w64} (record { sfits = c.to_i64-x.type_inv }) ∙ c.to_i64-x.ensures ∙ to_z-of_z {w = w32} (search rules) in (
       simp length-set a.invariant.0,
       omega (arith, c.loop-i-test.true),
       set_more (λ v x. x ≡ get_or p v (pos 0)) a.excess a.i (to_z w64 (of_z w64 c.to_i64-x.result)) (pos 0) (omega (arith, c.loop-i-test.true, a.invariant.0, c.requires)) a.invariant.2 e,

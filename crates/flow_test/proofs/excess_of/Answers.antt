@@ -43,7 +43,7 @@ negative-requires c = tt
 pub add_at-requires : goal.add_at-requires
 add_at-requires c =
     let net : Net = net_with c.args.balances.now c.args.tails.now c.args.heads.now [] [] [] in
-    let minus_is : to_z w64 (of_z w64 c.negative.result) ≡ neg_ℤ (on c.args.flow.now c.loop-a.a) = to_z-of_z (record { sfits = c.negative.type_inv }) ∙ c.negative.ensures in
+    let minus_is : to_z w64 (of_z w64 c.negative.result) ≡ neg_ℤ (on c.args.flow.now c.loop-a.a) = to_z-of_z {w = w64} (record { sfits = c.negative.type_inv }) ∙ c.negative.ensures in
     let l = c.loop-a in
     asks_first net c.args.flow.now c.requires.0 l.a c.loop-a-test.true l.excess l.invariant.1 _ minus_is
 
@@ -53,8 +53,8 @@ signed-requires c = tt
 pub add_at-requires-in-loop-a : goal.add_at-requires-in-loop-a
 add_at-requires-in-loop-a c =
     let net : Net = net_with c.args.balances.now c.args.tails.now c.args.heads.now [] [] [] in
-    let minus_is : to_z w64 (of_z w64 c.negative.result) ≡ neg_ℤ (on c.args.flow.now c.loop-a.a) = to_z-of_z (record { sfits = c.negative.type_inv }) ∙ c.negative.ensures in
-    let plus-is : to_z w64 (of_z w64 c.signed.result) ≡ on c.args.flow.now c.loop-a.a = to_z-of_z (record { sfits = c.signed.type_inv }) ∙ c.signed.ensures in
+    let minus_is : to_z w64 (of_z w64 c.negative.result) ≡ neg_ℤ (on c.args.flow.now c.loop-a.a) = to_z-of_z {w = w64} (record { sfits = c.negative.type_inv }) ∙ c.negative.ensures in
+    let plus-is : to_z w64 (of_z w64 c.signed.result) ≡ on c.args.flow.now c.loop-a.a = to_z-of_z {w = w64} (record { sfits = c.signed.type_inv }) ∙ c.signed.ensures in
     let l = c.loop-a in
     asks_second net c.args.flow.now c.requires.0 l.a c.loop-a-test.true l.excess l.invariant.1 _ minus_is c.add_at.new.excess c.add_at.ensures _ plus-is
 
@@ -67,8 +67,8 @@ loop-a-smaller c = omega (arith, c.loop-a-test.true)
 pub loop-a-preserved : goal.loop-a-preserved
 loop-a-preserved c =
     let net : Net = net_with c.args.balances.now c.args.tails.now c.args.heads.now [] [] [] in
-    let minus_is : to_z w64 (of_z w64 c.negative.result) ≡ neg_ℤ (on c.args.flow.now c.loop-a.a) = to_z-of_z (record { sfits = c.negative.type_inv }) ∙ c.negative.ensures in
-    let plus-is : to_z w64 (of_z w64 c.signed.result) ≡ on c.args.flow.now c.loop-a.a = to_z-of_z (record { sfits = c.signed.type_inv }) ∙ c.signed.ensures in
+    let minus_is : to_z w64 (of_z w64 c.negative.result) ≡ neg_ℤ (on c.args.flow.now c.loop-a.a) = to_z-of_z {w = w64} (record { sfits = c.negative.type_inv }) ∙ c.negative.ensures in
+    let plus-is : to_z w64 (of_z w64 c.signed.result) ≡ on c.args.flow.now c.loop-a.a = to_z-of_z {w = w64} (record { sfits = c.signed.type_inv }) ∙ c.signed.ensures in
     let l = c.loop-a in
     (
       omega (arith, c.loop-a-test.true),

@@ -8,7 +8,7 @@ use Rattle.flow_test.proofs.Widths.{neg_fits, zero_sub}
 use Rattle.flow_test.proofs.negative.Goals as goal
 
 pub overflow_sub-result : goal.overflow_sub-result
-overflow_sub-result c = neg_fits (to_z w64 (of_z w64 c.signed.result)) c.args.x (to_z-of_z (record { sfits = c.signed.type_inv }) ∙ c.signed.ensures) (omega (arith, c.ranges.x))
+overflow_sub-result c = neg_fits (to_z w64 (of_z w64 c.signed.result)) c.args.x (to_z-of_z {w = w64} (record { sfits = c.signed.type_inv }) ∙ c.signed.ensures) (omega (arith, c.ranges.x))
 
 pub returns : goal.returns
-returns c = to_z-of_z (sub-result c) ∙ zero_sub (to_z w64 (of_z w64 c.signed.result)) ∙ ap neg_ℤ (to_z-of_z (record { sfits = c.signed.type_inv }) ∙ c.signed.ensures)
+returns c = to_z-of_z (neg_fits (to_z w64 (of_z w64 c.signed.result)) c.args.x (to_z-of_z {w = w64} (record { sfits = c.signed.type_inv }) ∙ c.signed.ensures) (omega (arith, c.ranges.x))) ∙ zero_sub (to_z w64 (of_z w64 c.signed.result)) ∙ ap neg_ℤ (to_z-of_z {w = w64} (record { sfits = c.signed.type_inv }) ∙ c.signed.ensures)
