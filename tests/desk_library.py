@@ -1,4 +1,4 @@
-"""The archive of crate desk, by ctypes. Every list stands between guard bytes, at an odd address, and is looked at after the call."""
+"""The archive of crate desk_c, by ctypes. Every list stands between guard bytes, at an odd address, and is looked at after the call."""
 import ctypes
 import functools
 import mmap

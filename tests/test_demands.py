@@ -1,6 +1,5 @@
 """The demands are tied to the entries. An entry of crates/desk that promises nothing, and does nothing, is proved by itself; crates/demands, which calls
-it, is then not proved, and with it the gate fails. The proof runs on a copy of the project."""
-import os
+it, is then not proved, and with it the gate fails. The proof runs on a copy of the project. What C calls, crates/desk_c, promises the same word by word."""
 import pathlib
 import re
 import shutil
@@ -9,10 +8,10 @@ import tempfile
 import unittest
 
 ROOT = pathlib.Path(__file__).parent.parent
-DESK = "crates/desk/src/lib.rt"
+DESK, EXPORTS = "crates/desk/src/lib.rt", "crates/desk_c/src/lib.rt"
 # what an entry says that does nothing, by the type of its result
 NOTHING = {"Reply": "call_reply::code_alone(101)", "Span": "Span { start: 0, length: 0 }", "u32": "0"}
-ENTRY = re.compile(r'pub extern "C" fn (\w+)\(.*?\) -> (\w+)\n    ensures \{.*?\n\{\n.*?\n\}\n', re.S)
+ENTRY = re.compile(r'pub fn (\w+)\(.*?\) -> (\w+)\n    ensures \{.*?\n\{\n.*?\n\}\n', re.S)
 
 
 def entries(source):
@@ -21,10 +20,10 @@ def entries(source):
 
 
 def weakened(entry):
-    """An entry with the promise `r ≡ r`, and a body that does nothing."""
+    """An entry with the promise `result ≡ result`, and a body that does nothing."""
     head = entry[:entry.index("    ensures")]
     result = re.search(r"-> (\w+)\n$", head)[1]
-    return head + "    ensures { λ r. ⌜ r ≡ r ⌝ }\n{\n    %s\n}\n" % NOTHING[result]
+    return head + "    ensures { result ≡ result }\n{\n    %s\n}\n" % NOTHING[result]
 
 
 def callers(source):
@@ -39,31 +38,46 @@ class Tie(unittest.TestCase):
     source = (ROOT / DESK).read_text()
 
     def copy(self):
+        """A copy of the crates. rt takes what it built of them, their folders out/, from where it stands."""
         self.folder = tempfile.mkdtemp()
         self.addCleanup(shutil.rmtree, self.folder)
-        for name in ("crates", "target/rlib", "target/stamp"): shutil.copytree(ROOT / name, pathlib.Path(self.folder, name))
+        shutil.copytree(ROOT / "crates", pathlib.Path(self.folder, "crates"), ignore=shutil.ignore_patterns("out"))
         shutil.copy(ROOT / "crates.txt", self.folder)
 
     def prove(self, names):
-        """Proves crates/demands in the copy with these entries weakened: the status, whether desk was proved, the functions of demands that were not, and what rt said."""
-        source = "ghost use mathlib.Core.Path.{_≡_};\n" + self.source
+        """Proves crates/demands in the copy with these entries weakened: the status, the entries that were proved, the functions of demands that were not, and what rt said."""
+        source = self.source.replace("ghost use", "ghost use Rattle.std.specs.Prelude.{◌≡◌};\nghost use", 1)
         for name in names: source = source.replace(entries(self.source)[name], weakened(entries(self.source)[name]))
         pathlib.Path(self.folder, DESK).write_text(source)
-        run = subprocess.run(["rt", "check", "demands"], cwd=self.folder, stdout=subprocess.PIPE, stderr=subprocess.STDOUT, text=True, env={**os.environ, "RT_CUT": "0"})
-        return run.returncode, "rt: desk proved" in run.stdout, set(re.findall(r"demands::(\w+)[: ].*?not proved", run.stdout)), run.stdout
+        run = subprocess.run(["rt", "check"], cwd=pathlib.Path(self.folder, "crates/demands"), stdout=subprocess.PIPE, stderr=subprocess.STDOUT, text=True)
+        proved, failed = (set(re.findall(r"^fn %s: %s" % how, run.stdout, re.M)) for how in ((r"desk::(\w+)", "proved$"), (r"demands::(\w+)", "(?:not proved|no proof)")))
+        return run.returncode, proved, failed, run.stdout
 
     def test_every_entry_is_called(self):
         """crates/demands calls every entry of crates/desk."""
         self.assertEqual(set(callers((ROOT / "crates/demands/src/lib.rt").read_text())), set(entries(self.source)))
-        self.assertEqual(len(entries(self.source)), self.source.count("#[no_mangle]"))
+        self.assertEqual(len(entries(self.source)), self.source.count("pub fn"))
+
+    def test_exports(self):
+        """crates/desk_c exports every entry of crates/desk with its parameters and its promise, word by word but for the layout, brings in the same names, and
+        hands each call to the entry of that name."""
+        exports = (ROOT / EXPORTS).read_text()
+        flat = lambda text: re.sub(r",? \)", ")", re.sub(r"\( ", "(", " ".join(text.split())))
+        uses = lambda source: re.findall(r"^(?:ghost )?use .*$", source, re.M)
+        self.assertEqual(uses(exports), uses(self.source))
+        for name, entry in entries(self.source).items():
+            head = flat(entry[:entry.index("\n{\n")])
+            handed = ", ".join(re.findall(r"(\w+): ", head[:head.index(") -> ")]))
+            self.assertIn("#[unsafe(no_mangle)] %s { desk::%s(%s) }" % (head.replace("pub fn", 'pub extern "C" fn'), name, handed), flat(exports))
+        self.assertEqual((exports.count("fn "), exports.count("#[unsafe(no_mangle)]")), (len(entries(self.source)),) * 2)
 
     def test_weakened(self):
         """`next` of a network that always says "end"; then every entry at once: whatever calls a weakened entry is not proved, and nothing else fails."""
         calls = callers((ROOT / "crates/demands/src/lib.rt").read_text())
         self.copy()
         for names in (["desk_network_next"], list(entries(self.source))):
-            status, desk, failed, told = self.prove(names)
-            self.assertEqual((status, desk, failed), (1, True, set().union(*(calls[name] for name in names))), told)
+            status, proved, failed, told = self.prove(names)
+            self.assertEqual((status, proved, failed), (1, set(entries(self.source)), set().union(*(calls[name] for name in names))), told)
 
 
 if __name__ == "__main__":

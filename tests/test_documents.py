@@ -27,7 +27,7 @@ def texts():
     try:
         names = subprocess.run(["git", "ls-files", "-z"], cwd=ROOT, check=True, capture_output=True, text=True).stdout.split("\0")
     except (OSError, subprocess.CalledProcessError):
-        names = [path.relative_to(ROOT) for path in ROOT.rglob("*") if not {".git", "target", "__pycache__"} & set(path.relative_to(ROOT).parts)]
+        names = [path.relative_to(ROOT) for path in ROOT.rglob("*") if not {".git", "target", "out", "__pycache__"} & set(path.relative_to(ROOT).parts)]
     return [ROOT / name for name in names if (ROOT / name).is_file()]
 
 
@@ -82,7 +82,7 @@ class Documents(unittest.TestCase):
         for line in (ROOT / "docs/RULE.md").read_text().split("\n"):
             paths = re.findall(r"crates/\w+/(?:specs|proofs)/\w+\.antt", line)
             sources = "\n".join((ROOT / path).read_text() for path in paths)
-            for name in re.findall(r"`([\w<>?-]+)`", line) if paths else ():
+            for name in re.findall(r"`([\w<>?◌-]+)`", line) if paths else ():
                 if not re.search(rf"^ *(?:(?:abbrev|unfoldable) )?(?:pub )?(?:record |data )?{re.escape(name)} ", sources, re.M): missing.append((name, paths))
         self.assertEqual(missing, [])
 
@@ -113,82 +113,64 @@ class Documents(unittest.TestCase):
                 self.assertEqual([line for line in text.split("\n") if (len(line) - len(line.lstrip(" "))) % int(style["indent_size"])], [], name)
 
 
-# lines as `rt ci` prints them
-GATE = """fn flow_clamp::clamped: proved
+# lines as `rt ci` prints them, each with the second at which it comes
+GATE = [(second, line) for second, lines in ((4, """== flow_clamp
+fn flow_clamp::clamped: proved
 logic=proved functions=2 sum=097e4c862dff5811 native=nat,char,string logic-built=trusted libraries-built=trusted
-rt: flow_clamp proved (4 s)
-rt: laws proved (unchanged since it was last proved)
-rt: desk proved (21 s)
-rt: demands NOT PROVED (exit 1, 9 s)
-rt: must-fail flow_clamp/above_the_upper_bound: refused, as it must be (first at proofs/clamped/Proof.antt:3:11; 12 s)
-rt: must-fail flow_clamp/leaves_the_first_arc: refused, as it must be (4 s)
-rt: must-fail desk/no_refusal: NOT REFUSED: the crate is still proved with this edit (20 s)
-rt: must-fail desk/gone: BAD EDIT: an 'old:' text is not in src/lib.rt
-rt: ways ran as nobody, and wrote what its file 'stdout' has (0 s)
-rt: FAILED: demands desk/no_refusal
-5 passed, 2 failed
-"""
+rt: flow_clamp proved
+rt: laws is kept: an earlier run on this machine proved the same files over the same libraries"""), (21, """rt: desk proved
+rt: flow_clamp: trying its must-fail edits (2)
+rt: flow_clamp: its tests are proved"""), (30, """rt: demands NOT PROVED
+rt: must-fail flow_clamp/above_the_upper_bound.edit: refused, as it must be: note: src/lib.rt:24:5: it is not proved
+rt: must-fail flow_clamp/leaves_the_first_arc.edit: refused, as it must be
+rt: must-fail desk/no_refusal.edit: NOT REFUSED: the crate is still proved with this edit
+rt: must-fail desk/gone.edit: BAD EDIT: an 'old:' text is in src/lib.rt 0 times, and not once
+rt: ways ran, and wrote what its file stdout has
+rt: FAILED: demands desk/no_refusal.edit
+5 passed, 2 failed""")) for line in lines.split("\n")]
 TABLE = """seconds
-     21  desk
-     20  desk/no_refusal
-     12  flow_clamp/above_the_upper_bound
-      9  demands
       4  flow_clamp
-      4  flow_clamp/leaves_the_first_arc
-     34  3 crates together
-     36  3 must-fail edits together
-     70  in all
+     21  desk
+     21  flow_clamp (tests)
+     30  demands
+     31  in all, 4 crates proved, 2 must-fail edits refused
 """
 
 
 class Seconds(unittest.TestCase):
     def test_table(self):
-        self.assertEqual(seconds.table(*seconds.measured(GATE)), TABLE)
+        self.assertEqual(seconds.table(*seconds.measured(GATE), 31), TABLE)
 
     def test_nothing(self):
-        self.assertEqual(seconds.measured("rt: laws proved (unchanged since it was last proved)\n0 passed, 0 failed\n"), [[], []])
+        self.assertEqual(seconds.measured([(0, "rt: laws is kept: an earlier run on this machine proved the same files over the same libraries"), (0, "0 passed, 0 failed")]), ([], []))
 
 
-# lines as `rt dev --allow-holes` prints them
-CHECK = """rt: laws proved (unchanged since it was last proved)
-/p/crates/flow_clamp/proofs/write_within/Proof.antt:38:1: `same-length` is not admitted: has-holes
-/p/crates/flow_clamp/proofs/write_within/Proof.antt:39:17: goal ? in `same-length`
-    c : Rattle·flow_clamp·proofs.proofs.write_within.Lts.After-loop (Rattle·flow_clamp·proofs.proofs.clamped.Reads.Asked) Inv-loop
-  ⊢ lib.ListN.length (c .before .loop .flow) ≡ length (c .before .before .before .args .flow .now)
-    (computed from:
-      borrow.Kind.MutSlice.SameLen)
-fn flow_clamp::clamped: no proof: expected `clamped-spec` in /p/crates/flow_clamp/proofs/clamped/Proof.antt
-help: write /p/crates/flow_clamp/proofs/clamped/Proof.antt with these lines, and check again
-    use Rattle·flow_clamp·proofs.proofs.clamped.Tie as tie
+# lines as `rt check --allow-holes` prints them
+CHECK = """rt: chose --jobs 2 for flow_clamp
+./proofs/write_within/Answers.antt:3:5: `same-length` is not admitted: has-holes
+./proofs/write_within/Answers.antt:4:17: goal ? in `same-length`
+    c : goal.After-loop Rattle.flow_clamp.proofs.write_within.Invariants.invariant-loop
+  ⊢ mathlib.Core.Path.◌≡◌ (lib.ListN.length c.loop.flow) (length c.args.flow.now)
+  names you can use, by step:
+    c: .lifetimes, .well_formed, .requires
+    c.args: .flow {.ref_ptr, .now}
+  the newest fields, with their types:
+    c.requires : Unit {0}
+note: src/lib.rt:24:5: it is not proved that what the function ensures holds when it returns (`returns`)
+fn flow_clamp::clamped: no proof: expected answers in ./proofs/clamped/Answers.antt; `search` did not prove `returns`
+help: write ./proofs/clamped/Answers.antt with these lines, and check again: each hole's goal is what is left to show there
+    use Rattle.flow_clamp.proofs.clamped.Goals as goal
 
     -- src/lib.rt:24:5
-    returns : tie.Need-returns
+    pub returns : goal.returns
     returns c = ?
-fn flow_clamp::write_within: depends on a hole in `Rattle·flow_clamp·proofs.proofs.write_within.Proof.same-length`
+note: `returns` of proofs/clamped/Answers.antt must prove: c.max.result ≡ c.args.low
+  names you can use, by step:
+  | c: .lifetimes, .requires
+  | c.args: .low
+fn flow_clamp::write_within: depends on a hole in `Rattle.flow_clamp.proofs.write_within.Answers.same-length`
+crate flow_clamp: modules loaded=112 checked=9
 holes=1
-"""
-# as in a generated Lts.antt
-RECORDS = """
-      pub record Start : Type 0 where
-        pub args : Args κs
-        pub pre : Pre· κs (dens κs args)
-
-        pub record At-loop·own : Type 0 where
-          pub a : Rows.sc-here (Row.sInt Syntax.w64) .Mod
-          pub inv : Inv·0
-
-      pub record At-loop : Type 0 where
-        pub before : Start
-        pub loop : At-loop·own before
-
-      abbrev pub Need-mul-clamped : Type 0
-      Need-mul-clamped = (c : At-loop) → s10 .asks (m8 (c .before))
-      abbrev pub Need-returns : Type 0
-      Need-returns =
-          (c : Start) →
-          s11 .asks
-      module _ (mul-clamped : Need-mul-clamped) (returns : Need-returns) where
-        pub laid : (c : Start) → at52
 """
 
 
@@ -197,23 +179,25 @@ class Dev(unittest.TestCase):
 
     def test_summary(self):
         self.assertEqual(list(dev.summary(self.lines)), [
-            "fn flow_clamp::clamped: no proof: expected `clamped-spec` in /p/crates/flow_clamp/proofs/clamped/Proof.antt",
+            "fn flow_clamp::clamped: no proof: expected answers in ./proofs/clamped/Answers.antt; `search` did not prove `returns`",
             "fn flow_clamp::write_within: depends on a hole in `same-length`"])
 
     def test_goals(self):
-        goal = ["/p/crates/flow_clamp/proofs/write_within/Proof.antt:39:17: goal ? in `same-length`", "    c : After-loop (Asked) Inv-loop",
-                "  ⊢ length (c .before .loop .flow) ≡ length (c .b3 .args .flow .now)"]
+        goal = ["./proofs/write_within/Answers.antt:4:17: goal ? in `same-length`", "    c : goal.After-loop invariant-loop",
+                "  ⊢ ◌≡◌ (length c.loop.flow) (length c.args.flow.now)"]
         self.assertEqual(list(dev.goals(self.lines, "")), goal)
         self.assertEqual(list(dev.goals(self.lines, "same-length")), goal)
         self.assertEqual(list(dev.goals(self.lines, "returns")), [])
 
     def test_skeletons(self):
-        self.assertEqual(list(dev.skeletons(self.lines)), [(pathlib.Path("/p/crates/flow_clamp/proofs/clamped/Proof.antt"),
-            "use Rattle·flow_clamp·proofs.proofs.clamped.Tie as tie\n\n-- src/lib.rt:24:5\nreturns : tie.Need-returns\nreturns c = ?\n")])
+        self.assertEqual(list(dev.skeletons(self.lines)), [(pathlib.Path("proofs/clamped/Answers.antt"),
+            "use Rattle.flow_clamp.proofs.clamped.Goals as goal\n\n-- src/lib.rt:24:5\npub returns : goal.returns\nreturns c = ?\n")])
 
     def test_places(self):
-        self.assertEqual(list(dev.places(RECORDS.split("\n"))), [
-            "Start: .args .pre", "    Need-returns", "At-loop, after Start: .loop (.a .inv)", "    Need-mul-clamped"])
+        self.assertEqual(list(dev.places(self.lines, "write_within")), [
+            "./proofs/write_within/Answers.antt:4:17: goal ? in `same-length`", "    c: .lifetimes, .well_formed, .requires", "    c.args: .flow {.ref_ptr, .now}"])
+        self.assertEqual(list(dev.places(self.lines, "clamped")), [
+            "note: `returns` of proofs/clamped/Answers.antt must prove: c.max.result ≡ c.args.low", "    c: .lifetimes, .requires", "    c.args: .low"])
 
 
 if __name__ == "__main__":

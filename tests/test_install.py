@@ -101,7 +101,7 @@ class Install(unittest.TestCase):
     def test_build(self):
         """Installing builds what is not there, the library first and the program after it."""
         told = make("-n", "-W", "crates.txt", "install", "DESTDIR=%s" % self.folder)
-        places = [told.index(words) for words in ("rt staticlib desk\n", "rt check ways\n", "install -d ")]
+        places = [told.index(words) for words in ("cd crates/desk_c && rt lib\n", "cd crates/ways && rt run ", "install -d ")]
         self.assertEqual(places, sorted(places))
 
     def test_uninstall(self):

@@ -17,14 +17,14 @@ def tool(name):
 contracts, chains, names = tool("contracts"), tool("chains"), tool("names")
 
 ENTRY = """
-#[no_mangle]
+#[unsafe(no_mangle)]
 pub extern "C" fn copy(from: &[u8], to: &mut [u8]) -> usize
     %s
 {
     0
 }
 """
-SAID = "ensures { λ r. ⌜ Copies (now (from .entry)) (now (to .entry)) r (now (to .exit)) ⌝ }"
+SAID = "ensures { Copies from.now to.old result to.new }"
 
 
 def told(contract):
@@ -39,44 +39,45 @@ class Contracts(unittest.TestCase):
     def test_too_little(self):
         for contract, fault in (
             ("", ["has no ensures"]),
-            ("requires { ⌜ 0 ≤ length (now to) ⌝ }\n    " + SAID, ["has a requires"]),
-            (SAID.replace(" r (now", " (now"), ["does not name its result"]),
-            (SAID.replace("to .exit", "from .exit"), ["does not say what to then holds"]),
-            ("ensures { λ r. ⌜ now (to .exit) ≡ now (to .exit) ⌝ }", ["does not name its result", "says that now (to .exit) is now (to .exit)"]),
+            ("requires { 0 ≤ length to.old }\n    " + SAID, ["has a requires"]),
+            (SAID.replace(" result", ""), ["does not name its result"]),
+            (SAID.replace("to.new", "to.old"), ["does not say what to then holds"]),
+            ("ensures { to.new ≡ to.new }", ["does not name its result", "says that to.new is to.new"]),
+            ("ensures same { result ≡ result }\n    ensures list { to.new ≡ to.old }", ["says that result is result"]),
         ):
             self.assertEqual(told(contract), fault, contract)
 
     def test_result(self):
         """A function that hands back nothing, and a method whose contract leaves its result out."""
-        head = "pub fn clear(list: &mut [u8])\n    ensures { λ _. ⌜ now (list .exit) ≡ zeros ⌝ }\n{"
+        head = "pub fn clear(list: &mut [u8])\n    ensures { list.new ≡ zeros }\n{"
         self.assertEqual(list(contracts.faults(head, False)), [])
-        head = "    pub fn cost(self) -> u32\n        ensures { λ r. ⌜ self .cost ≡ 3 ⌝ }\n    {"
+        head = "    pub fn cost(self) -> u32\n        ensures { self.cost ≡ 3 }\n    {"
         self.assertEqual(list(contracts.faults(head, False)), ["does not name its result"])
 
     def test_long_lines(self):
         """Lines of a contract, of a private function too; not of the code or of a comment."""
-        said = lambda n: "    ensures { λ r. ⌜ ".ljust(n - 4, "r") + " ⌝ }"
+        said = lambda n: "    ensures { ".ljust(n - 2, "r") + " }"
         source = "fn f() -> u32\n%s\n{\n    // %s\n    0\n}\n"
         self.assertEqual(list(contracts.long_lines(source % (said(200), "r" * 300))), [])
         self.assertEqual(list(contracts.long_lines(source % (said(201), ""))), [(2, 201)])
-        self.assertEqual(list(contracts.long_lines(source % ("    requires { λ r.\n" + "r" * 250 + " }", ""))), [(3, 252)])
+        self.assertEqual(list(contracts.long_lines(source % ("    requires {\n" + "r" * 250 + " }", ""))), [(3, 252)])
 
 
-NEED = "returns : tie.Need-returns\nreturns c = c%s .pre\n"
-HEAD = "-- the entry\nabbrev begin : tie.Loop → tie.Start\nbegin c =\n    c%s\n\n"
+NEED = "returns : goal.returns\nreturns c = c%s.requires\n"
+HEAD = "-- the entry\nabbrev begin : goal.Loop → goal.Start\nbegin c =\n    c%s\n\n"
 
 
 class Chains(unittest.TestCase):
     def test_chains(self):
-        five, six = " .before" * 5, " .before" * 6
+        five, six = ".before" * 5, ".before" * 6
         self.assertEqual(list(chains.long_chains(NEED % five)), [])
         self.assertEqual(list(chains.long_chains("-- c%s\n" % six + NEED % six)), [(3, 6)])
         self.assertEqual(list(chains.long_chains(NEED % (five + "\n   " + five))), [(2, 10)])
-        self.assertEqual(list(chains.long_chains(NEED % (five + " .loop" + five))), [])
+        self.assertEqual(list(chains.long_chains(NEED % (five + ".loop" + five))), [])
 
     def test_head(self):
         """An abbreviation at the head may hold a chain; one behind a need may not, and a lemma may not."""
-        long = " .before" * 20
+        long = ".before" * 20
         self.assertEqual(list(chains.long_chains(HEAD % long + NEED % "")), [])
         self.assertEqual(list(chains.long_chains("module _ (t : ℕ) where\n" + (HEAD % long).replace("\n", "\n  "))), [])
         self.assertEqual(list(chains.long_chains(NEED % "" + HEAD % long)), [(6, 20)])
@@ -86,10 +87,10 @@ class Chains(unittest.TestCase):
 class Names(unittest.TestCase):
     def test_missing(self):
         known = names.words()
-        text = "`run-is-read`, `desk_first`, crates/laws/specs/Run.antt, flow_order/end_untried, crates/call_reply/must-fail/ (says_end, cost_zero: a word)"
+        text = "`run_is_read`, `desk_first`, crates/laws/specs/Run.antt, flow_order/end_untried, crates/call_reply/must-fail/ (says_end, cost_zero: a word)"
         self.assertEqual(list(names.missing(text, known)), [])
-        wrong = "`run-is-" + "written`, crates/laws/specs/Runs.antt, flow_order/end_tried, crates/call_reply/must-fail/ (says_nothing, cost_zero)"
-        self.assertEqual(list(names.missing(wrong, known)), ["`run-is-" + "written`: run-is-" + "written", "crates/laws/specs/Runs.antt", "crates/call_reply/must-fail/says_nothing", "flow_order/end_tried"])
+        wrong = "`run_is_" + "written`, crates/laws/specs/Runs.antt, flow_order/end_tried, crates/call_reply/must-fail/ (says_nothing, cost_zero)"
+        self.assertEqual(list(names.missing(wrong, known)), ["`run_is_" + "written`: run_is_" + "written", "crates/laws/specs/Runs.antt", "crates/call_reply/must-fail/says_nothing", "flow_order/end_tried"])
 
 
 if __name__ == "__main__":

@@ -4,6 +4,7 @@ import os
 import pathlib
 import random
 import subprocess
+import tempfile
 import unittest
 
 import way_library
@@ -80,6 +81,17 @@ class WaysProgram(unittest.TestCase):
                 run.stdin.flush()
             out, _ = run.communicate(timeout=60)
         self.assertEqual(out, way_trial.listing(EXAMPLE))
+
+    def test_trouble(self):
+        """Where standard input cannot be read, or standard output not be written to, the program says so and ends with status 1."""
+        folder, full = os.open("/", os.O_RDONLY), os.open("/dev/full", os.O_WRONLY)
+        with tempfile.TemporaryFile() as book:
+            book.write(EXAMPLE)
+            for stdin, stdout in ((folder, subprocess.PIPE), (book, full)):
+                book.seek(0)
+                run = subprocess.run([PROGRAM], stdin=stdin, stdout=stdout, stderr=subprocess.PIPE, timeout=60)
+                self.assertEqual((run.returncode, run.stdout or b"", run.stderr[:7]), (1, b"", b"Error: "))
+        for fd in folder, full: os.close(fd)
 
     def test_library(self):
         """What the program prints is what desk_listing answers, of larger books too."""
