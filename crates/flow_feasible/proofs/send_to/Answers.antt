@@ -37,7 +37,7 @@ overflow_sub-x c =
 pub capped-requires : goal.capped-requires
 capped-requires c =
     let excess : ℤ = to_z w64 (of_z w64 c.args.x) in
-    rw (to_z-of_z (sub-capped c)) (below excess c.args.x (to_z-of_z c.ranges.x) c.if-x-ge0.false)
+    rw (to_z-of_z (turned_fits excess c.args.x (to_z-of_z c.ranges.x) c.requires.4)) (below excess c.args.x (to_z-of_z c.ranges.x) c.if-x-ge0.false)
 
 pub bottleneck-d-requires : goal.bottleneck-d-requires
 bottleneck-d-requires c =
@@ -79,4 +79,4 @@ returns-in-Codes c =
     let m = c.capped in
     sends_to_yes net c.args.flow.now c.args.free.now c.args.s c.args.t c.args.most c.requires.0.within codes-of told.1 c.lesser-cap.result r.result r.ensures _ m.result
     (to_z w64 (of_z w64 (pos 0 -ℤ excess))) c.args.x c.push.ensures c.lesser-cap.ensures m.ensures
-    (to_z-of_z (sub-capped c) ∙ zero_sub excess ∙ ap neg_ℤ (to_z-of_z c.ranges.x)) c.requires.3
+    (to_z-of_z (turned_fits excess c.args.x (to_z-of_z c.ranges.x) c.requires.4) ∙ zero_sub excess ∙ ap neg_ℤ (to_z-of_z c.ranges.x)) c.requires.3

@@ -30,7 +30,7 @@ pub overflow_add-sum : goal.overflow_add-sum
 overflow_add-sum c =
     let term_is : to_z w64 (of_z w64 c.to_i64-sum.result) ≡ get_or c.args.balances.now c.loop-i.i (pos 0) = to_z-of_z {w = w64} (record { sfits = c.to_i64-sum.type_inv }) ∙ c.to_i64-sum.ensures ∙ to_z-of_z {w = w32} (search rules) in
     let a = c.loop-i in
-    more_fits c.args.balances.now a.i (to_z w64 a.sum) _ c.requires.1 (omega (arith, c.loop-i-test.true, c.requires.0)) a.invariant.1 term_is
+    more_fits c.args.balances.now a.i _ _ c.requires.1 (omega (arith, c.loop-i-test.true, c.requires.0)) a.invariant.1 term_is
 
 pub loop-i-smaller : goal.loop-i-smaller
 loop-i-smaller c = omega (arith, c.loop-i-test.true)
@@ -39,7 +39,7 @@ pub loop-i-preserved : goal.loop-i-preserved
 loop-i-preserved c =
     let term_is : to_z w64 (of_z w64 c.to_i64-sum.result) ≡ get_or c.args.balances.now c.loop-i.i (pos 0) = to_z-of_z {w = w64} (record { sfits = c.to_i64-sum.type_inv }) ∙ c.to_i64-sum.ensures ∙ to_z-of_z {w = w32} (search rules) in
     let a = c.loop-i in
-    (omega (arith, c.loop-i-test.true), rw add-one (to_z-of_z (add-sum c) ∙ more-is c.args.balances.now a.i (to_z w64 a.sum) _ a.invariant.1 term_is))
+    (omega (arith, c.loop-i-test.true), rw add-one (to_z-of_z (more_fits c.args.balances.now a.i _ _ c.requires.1 (omega (arith, c.loop-i-test.true, c.requires.0)) a.invariant.1 term_is) ∙ more-is c.args.balances.now a.i _ _ a.invariant.1 term_is))
 
 pub returns : goal.returns
 returns c = let e : c.loop-i.i ≡ length c.args.balances.now = omega (arith, c.loop-i.invariant.0, c.loop-i-test.false) in

@@ -1,5 +1,4 @@
 use mathlib.Core.Path.{◌≡◌, refl, sym, subst, ◌∙◌}
-use mathlib.Core.Logic.{⊎_elim}
 use mathlib.Core.List.{List, []}
 use Prim.Native.Nat.{ℕ, ◌+◌, ◌<◌}
 use native.Mathlib.Omega.{arith}
@@ -15,19 +14,7 @@ use Rattle.flow_negative_cycle.specs.Search.{FindsCycle}
 use Rattle.flow_negative_cycle.proofs.Searching.{Searching, finds_none, searching_start, labelled', unchanged_of, fell, returns_of, searching_more, finds_cycle}
 use Rattle.flow_negative_cycle.proofs.OtherLists.{returns_with, goes_back_with, collects_with}
 use Rattle.flow_negative_cycle.proofs.find_cycle.Goals as goal
-
--- steps back, told of tails and heads alone
-module _ (x : ℕ) (n : ¬ (r.round.result ≡ 64)) (w : GoesBack (ends start) preds r.round.result x) where
-  back_whole : GoesBack (net start) preds r.round.result x
-  back_whole = goes_back_with (ends start) [] start.args.lows.now start.args.ups.now start.args.costs.now preds r.round.result x w
-
-  more : x ≡ 64 → Searching (net start) start.args.flow.now start.args.need labels preds (before.rounds.k + 1)
-  more e = searching_more (net start) start.args.flow.now start.pre.0 start.args.need before.rounds.labels before.rounds.preds before.rounds.k before.rounds.inv labels preds r.round.result r.round.ensures x n back_whole e
-
-  returning : ¬ (x ≡ 64) → Returns (ends start) preds x
-  returning m =
-      returns_with (net start) [] [] [] [] preds x
-      (returns_of (net start) start.args.flow.now start.pre.0 start.args.need before.rounds.labels before.rounds.preds before.rounds.k before.rounds.inv labels preds r.round.result r.round.ensures x n back_whole m)
+use Rattle.flow_negative_cycle.proofs.find_cycle.Goals.{then-last-eq64, else-last-eq64+then-x-ne64}
 
 pub rounds-init : goal.rounds-init
 rounds-init c =
@@ -66,7 +53,14 @@ pub rounds-smaller : goal.rounds-smaller
 rounds-smaller c = omega (arith, c.rounds.invariant.early)
 
 pub rounds-preserved : goal.rounds-preserved
-rounds-preserved c = more c c.go_back-x.result c.if-last-eq64.false c.go_back-x.ensures c.if-x-ne64.false
+rounds-preserved c =
+    let net : Net = net_with [] c.args.tails.now c.args.heads.now c.args.lows.now c.args.ups.now c.args.costs.now in
+    let ends : Net = net_with [] c.args.tails.now c.args.heads.now [] [] [] in
+    let labels : List ℤ = c.round-last.new.labels in
+    let preds : List ℕ = c.round-last.new.preds in
+    let back_whole : (x : ℕ) → GoesBack ends preds c.round-last.result x → GoesBack net preds c.round-last.result x =
+      λ x w. goes_back_with ends [] c.args.lows.now c.args.ups.now c.args.costs.now preds c.round-last.result x w in
+    searching_more net c.args.flow.now c.requires.0 c.args.need c.rounds.labels c.rounds.preds c.rounds.k c.rounds.invariant labels preds c.round-last.result c.round-last.ensures c.go_back-x.result c.if-last-eq64.false (back_whole _ c.go_back-x.ensures) c.if-x-ne64.false
 
 pub shape_of-labels-then-node-eq64 : goal.shape_of-labels-then-node-eq64
 shape_of-labels-then-node-eq64 c =
@@ -82,7 +76,10 @@ returns-then-node-eq64 c =
     let labels : List ℤ = c.round-last.new.labels in
     let preds : List ℕ = c.round-last.new.preds in
     let unchanged-here : c.round-last.result ≡ 64 → FindsCycle net c.args.flow.now c.args.need labels c.args.out.now c.args.out.now 0 = λ e. finds_none net c.args.flow.now c.args.need labels c.args.out.now (unchanged_of net c.args.flow.now c.requires.0 c.args.need c.rounds.labels c.rounds.preds c.rounds.k c.rounds.invariant labels preds c.round-last.result c.round-last.ensures e) in
-    let out-unchanged : c.if-last-eq64.node ≡ 64 → FindsCycle net c.args.flow.now c.args.need labels c.args.out.now c.args.out.now 0 = λ e. ⊎_elim (λ w. unchanged-here w.0.taken) (λ w. absurd (w.3.taken (sym w.4 ∙ e))) c.if-last-eq64.branch in
+    let out-unchanged : c.if-last-eq64.node ≡ 64 → FindsCycle net c.args.flow.now c.args.need labels c.args.out.now c.args.out.now 0 = λ e. elim c.if-last-eq64.branch [
+      then-last-eq64 w ↦ unchanged-here w.if-last-eq64.true
+      | else-last-eq64+then-x-ne64 w ↦ absurd (w.if-x-ne64.true (sym w.node-is ∙ e))
+    ] in
     out-unchanged c.if-node-eq64.true
 
 pub slice_bounds-collect-end : goal.slice_bounds-collect-end
@@ -101,7 +98,15 @@ collect-requires c =
     let labelled : Labelled net c.args.flow.now c.args.need labels preds = labelled' net c.args.flow.now c.requires.0 c.args.need c.rounds.labels c.rounds.preds c.rounds.k c.rounds.invariant labels preds c.round-last.result c.round-last.ensures in
     let ends : Net = net_with [] c.args.tails.now c.args.heads.now [] [] [] in
     let small_ends : SmallEnds ends = ends_with net [] [] [] [] c.requires.0.ends in
-    let out-cycle : ¬ (c.if-last-eq64.node ≡ 64) → Returns ends preds c.if-last-eq64.node = λ n. ⊎_elim (λ w. absurd (n w.1)) (λ w. subst (Returns ends preds) (sym w.4) (returning c w.2.result w.0.left w.2.ensures w.3.taken)) c.if-last-eq64.branch in
+    let back_whole : (x : ℕ) → GoesBack ends preds c.round-last.result x → GoesBack net preds c.round-last.result x =
+      λ x w. goes_back_with ends [] c.args.lows.now c.args.ups.now c.args.costs.now preds c.round-last.result x w in
+    let returning : (x : ℕ) → ¬ (c.round-last.result ≡ 64) → GoesBack ends preds c.round-last.result x → ¬ (x ≡ 64) → Returns ends preds x =
+      λ x n w m. returns_with net [] [] [] [] preds x
+        (returns_of net c.args.flow.now c.requires.0 c.args.need c.rounds.labels c.rounds.preds c.rounds.k c.rounds.invariant labels preds c.round-last.result c.round-last.ensures x n (back_whole x w) m) in
+    let out-cycle : ¬ (c.if-last-eq64.node ≡ 64) → Returns ends preds c.if-last-eq64.node = λ n. elim c.if-last-eq64.branch [
+      then-last-eq64 w ↦ absurd (n w.node-is)
+      | else-last-eq64+then-x-ne64 w ↦ subst (Returns ends preds) (sym w.node-is) (returning w.go_back-x.result w.if-last-eq64.false w.go_back-x.ensures w.if-x-ne64.true)
+    ] in
     (small_ends, labelled.preds_len, c.requires.4, out-cycle c.if-node-eq64.false)
 
 pub shape_of-labels : goal.shape_of-labels
