@@ -13,14 +13,6 @@ use Rattle.flow_cancel.specs.Cancelling.{Rerouted}
 use Rattle.flow_cancel.proofs.Cancelling.{none_left, one_less, falls, same_flow, further, relaxable_again}
 use Rattle.flow_cancel.proofs.cancel_all.Goals as goal
 
--- one cycle less
-module _ (e : a.cancel.result ≡ true) where
-  cheaper : Rerouted (net start) before.loop.flow flow × (cost_of (net start) flow <ℤ cost_of (net start) before.loop.flow)
-  cheaper = one_less (net start) before.loop.flow flow start.args.need labels a.cancel.result a.cancel.ensures e
-
-  relaxable : Relaxable (net start) flow
-  relaxable = relaxable_again (net start) before.loop.flow flow before.loop.inv.0 cheaper.0.within
-
 pub loop-need-init : goal.loop-need-init
 loop-need-init c =
     let net : Net = net_with [] c.args.tails.now c.args.heads.now c.args.lows.now c.args.ups.now c.args.costs.now in
@@ -49,7 +41,13 @@ pub loop-need-smaller : goal.loop-need-smaller
 loop-need-smaller c =
     let net : Net = net_with [] c.args.tails.now c.args.heads.now c.args.lows.now c.args.ups.now c.args.costs.now in
     let flow : List ℕ = c.cancel.new.flow in
-    let e = not-false _ c.if-not-cancel.false-raw in falls net c.loop-need.flow flow (relaxable c e) (cheaper c e).1
+    let labels : List ℤ = c.cancel.new.labels in
+    let e = not-false _ c.if-not-cancel.false-raw in
+    -- one cycle less
+    let cheaper : Rerouted net c.loop-need.flow flow × (cost_of net flow <ℤ cost_of net c.loop-need.flow) =
+      one_less net c.loop-need.flow flow c.args.need labels c.cancel.result c.cancel.ensures e in
+    let relaxable : Relaxable net flow = relaxable_again net c.loop-need.flow flow c.loop-need.invariant.0 cheaper.0.within in
+    falls net c.loop-need.flow flow relaxable cheaper.1
 
 pub loop-need-preserved : goal.loop-need-preserved
 loop-need-preserved c =
@@ -57,4 +55,9 @@ loop-need-preserved c =
     let flow : List ℕ = c.cancel.new.flow in
     let labels : List ℤ = c.cancel.new.labels in
     let labels_len : length labels ≡ 64 = c.cancel.auto.labels ∙ c.loop-need.invariant.2 in
-    let e = not-false _ c.if-not-cancel.false-raw in (relaxable c e, further net c.args.flow.now c.loop-need.flow flow c.loop-need.invariant.1 (cheaper c e).0, labels_len)
+    let e = not-false _ c.if-not-cancel.false-raw in
+    -- one cycle less
+    let cheaper : Rerouted net c.loop-need.flow flow × (cost_of net flow <ℤ cost_of net c.loop-need.flow) =
+      one_less net c.loop-need.flow flow c.args.need labels c.cancel.result c.cancel.ensures e in
+    let relaxable : Relaxable net flow = relaxable_again net c.loop-need.flow flow c.loop-need.invariant.0 cheaper.0.within in
+    (relaxable, further net c.args.flow.now c.loop-need.flow flow c.loop-need.invariant.1 cheaper.0, labels_len)
