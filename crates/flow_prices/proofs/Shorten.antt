@@ -27,19 +27,22 @@ module _ (N : Net) (f : List ℕ) (δ : ℕ) where
   node_at v (c ∷ cs) (suc i) = node_at (src N c) cs i
 
   node_in : SmallEnds N → (u v : ℕ) (cs : List ℕ) → v < 64 → CodeWalk N (has_capacity N f δ) u v cs → (i : ℕ) → node_at v cs i < 64
-  node_in ok u v cs h t zero = h
+  node_in ok u v [] h t zero = h
   node_in ok u v [] h t (suc i) = h
+  node_in ok u v (c ∷ cs) h t zero = h
   node_in ok u v (c ∷ cs) h (a, b, e, t) (suc i) = node_in ok u (src N c) cs (src_in N ok c a) t i
 
   -- a walk split
   walk_take : (u v : ℕ) (cs : List ℕ) → CodeWalk N (has_capacity N f δ) u v cs → (i : ℕ) → i ≤ length cs → CodeWalk N (has_capacity N f δ) (node_at v cs i) v (take i cs)
-  walk_take u v cs t zero h = refl
+  walk_take u v [] t zero h = refl
   walk_take u v [] t (suc i) h = absurd (omega arith)
+  walk_take u v (c ∷ cs) t zero h = refl
   walk_take u v (c ∷ cs) (a, b, e, t) (suc i) h = (a, b, e, walk_take u (src N c) cs t i (omega arith))
 
   walk_drop : (u v : ℕ) (cs : List ℕ) → CodeWalk N (has_capacity N f δ) u v cs → (i : ℕ) → i ≤ length cs → CodeWalk N (has_capacity N f δ) u (node_at v cs i) (drop i cs)
-  walk_drop u v cs t zero h = t
+  walk_drop u v [] t zero h = t
   walk_drop u v [] t (suc i) h = absurd (omega arith)
+  walk_drop u v (c ∷ cs) t zero h = t
   walk_drop u v (c ∷ cs) (a, b, e, t) (suc i) h = walk_drop u (src N c) cs t i (omega arith)
 
   node_later : (v : ℕ) (cs : List ℕ) (i j : ℕ) → i ≤ length cs → node_at (node_at v cs i) (drop i cs) j ≡ node_at v cs (i + j)

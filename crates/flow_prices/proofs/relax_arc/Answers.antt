@@ -28,10 +28,14 @@ one_more : (x y : ℕ) → ltb x y ≡ leb (x + 1) y
 one_more x y = let e : suc x ≡ x + 1 = omega arith in ap (λ k. leb k y) e
 
 pub relax-next-requires : goal.relax-next-requires
-relax-next-requires c = let w : tie.After-c = c in
-    let s = begin w in
-    let W = s.pre.2 in
-    (omega (arith, (limits s).tail_in, W.len), omega (arith, (limits s).head_in, W.len), rw (cost_read w) (small_sum w32 (label_small s _ W _ (limits s).tail_in) (limits s).cost_small (omega arith)), W.at_most_0 _)
+relax-next-requires c =
+    let net : Net = net_with [] c.args.tails.now c.args.heads.now c.args.lows.now c.args.ups.now c.args.costs.now in
+    let limits : ArcLimits net c.args.flow.now c.args.a = arc_limits net c.args.flow.now c.requires.0 c.args.a c.requires.3 in
+    let label_small : (d : List ℤ) → WalkLabels net c.args.flow.now d → (v : ℕ) → v < 64 → Bounded 63000000 (get_or d v (pos 0)) = let least : HasPotential net c.args.flow.now 1 = c.requires.1 in labels_small net c.args.flow.now c.requires.0 least in
+    let cost : ℤ = get_or c.args.costs.now c.args.a (pos 0) in
+    let cost_read : to_z w32 (of_z w32 cost) ≡ cost = to_z-of_z {w = w32} (record { sfits = c.c-1.given }) in
+    let W = c.requires.2 in
+    (omega (arith, limits.tail_in, W.len), omega (arith, limits.head_in, W.len), rw cost_read (small_sum w32 (label_small _ W _ limits.tail_in) limits.cost_small (omega arith)), W.at_most_0 _)
 
 pub overflow_sub-c : goal.overflow_sub-c
 overflow_sub-c c =
