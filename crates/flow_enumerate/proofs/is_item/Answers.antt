@@ -9,13 +9,13 @@ use Rattle.flow_enumerate.proofs.is_item.Goals as goal
 
 pub slice_bounds-is_least-end-7 : goal.slice_bounds-is_least-end-7
 slice_bounds-is_least-end-7 c =
-    let in-flow : c.args.net.arcs ≤ length c.args.t2 = let e : length c.args.t2 ≡ 512 = search rules in omega (arith, few c.args.net c.requires) in
-    sym (length-take-le c.args.net.arcs c.args.t2 in-flow)
+    let in-flow : c.args.net.arcs ≤ length c.args.flow = let e : length c.args.flow ≡ 512 = search rules in omega (arith, few c.args.net c.requires) in
+    sym (length-take-le c.args.net.arcs c.args.flow in-flow)
 
 pub is_least-requires : goal.is_least-requires
 is_least-requires c =
-    let in-flow : c.args.net.arcs ≤ length c.args.t2 = let e : length c.args.t2 ≡ 512 = search rules in omega (arith, few c.args.net c.requires) in
-    (c.requires.accepted, as_many c.args.net c.requires c.args.t2 in-flow)
+    let in-flow : c.args.net.arcs ≤ length c.args.flow = let e : length c.args.flow ≡ 512 = search rules in omega (arith, few c.args.net c.requires) in
+    (c.requires.accepted, as_many c.args.net c.requires c.args.flow in-flow)
 
 pub slice_bounds-tails-end : goal.slice_bounds-tails-end
 slice_bounds-tails-end c = in_tails _ c.requires
@@ -37,7 +37,7 @@ slice_bounds-balances-end c = in_balances _ c.requires
 
 pub slice_bounds-flow-end : goal.slice_bounds-flow-end
 slice_bounds-flow-end c =
-    let in-flow : c.args.net.arcs ≤ length c.args.t2 = let e : length c.args.t2 ≡ 512 = search rules in omega (arith, few c.args.net c.requires) in
+    let in-flow : c.args.net.arcs ≤ length c.args.flow = let e : length c.args.flow ≡ 512 = search rules in omega (arith, few c.args.net c.requires) in
     in-flow
 
 pub returns : goal.returns

@@ -6,6 +6,7 @@ use Prim.Native.Nat.{ℕ, ◌≤◌}
 use native.Mathlib.Omega.{arith}
 use lib.ListN.{length, take, drop, replicate}
 use lib.Seq.{length-take-le}
+use mir.Syntax.{w64}
 use mir.Facts.{to_z-of_z}
 use borrow.Author.Tests.{not-true, not-false}
 use Rattle.laws.specs.Padded.{part_written}
@@ -20,8 +21,8 @@ use Rattle.flow_enumerate.proofs.resume.Goals as goal
 
 pub slice_bounds-mark_if_least-end-7 : goal.slice_bounds-mark_if_least-end-7
 slice_bounds-mark_if_least-end-7 c =
-    let in-flow : c.args.net.arcs ≤ length c.args.t2 = let e : length c.args.t2 ≡ 512 = search rules in omega (arith, few c.args.net c.requires) in
-    sym (length-take-le c.args.net.arcs c.args.t2 in-flow)
+    let in-flow : c.args.net.arcs ≤ length c.args.flow = let e : length c.args.flow ≡ 512 = search rules in omega (arith, few c.args.net c.requires) in
+    sym (length-take-le c.args.net.arcs c.args.flow in-flow)
 
 pub slice_bounds-free-end : goal.slice_bounds-free-end
 slice_bounds-free-end c = few c.args.net c.requires
@@ -31,9 +32,9 @@ slice_bounds-mark_if_least-end-8 c = sym (length-take-le c.args.net.arcs (replic
 
 pub mark_if_least-requires : goal.mark_if_least-requires
 mark_if_least-requires c =
-    let in-flow : c.args.net.arcs ≤ length c.args.t2 = let e : length c.args.t2 ≡ 512 = search rules in omega (arith, few c.args.net c.requires) in
+    let in-flow : c.args.net.arcs ≤ length c.args.flow = let e : length c.args.flow ≡ 512 = search rules in omega (arith, few c.args.net c.requires) in
     let n = c.args.net in
-    (c.requires.accepted, as_many n c.requires c.args.t2 in-flow, as_many n c.requires (replicate 512 false) (few n c.requires))
+    (c.requires.accepted, as_many n c.requires c.args.flow in-flow, as_many n c.requires (replicate 512 false) (few n c.requires))
 
 pub start-requires : goal.start-requires
 start-requires c = c.requires
@@ -45,12 +46,12 @@ returns-then-not-mark_if_least c = let r = c.mark_if_least in
 
 pub slice_bounds-cost_of-end-2 : goal.slice_bounds-cost_of-end-2
 slice_bounds-cost_of-end-2 c =
-    let in-flow : c.args.net.arcs ≤ length c.args.t2 = let e : length c.args.t2 ≡ 512 = search rules in omega (arith, few c.args.net c.requires) in
-    sym (length-take-le c.args.net.arcs c.args.t2 in-flow)
+    let in-flow : c.args.net.arcs ≤ length c.args.flow = let e : length c.args.flow ≡ 512 = search rules in omega (arith, few c.args.net c.requires) in
+    sym (length-take-le c.args.net.arcs c.args.flow in-flow)
 
 pub cost_of-cost-requires : goal.cost_of-cost-requires
 cost_of-cost-requires c =
-    let given : List ℕ = take c.args.net.arcs c.args.t2 in
+    let given : List ℕ = take c.args.net.arcs c.args.flow in
     let free : List Bool = c.mark_if_least.new.free in
     let item_of : Marked (net_in c.args.net) free given = let r = c.mark_if_least in marked_yes (net_in c.args.net) given _ free r.result r.ensures (not-false r.result c.if-not-mark_if_least.false-raw) in
     let N = net_in c.args.net in
@@ -58,14 +59,14 @@ cost_of-cost-requires c =
 
 pub returns : goal.returns
 returns c =
-    let given : List ℕ = take c.args.net.arcs c.args.t2 in
+    let given : List ℕ = take c.args.net.arcs c.args.flow in
     let free : List Bool = c.mark_if_least.new.free in
     let item_of : Marked (net_in c.args.net) free given = let r = c.mark_if_least in marked_yes (net_in c.args.net) given _ free r.result r.ensures (not-false r.result c.if-not-mark_if_least.false-raw) in
     let n = c.args.net in
     let g = given in
     let m = item_of in (
-      on_item_lem n c.requires g c.args.t2 _ _ refl
-          (cost_summed (net_in n) c.requires.accepted.well_formed g g refl _ c.cost_of-cost.result (to_z-of_z (record { sfits = c.cost_of-cost.type_inv })) c.cost_of-cost.ensures)
+      on_item_lem n c.requires g c.args.flow _ _ refl
+          (cost_summed (net_in n) c.requires.accepted.well_formed g g refl _ c.cost_of-cost.result (to_z-of_z {w = w64} (record { sfits = c.cost_of-cost.type_inv })) c.cost_of-cost.ensures)
           (subst (λ (x : List Bool). Marked (net_in n) x g) (sym (part_written free (drop n.arcs (replicate 512 false)) n.arcs (m.marks_len ∙ sym c.requires.arcs_held)).1) m),
       refl,
       resume_on (net_in n) c.requires.accepted.well_formed g _ m.marks.least refl refl,
@@ -91,7 +92,7 @@ slice_bounds-balances-end c = in_balances _ c.requires
 
 pub slice_bounds-flow-end : goal.slice_bounds-flow-end
 slice_bounds-flow-end c =
-    let in-flow : c.args.net.arcs ≤ length c.args.t2 = let e : length c.args.t2 ≡ 512 = search rules in omega (arith, few c.args.net c.requires) in
+    let in-flow : c.args.net.arcs ≤ length c.args.flow = let e : length c.args.flow ≡ 512 = search rules in omega (arith, few c.args.net c.requires) in
     in-flow
 
 pub slice_bounds-costs-end-2 : goal.slice_bounds-costs-end-2
@@ -99,5 +100,5 @@ slice_bounds-costs-end-2 c = in_costs _ c.requires
 
 pub slice_bounds-flow-end-2 : goal.slice_bounds-flow-end-2
 slice_bounds-flow-end-2 c =
-    let in-flow : c.args.net.arcs ≤ length c.args.t2 = let e : length c.args.t2 ≡ 512 = search rules in omega (arith, few c.args.net c.requires) in
+    let in-flow : c.args.net.arcs ≤ length c.args.flow = let e : length c.args.flow ≡ 512 = search rules in omega (arith, few c.args.net c.requires) in
     in-flow

@@ -35,7 +35,7 @@ returns-in-Item c = let on = c.in-Item.is in
     )
 
 pub returns-in_default : goal.returns-in_default
-returns-in_default c = let s = c.first-first in counts_none c.args.self s.result None s.ensures (no_item_at s.result.place c.in_default.keys2) c.args.cap
+returns-in_default c = let s = c.first-first in counts_none c.args.self s.result None s.ensures (no_item_at s.result.place c.in_default.not-Item) c.args.cap
 
 pub slice_bounds-tails-end : goal.slice_bounds-tails-end
 slice_bounds-tails-end c = in_tails _ c.first-first.ensures.stands.sound

@@ -3,6 +3,7 @@ use mathlib.Core.List.{List, ◌++◌}
 use mathlib.Core.Path.{◌≡◌, refl, sym, ap, subst, ◌∙◌}
 use lib.ListN.{length, take, drop}
 use lib.Seq.{length-take-le}
+use mir.Syntax.{w64}
 use mir.Facts.{to_z-of_z}
 use borrow.Author.Rules.{rules}
 use borrow.Author.Tests.{not-true, not-false}
@@ -82,7 +83,7 @@ returns c =
     let free-written : let s = c.args.self in take s.net.arcs (free ++ drop s.net.arcs s.free) ≡ free = (part_written free (drop c.args.self.net.arcs c.args.self.free) c.args.self.net.arcs (told.1.marks_len ∙ sym c.requires.sound.arcs_held)).1 in
     let N = state_net c.args.self in
     step_on c.args.self c.requires.sound _ _ None _ flow _ told.0 flow-written.1
-    (cost_summed N c.requires.sound.accepted.well_formed _ flow flow-written.1 _ c.cost_of-cost.result (to_z-of_z (record { sfits = c.cost_of-cost.type_inv })) c.cost_of-cost.ensures)
+    (cost_summed N c.requires.sound.accepted.well_formed _ flow flow-written.1 _ c.cost_of-cost.result (to_z-of_z {w = w64} (record { sfits = c.cost_of-cost.type_inv })) c.cost_of-cost.ensures)
     (subst (λ (x : List Bool). Marked N x flow) (sym free-written) told.1)
 
 pub slice_bounds-tails-end : goal.slice_bounds-tails-end

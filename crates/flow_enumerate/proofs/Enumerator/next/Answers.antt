@@ -6,4 +6,4 @@ pub returns-in-Item : goal.returns-in-Item
 returns-in-Item c = goes_on c.args.self c.follow.result c.in-Item.is c.follow.ensures
 
 pub returns-in_default : goal.returns-in_default
-returns-in_default c = stays c.args.self c.requires (no_item_at c.args.self.place c.in_default.keys2) (word_at c.args.self.place c.in_default.keys2)
+returns-in_default c = stays c.args.self c.requires (no_item_at c.args.self.place c.in_default.not-Item) (word_at c.args.self.place c.in_default.not-Item)
