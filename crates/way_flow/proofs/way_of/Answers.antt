@@ -59,7 +59,7 @@ pub loop-k-preserved : goal.loop-k-preserved
 loop-k-preserved c =
     let long : (2 * c.args.e + 1 ≤ length c.args.tails.now) × (length c.args.heads.now ≡ length c.args.tails.now) × (length c.args.flow.now ≡ length c.args.tails.now) = let n = joins_count c.args.e c.args.tails.now c.args.heads.now c.requires.book c.requires.ends in (omega arith, heads_count c.args.e c.args.tails.now c.args.heads.now c.requires.book c.requires.ends, ap length c.requires.flow_is ∙ flow_long c.args.e c.args.tails.now c.args.heads.now c.requires.book c.requires.ends c.requires.way (c.requires.is_way.all_entries ∙ sym c.requires.ends.entries_are)) in
     let l = c.loop-k in
-    noting_on c.args.tails.now c.args.heads.now c.args.flow.now _ l.way _ l.k l.invariant (omega arith) (omega (arith, long)) (omega (arith, long)) (omega (arith, long)) c.note.auto.0 c.note.ensures
+    noting_on c.args.tails.now c.args.heads.now c.args.flow.now _ l.way _ l.k l.invariant (omega arith) (omega (arith, long)) (omega (arith, long)) (omega (arith, long)) c.note.auto.way c.note.ensures
 
 pub returns : goal.returns
 returns c = let x = c.args in

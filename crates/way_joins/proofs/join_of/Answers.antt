@@ -60,6 +60,6 @@ returns c =
     record {
       each = λ b T.
           rw (c.join_if.ensures, c.place_of-place.ensures.0)
-          (join_from b lent T c.args.i c.args.j c.if-i-eq0.false c.requires.1 c.requires.2 c.requires.3 c.Spare-of.result
-          (c.Spare-of.ensures.each b (timing_of b lent T)));
+          (join_from b lent T c.args.i c.args.j c.if-i-eq0.false c.requires.1 c.requires.2 c.requires.3 c.spare_of-spare.result
+          (c.spare_of-spare.ensures.each b (timing_of b lent T)));
     }

@@ -78,7 +78,7 @@ spare_by-requires c =
     let p = r.i_ends in
     let q = r.j_ends in (
       rw c.place_of-place.ensures.0
-          (r.ticks_in _ _ (record { source_low = omega (arith, p, q); source_high = omega (arith, p, q); target_low = omega (arith, p, q); target_high = omega (arith, p, q) })),
+          (r.ticks_in_lem _ _ (record { source_low = omega (arith, p, q); source_high = omega (arith, p, q); target_low = omega (arith, p, q); target_high = omega (arith, p, q) })),
       r.finish_in,
       r.start_in,
     )
