@@ -15,6 +15,6 @@ overflow_add-result-3 c = omega (arith, c.requires, c.item_size.ensures, c.row_s
 pub returns : goal.returns
 unfolding bytes
 returns c = (
-      omega (arith, c.item_size.ensures, c.row_size.ensures),
-      omega (arith, c.requires, c.item_size.ensures, c.row_size.ensures, item_most name_end c.args.start (omega arith), row_size space c.args.finish 9 (omega arith)),
-    )
+  omega (arith, c.item_size.ensures, c.row_size.ensures),
+  omega (arith, c.requires, c.item_size.ensures, c.row_size.ensures, item_most name_end c.args.start (omega arith), row_size space c.args.finish 9 (omega arith)),
+)

@@ -47,11 +47,11 @@ loop-e-smaller c = lines_fall c.loop-e.invariant.1 c.read_entry-e.ensures.right 
 pub loop-e-preserved : goal.loop-e-preserved
 loop-e-preserved c =
     let stored : c.loop-e.count < 28 → c.if-count-lt28.columns ≡ put_in c.loop-e.columns c.loop-e.count c.args.total c.read_entry-e.result = λ h. elim c.if-count-lt28.branch [
-      then-count-lt28 w ↦ w.columns-is ∙ w.put_entry-columns.ensures
+      | then-count-lt28 w ↦ w.columns-is ∙ w.put_entry-columns.ensures
       | else-count-lt28 w ↦ absurd (omega (arith, h, w.if-count-lt28.false))
     ] in
     let passed_over : 28 ≤ c.loop-e.count → c.if-count-lt28.columns ≡ c.loop-e.columns = λ h. elim c.if-count-lt28.branch [
-      then-count-lt28 w ↦ absurd (omega (arith, h, w.if-count-lt28.true))
+      | then-count-lt28 w ↦ absurd (omega (arith, h, w.if-count-lt28.true))
       | else-count-lt28 w ↦ w.columns-is
     ] in
     let v = c.loop-e.invariant in
