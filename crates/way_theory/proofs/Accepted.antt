@@ -9,7 +9,7 @@ use lib.ListN.{get_or-map}
 use lib.IntN.{pos, neg_ℤ}
 use lib.Signed.{◌≤ℤ◌}
 use Rattle.laws.specs.Linear.{lin}
-use Rattle.net_model.specs.Network.{low, up, balance}
+use Rattle.net_model.specs.Network.{balance}
 use Rattle.net_model.specs.Accepted.{AcceptedNet}
 use Rattle.book_lines.specs.declared.moves.Move.{Move}
 use Rattle.book_lines.specs.Questions.{move_of}
