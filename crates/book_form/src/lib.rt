@@ -25,7 +25,7 @@ pub enum Answer {
 // A book that passed its questions. The move from instrument a to b is at (a - 1) * 16 + (b - 1): `ticks` holds one more than its
 // ticks, and 0 where there is no line. An entry begins on the instrument that `arrives` has, and ends on that of `leaves`. `names` says
 // where in the book the name of each entry begins, and `lengths` how many bytes it has.
-#[derive(Drop)]
+#[derive(Clone, Copy)]
 pub struct CheckedBook {
     pub players: u32,
     pub fee: u32,
@@ -41,7 +41,7 @@ pub struct CheckedBook {
 }
 
 // `book` is all zeros unless the answer is that it is accepted.
-#[derive(Drop)]
+#[derive(Clone, Copy)]
 pub struct Checked {
     pub answer: Answer,
     pub book: CheckedBook,

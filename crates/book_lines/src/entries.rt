@@ -30,7 +30,7 @@ struct EntryNumbers {
     used: usize,
 }
 
-#[derive(Drop)]
+#[derive(Clone, Copy)]
 pub struct Columns {
     pub arrives: [u32; 28],
     pub leaves: [u32; 28],
@@ -41,7 +41,7 @@ pub struct Columns {
 }
 
 // The columns of the first 28 entries; `count` is how many entries there are, and `bad` the first line that fails, or 0.
-#[derive(Drop)]
+#[derive(Clone, Copy)]
 pub struct Entries {
     pub columns: Columns,
     pub count: usize,

@@ -16,7 +16,7 @@ pub struct Move {
 }
 
 // The tables of the moves that may stand, and the first line that fails, or 0; `line` is the line after the moves.
-#[derive(Drop)]
+#[derive(Clone, Copy)]
 pub struct Moves {
     pub ticks: [u32; 256],
     pub costs: [u32; 256],

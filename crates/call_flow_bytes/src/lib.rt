@@ -28,7 +28,7 @@ pub fn number_of(verdict: Verdict) -> u32
 }
 
 // The network of a call, and the number of the first of questions 1 to 7 that fails, or 0.
-#[derive(Drop)]
+#[derive(Clone, Copy)]
 pub struct AdmittedNetwork {
     pub number: u32,
     pub net: Network,

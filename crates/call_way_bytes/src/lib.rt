@@ -12,7 +12,7 @@ use call_reply::Reply;
 use way_enumerate::WayEnumerator;
 
 // The book of a call, and the number of the first question that it fails, or 0, with the line that is told.
-#[derive(Drop)]
+#[derive(Clone, Copy)]
 pub struct AdmittedBook {
     pub number: u32,
     pub line: u32,

@@ -18,7 +18,7 @@ pub enum Place {
     End,
 }
 
-#[derive(Drop)]
+#[derive(Clone, Copy)]
 pub struct Enumerator {
     pub net: net_model::Network,
     pub place: Place,

@@ -14,7 +14,7 @@ use net_model::Network;
 use net_questions::Verdict;
 
 // The verdict, and the network beside it (an enum holds no array).
-#[derive(Drop)]
+#[derive(Clone, Copy)]
 pub struct Checked {
     pub verdict: Verdict,
     pub net: Network,

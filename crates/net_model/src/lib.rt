@@ -5,7 +5,7 @@ ghost use Rattle.std.specs.Prelude.{◌≡◌, ◌/◌, ◌<◌, length, get_or}
 ghost use Rattle.net_model.specs.Residual.{either};
 
 // A network: of each array the first places, as many as there are nodes or arcs; the others are 0.
-#[derive(Drop)]
+#[derive(Clone, Copy)]
 pub struct Network {
     pub nodes: usize,
     pub arcs: usize,

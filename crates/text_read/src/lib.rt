@@ -13,7 +13,7 @@ pub struct Number {
 }
 
 // The first `count` places of `numbers` hold the numbers of a row; the others are 0.
-#[derive(Drop)]
+#[derive(Clone, Copy)]
 pub struct Row {
     pub numbers: [u32; 4],
     pub count: usize,

@@ -11,7 +11,7 @@ ghost use Rattle.way_enumerate.specs.WayEnumerator.{EnumeratesSome, way_at, way_
 use book_form::CheckedBook;
 use flow_enumerate::Enumerator;
 
-#[derive(Drop)]
+#[derive(Clone, Copy)]
 pub struct WayEnumerator {
     pub flows: Enumerator,
     pub entries: usize,

@@ -9,7 +9,7 @@ use book_form::CheckedBook;
 use way_joins::Spare;
 
 // For each entry of a way the gap and the spare of the join to it; 0 where it opens a part, and in the places behind the last entry.
-#[derive(Drop)]
+#[derive(Clone, Copy)]
 pub struct JoinTicks {
     pub gaps: [u32; 28],
     pub spares: [u32; 28],
