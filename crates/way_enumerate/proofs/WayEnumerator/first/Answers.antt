@@ -5,16 +5,11 @@ use Rattle.way_theory.specs.FullWays.{first_way}
 use Rattle.way_theory.specs.WayFlow.{way_of}
 use Rattle.way_enumerate.proofs.Reading.{first_read}
 use Rattle.way_enumerate.proofs.Enumerating.{net_of_book, steps_to}
-use Rattle.way_enumerate.proofs.WayEnumerator.first.Statement.{statement}
-use Rattle.way_enumerate.proofs.WayEnumerator.first.Tie as tie
+use Rattle.way_enumerate.proofs.WayEnumerator.first.Goals as goal
 
-first-requires : tie.Need-first-requires
-first-requires c κs = c.before.requires.enumerates.stands
+pub first-requires : goal.first-requires
+first-requires c = c.requires.enumerates.stands
 
-returns : tie.Need-returns
-returns c =
-    let s = c.before.before.args.self in
+pub returns : goal.returns
+returns c = let s = c.args.self in
     record { each = λ b h. steps_to b s _ h refl _ _ c.first.ensures (first_way b) (ap (λ N. map_option (way_of b) (first_flow N)) (net_of_book b s h) ∙ first_read b) }
-
-pub first_spec : {M : Type 1} → statement M
-first_spec = tie.close (tie.spec first-requires returns)

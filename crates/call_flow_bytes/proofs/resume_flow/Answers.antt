@@ -18,43 +18,32 @@ use Rattle.call_reply.proofs.Items.{every_at, other_length}
 use Rattle.call_flow_bytes.proofs.FlowItems.{full_flows}
 use Rattle.call_reply.proofs.Given.{read_all, given_found}
 use Rattle.call_reply.proofs.Places.{no_item_by_place}
-use borrow.Author.Rules.{rules}
-use Rattle.call_flow_bytes.proofs.resume_flow.Statement.{statement}
-use Rattle.call_flow_bytes.proofs.resume_flow.Tie as tie
+use Rattle.call_flow_bytes.proofs.resume_flow.Goals as goal
 
-returns : tie.Need-returns
-returns c =
-    let a = c.before.before.before in
-    let N = net_in a.args.net in
-    let g = a.args.given.now in
+pub returns-then-given-m : goal.returns-then-given-m
+returns-then-given-m c = let N = net_in c.args.net in
+    let g = c.args.given.now in
     let (stands, same, start, _, _) = c.start.ensures in
     let e : listed g (full_list N) ≡ false =
-    other_length (arcs N) (full_list N) (full_flows N a.requires.accepted) g (λ q. c.before.if1.true (q ∙ ap (λ k. 4 * k) (sym a.requires.arcs_held))) in
+    other_length (arcs N) (full_list N) (full_flows N c.requires.accepted) g (λ q. c.if-given-m.true (q ∙ ap (λ k. 4 * k) (sym c.requires.arcs_held))) in
     let none-given : given_flow N g ≡ none = ap (λ t. cond t (some (words g)) none) e in
     record { stands = stands; net_is = same; item_is = ap (λ p. item_at p (state_flow c.start.result)) start ∙ sym none-given; place_is = start ∙ ap (place_after Start) (sym none-given) }
 
-returns-2 : tie.Need-returns-2
-returns-2 c =
-    let a = c.before.before.before.before in
-    let s = a.args.net in
+pub returns : goal.returns
+returns c = let s = c.args.net in
     let N = net_in s in
-    let g = a.args.given.now in
+    let g = c.args.given.now in
     let (stands, same, resumes) = c.resume.ensures in
-    let e : length g ≡ 4 * arcs N = c.before.before.if1.false ∙ ap (λ k. 4 * k) a.requires.arcs_held in
-    let ok = a.requires.accepted in
-    let numbers = take s.arcs c.before.read-words.result in
+    let e : length g ≡ 4 * arcs N = c.if-given-m.false ∙ ap (λ k. 4 * k) c.requires.arcs_held in
+    let ok = c.requires.accepted in
+    let numbers = take s.arcs c.read_words-flow.result in
     let q : numbers ≡ words g =
-    ap (take s.arcs) c.before.read-words.ensures ∙ ap (λ k. take k (padded 512 0 (take 512 (words g)))) a.requires.arcs_held ∙ read_all (arcs N) ok.few_arcs g e in
+    ap (take s.arcs) c.read_words-flow.ensures ∙ ap (λ k. take k (padded 512 0 (take 512 (words g)))) c.requires.arcs_held ∙ read_all (arcs N) ok.few_arcs g e in
     let r = c.resume.result in
     let member = full_member N ok.well_formed (words g) in
-    let bytes = every_at g 256 (λ i h. (c.before.before.before.shared-slice-known.given i).fits) in
+    let bytes = every_at g 256 (λ i h. (c.shared_slice_known-1.given i).fits) in
     let item_is : item_of r ≡ given_flow N g =
     given_found (arcs N) (full_list N) (full_flows N ok) g bytes e r.place (item_of r)
     (λ p. (let (same_flow, least) = resumed_on N ok.well_formed numbers r resumes p in (ap (λ x. item_at x (state_flow r)) p ∙ ap some (same_flow ∙ q), member.1 (rw q at least))))
     (λ n. (no_item_by_place r.place (state_flow r) n, λ m. resumed_off N ok.well_formed numbers r resumes n (rw q (member.0 m)))) in
     record { stands = stands; net_is = same; item_is = item_is; place_is = resumes.place_is ∙ ap (place_after Start) (sym resumes.item_is ∙ item_is) }
-
-pub resume-flow-spec : {M : Type 1} → statement M
-resume-flow-spec =
-    tie.close
-    (tie.spec (λ c. search rules) (λ c κs. search rules) returns (λ c κs. search rules) (λ c κs. search rules) returns-2)
