@@ -2,7 +2,6 @@
 use Prim.Native.Nat.{ℕ}
 use mathlib.Core.Path.{◌≡◌}
 use mathlib.Core.List.{List}
-use borrow.Author.Tests.{not-true, not-false}
 use Rattle.text_read.specs.Reader.{ReadsFront, ◌>>=◌, ◌>>◌, give, text, many}
 use Rattle.text_read.specs.Heads.{line_end}
 use Rattle.book_lines.specs.Lines.{move, entry}

@@ -1,12 +1,11 @@
 use mathlib.Core.Path.{◌≡◌}
 use mathlib.Core.List.{List}
-use Prim.Native.Nat.{ℕ, ◌<◌}
+use Prim.Native.Nat.{ℕ, ◌<◌, ◌+◌, ◌-◌, ◌≤◌}
 use Rattle.laws.specs.Padded.{padded}
 use Rattle.book_form.specs.declared.CheckedBook.{CheckedBook}
 use Rattle.way_parts.specs.Parts.{playing_order}
 use Rattle.way_gaps.specs.declared.JoinTicks.{JoinTicks}
 use Rattle.way_sheets.specs.Writing.{HasRoom}
-use Prim.Native.Nat.{◌+◌, ◌-◌, ◌≤◌}
 use native.Mathlib.Omega.{arith}
 use lib.ListN.{length, get_or}
 use Rattle.laws.specs.Appended.{appended_long}

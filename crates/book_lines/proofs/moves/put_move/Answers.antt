@@ -4,7 +4,7 @@ use mathlib.Core.Bool.{true}
 use native.Mathlib.Omega.{arith}
 use Prim.Native.Nat.{ℕ}
 use lib.ListN.{get_or}
-use borrow.Author.Tests.{eq-eqb, ne_eqb, not-true, not-false}
+use borrow.Author.Tests.{eq-eqb, ne_eqb}
 use Rattle.book_lines.specs.Questions.{fair_move}
 use Rattle.book_lines.specs.Passes.{place_of}
 use Rattle.book_lines.proofs.Table.{fair_parts, put_no, put_yes}
