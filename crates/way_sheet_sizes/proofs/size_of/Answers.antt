@@ -8,64 +8,40 @@ pub loop-k-init : goal.loop-k-init
 loop-k-init c = sum_none _ _ _ _ _ _
 
 pub offset_bounds-way-k : goal.offset_bounds-way-k
-offset_bounds-way-k c =
-    let inside : (c.loop-k.k < length c.args.way.now) × (length c.args.way.now ≤ 28) = let has = c.requires.has in (c.loop-k-test.true, omega (arith, has.way.all_entries, has.limits.few)) in
-    omega (arith, inside)
+offset_bounds-way-k c = let has = c.requires.has in omega (arith, c.loop-k-test.true, has.way.all_entries, has.limits.few)
 
 pub bounds-way-k : goal.bounds-way-k
-bounds-way-k c =
-    let inside : (c.loop-k.k < length c.args.way.now) × (length c.args.way.now ≤ 28) = let has = c.requires.has in (c.loop-k-test.true, omega (arith, has.way.all_entries, has.limits.few)) in
-    omega (arith, inside)
+bounds-way-k c = let has = c.requires.has in omega (arith, c.loop-k-test.true, has.way.all_entries, has.limits.few)
 
 pub offset_bounds-gaps-k : goal.offset_bounds-gaps-k
-offset_bounds-gaps-k c =
-    let inside : (c.loop-k.k < length c.args.way.now) × (length c.args.way.now ≤ 28) = let has = c.requires.has in (c.loop-k-test.true, omega (arith, has.way.all_entries, has.limits.few)) in
-    omega (arith, inside)
+offset_bounds-gaps-k c = let has = c.requires.has in omega (arith, c.loop-k-test.true, has.way.all_entries, has.limits.few)
 
 pub bounds-gaps-k : goal.bounds-gaps-k
-bounds-gaps-k c =
-    let inside : (c.loop-k.k < length c.args.way.now) × (length c.args.way.now ≤ 28) = let has = c.requires.has in (c.loop-k-test.true, omega (arith, has.way.all_entries, has.limits.few)) in
-    omega (arith, inside)
+bounds-gaps-k c = let has = c.requires.has in omega (arith, c.loop-k-test.true, has.way.all_entries, has.limits.few)
 
 pub offset_bounds-spares-k : goal.offset_bounds-spares-k
-offset_bounds-spares-k c =
-    let inside : (c.loop-k.k < length c.args.way.now) × (length c.args.way.now ≤ 28) = let has = c.requires.has in (c.loop-k-test.true, omega (arith, has.way.all_entries, has.limits.few)) in
-    omega (arith, inside)
+offset_bounds-spares-k c = let has = c.requires.has in omega (arith, c.loop-k-test.true, has.way.all_entries, has.limits.few)
 
 pub bounds-spares-k : goal.bounds-spares-k
-bounds-spares-k c =
-    let inside : (c.loop-k.k < length c.args.way.now) × (length c.args.way.now ≤ 28) = let has = c.requires.has in (c.loop-k-test.true, omega (arith, has.way.all_entries, has.limits.few)) in
-    omega (arith, inside)
+bounds-spares-k c = let has = c.requires.has in omega (arith, c.loop-k-test.true, has.way.all_entries, has.limits.few)
 
 pub offset_bounds-lengths-k : goal.offset_bounds-lengths-k
-offset_bounds-lengths-k c =
-    let inside : (c.loop-k.k < length c.args.way.now) × (length c.args.way.now ≤ 28) = let has = c.requires.has in (c.loop-k-test.true, omega (arith, has.way.all_entries, has.limits.few)) in
-    omega (arith, inside)
+offset_bounds-lengths-k c = let has = c.requires.has in omega (arith, c.loop-k-test.true, has.way.all_entries, has.limits.few)
 
 pub bounds-lengths-k : goal.bounds-lengths-k
-bounds-lengths-k c =
-    let inside : (c.loop-k.k < length c.args.way.now) × (length c.args.way.now ≤ 28) = let has = c.requires.has in (c.loop-k-test.true, omega (arith, has.way.all_entries, has.limits.few)) in
-    omega (arith, inside)
+bounds-lengths-k c = let has = c.requires.has in omega (arith, c.loop-k-test.true, has.way.all_entries, has.limits.few)
 
 pub offset_bounds-starts-k : goal.offset_bounds-starts-k
-offset_bounds-starts-k c =
-    let inside : (c.loop-k.k < length c.args.way.now) × (length c.args.way.now ≤ 28) = let has = c.requires.has in (c.loop-k-test.true, omega (arith, has.way.all_entries, has.limits.few)) in
-    omega (arith, inside)
+offset_bounds-starts-k c = let has = c.requires.has in omega (arith, c.loop-k-test.true, has.way.all_entries, has.limits.few)
 
 pub bounds-starts-k : goal.bounds-starts-k
-bounds-starts-k c =
-    let inside : (c.loop-k.k < length c.args.way.now) × (length c.args.way.now ≤ 28) = let has = c.requires.has in (c.loop-k-test.true, omega (arith, has.way.all_entries, has.limits.few)) in
-    omega (arith, inside)
+bounds-starts-k c = let has = c.requires.has in omega (arith, c.loop-k-test.true, has.way.all_entries, has.limits.few)
 
 pub offset_bounds-finishes-k : goal.offset_bounds-finishes-k
-offset_bounds-finishes-k c =
-    let inside : (c.loop-k.k < length c.args.way.now) × (length c.args.way.now ≤ 28) = let has = c.requires.has in (c.loop-k-test.true, omega (arith, has.way.all_entries, has.limits.few)) in
-    omega (arith, inside)
+offset_bounds-finishes-k c = let has = c.requires.has in omega (arith, c.loop-k-test.true, has.way.all_entries, has.limits.few)
 
 pub bounds-finishes-k : goal.bounds-finishes-k
-bounds-finishes-k c =
-    let inside : (c.loop-k.k < length c.args.way.now) × (length c.args.way.now ≤ 28) = let has = c.requires.has in (c.loop-k-test.true, omega (arith, has.way.all_entries, has.limits.few)) in
-    omega (arith, inside)
+bounds-finishes-k c = let has = c.requires.has in omega (arith, c.loop-k-test.true, has.way.all_entries, has.limits.few)
 
 pub play_line_size-requires : goal.play_line_size-requires
 play_line_size-requires c = short _ _ _ _ c.requires.has _ c.loop-k-test.true
@@ -79,9 +55,7 @@ overflow_add-sum-in-loop-k c =
     omega (arith, inside, c.loop-k.invariant.few, c.lead_size-lead.ensures.1, c.play_line_size.ensures.1)
 
 pub overflow_step-k : goal.overflow_step-k
-overflow_step-k c =
-    let inside : (c.loop-k.k < length c.args.way.now) × (length c.args.way.now ≤ 28) = let has = c.requires.has in (c.loop-k-test.true, omega (arith, has.way.all_entries, has.limits.few)) in
-    omega (arith, inside)
+overflow_step-k c = let has = c.requires.has in omega (arith, c.loop-k-test.true, has.way.all_entries, has.limits.few)
 
 pub loop-k-smaller : goal.loop-k-smaller
 loop-k-smaller c = omega (arith, c.loop-k-test.true)
