@@ -22,7 +22,7 @@ put_refused-requires c = let k = c.admit_book-admitted.result.number in
     omega (arith, c.requires, refused_size k few)
 
 pub returns-then-number-ne0 : goal.returns-then-number-ne0
-returns-then-number-ne0 c = writes_refused _ _ _ _ _ c.admit_book-admitted.ensures c.if-number-ne0.true c.Put-refused.ensures
+returns-then-number-ne0 c = writes_refused _ _ _ _ _ c.admit_book-admitted.ensures c.if-number-ne0.true c.put_refused.ensures
 
 pub start-requires : goal.start-requires
 start-requires c =
@@ -56,7 +56,7 @@ list-requires c =
     let on-first : let b = gone.book in At b None (first_way b) c.first-ways.result = c.first-ways.ensures.each gone.book begun in
     let on : on_item c.first-ways.result.flows.place ≡ true = sym c.on_item.ensures ∙ not-false c.on_item.result c.if-not-on_item.false-raw in
     let there = on-first in
-    (record { book = gone.book; enumerates = there.enumerates; c = there.way_is; on = is_item c.first-ways.result.flows.place on }, omega (arith, c.requires))
+    (record { book = gone.book; enumerates = there.enumerates; first = there.way_is; on = is_item c.first-ways.result.flows.place on }, omega (arith, c.requires))
 
 pub returns : goal.returns
 returns c =

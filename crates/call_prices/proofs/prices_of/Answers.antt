@@ -18,24 +18,24 @@ use Rattle.call_prices.proofs.prices_of.Goals as goal
 
 pub returns-then-number-ne0 : goal.returns-then-number-ne0
 returns-then-number-ne0 c = let a = c.args in
-    fails a.balances.now a.arcs.now a.given.now a.prices.now c.check-checked.result c.number_of_lem.result c.code_alone.result
-    c.check-checked.ensures c.number_of_lem.ensures c.if-number-ne0.true c.code_alone.ensures
+    fails a.balances.now a.arcs.now a.given.now a.prices.now c.check-checked.result c.number_of-number.result c.code_alone.result
+    c.check-checked.ensures c.number_of-number.ensures c.if-number-ne0.true c.code_alone.ensures
 
 pub returns-then-not-has_room : goal.returns-then-not-has_room
 returns-then-not-has_room c =
-    let past : StandsFor c.args.balances.now c.args.arcs.now c.check-checked.result.net = stands_for c.args.balances.now c.args.arcs.now c.check-checked.result c.check-checked.ensures (sym c.number_of_lem.ensures ∙ c.if-number-ne0.false) in
+    let past : StandsFor c.args.balances.now c.args.arcs.now c.check-checked.result.net = stands_for c.args.balances.now c.args.arcs.now c.check-checked.result c.check-checked.ensures (sym c.number_of-number.ensures ∙ c.if-number-ne0.false) in
     let a = c.args in
     fails-room a.balances.now a.arcs.now a.given.now a.prices.now c.check-checked.result.net past c.code_alone-then-not-has_room.result
     (sym c.has_room.ensures ∙ not-true c.has_room.result c.if-not-has_room.true-raw) c.code_alone-then-not-has_room.ensures
 
 pub resume_flow-enumerator-requires : goal.resume_flow-enumerator-requires
 resume_flow-enumerator-requires c =
-    let past : StandsFor c.args.balances.now c.args.arcs.now c.check-checked.result.net = stands_for c.args.balances.now c.args.arcs.now c.check-checked.result c.check-checked.ensures (sym c.number_of_lem.ensures ∙ c.if-number-ne0.false) in
+    let past : StandsFor c.args.balances.now c.args.arcs.now c.check-checked.result.net = stands_for c.args.balances.now c.args.arcs.now c.check-checked.result c.check-checked.ensures (sym c.number_of-number.ensures ∙ c.if-number-ne0.false) in
     past.sound
 
 pub returns-then-not-on_item : goal.returns-then-not-on_item
 returns-then-not-on_item c =
-    let past : StandsFor c.args.balances.now c.args.arcs.now c.check-checked.result.net = stands_for c.args.balances.now c.args.arcs.now c.check-checked.result c.check-checked.ensures (sym c.number_of_lem.ensures ∙ c.if-number-ne0.false) in
+    let past : StandsFor c.args.balances.now c.args.arcs.now c.check-checked.result.net = stands_for c.args.balances.now c.args.arcs.now c.check-checked.result c.check-checked.ensures (sym c.number_of-number.ensures ∙ c.if-number-ne0.false) in
     let fits : room c.check-checked.result.net.nodes (length c.args.prices.now) ≡ true = sym c.has_room.ensures ∙ not-false c.has_room.result c.if-not-has_room.false-raw in
     let found : let a = c.args in item_of c.resume_flow-enumerator.result ≡ given_flow (net a.balances.now a.arcs.now) a.given.now = c.resume_flow-enumerator.ensures.item_is ∙ ap (λ N. given_flow N c.args.given.now) past.is in
     let a = c.args in
@@ -52,7 +52,7 @@ hand_prices-requires c =
 
 pub returns : goal.returns
 returns c =
-    let past : StandsFor c.args.balances.now c.args.arcs.now c.check-checked.result.net = stands_for c.args.balances.now c.args.arcs.now c.check-checked.result c.check-checked.ensures (sym c.number_of_lem.ensures ∙ c.if-number-ne0.false) in
+    let past : StandsFor c.args.balances.now c.args.arcs.now c.check-checked.result.net = stands_for c.args.balances.now c.args.arcs.now c.check-checked.result c.check-checked.ensures (sym c.number_of-number.ensures ∙ c.if-number-ne0.false) in
     let fits : room c.check-checked.result.net.nodes (length c.args.prices.now) ≡ true = sym c.has_room.ensures ∙ not-false c.has_room.result c.if-not-has_room.false-raw in
     let found : let a = c.args in item_of c.resume_flow-enumerator.result ≡ given_flow (net a.balances.now a.arcs.now) a.given.now = c.resume_flow-enumerator.ensures.item_is ∙ ap (λ N. given_flow N c.args.given.now) past.is in
     let a = c.args in
