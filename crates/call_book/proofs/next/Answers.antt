@@ -33,7 +33,7 @@ returns-then-not-on_item c =
     let w = c.resume_way-ways.result in
     fails_given a.book.now _ _ p a.way.now refl a.given.now c.code_alone.result
     (on_none _ (words a.given.now) (way_at p.admitted.book w) found.way_is
-    (ap (map_option (way_of p.admitted.book)) (no_item_by_test w.flows.place (state_flow w.flows) (sym c.on_item.ensures ∙ not-true c.on_item.result c.if-not-on_item.true-raw))))
+    (ap (map_option (way_of p.admitted.book)) (no_item_by_test w.flows.place (state_flow w.flows) (sym c.on_item.ensures ∙ c.if-not-on_item.true))))
     c.code_alone.ensures
 
 pub next-requires : goal.next-requires
@@ -60,6 +60,6 @@ returns c =
     let w = c.resume_way-ways.result in
     let g = a.given.now in
     let (given, on-it) = on_some _ (words g) (way_of p.admitted.book (state_flow w.flows)) (way_at p.admitted.book w) found.way_is
-    (ap (map_option (way_of p.admitted.book)) (an_item w.flows.place (state_flow w.flows) (sym c.on_item.ensures ∙ not-false c.on_item.result c.if-not-on_item.false-raw))) in
+    (ap (map_option (way_of p.admitted.book)) (an_item w.flows.place (state_flow w.flows) (sym c.on_item.ensures ∙ c.if-not-on_item.false))) in
     answers_next a.book.now _ _ p a.way.now refl g (way_at p.admitted.book c.next.result) given (on-next.way_is ∙ ap (way_after p.admitted.book) on-it) c.hand_way.result _
     (c.hand_way.ensures.each p.admitted.book on-next.enumerates)

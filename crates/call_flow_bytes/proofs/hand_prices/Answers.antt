@@ -14,18 +14,18 @@ use Rattle.call_flow_bytes.proofs.hand_prices.Goals as goal
 
 pub returns-then-not-on_item : goal.returns-then-not-on_item
 returns-then-not-on_item c = let s = c.args.enumerator in
-    let e : item_of s ≡ none = no_item_by_test s.place (state_flow s) (sym c.on_item.ensures ∙ not-true c.on_item.result c.if-not-on_item.true-raw) in
+    let e : item_of s ≡ none = no_item_by_test s.place (state_flow s) (sym c.on_item.ensures ∙ c.if-not-on_item.true) in
     rw e refl
 
 pub prices-ps-requires : goal.prices-ps-requires
-prices-ps-requires c = (c.requires.0, is_item c.args.enumerator.place (sym c.on_item.ensures ∙ not-false c.on_item.result c.if-not-on_item.false-raw))
+prices-ps-requires c = (c.requires.0, is_item c.args.enumerator.place (sym c.on_item.ensures ∙ c.if-not-on_item.false))
 
 pub returns : goal.returns
 returns c = let s = c.args.enumerator in
     let n = s.net.nodes in
     let ps = c.prices-ps.result in
     let out = c.args.prices.now in
-    let e : item_of s ≡ some (state_flow s) = an_item s.place (state_flow s) (sym c.on_item.ensures ∙ not-false c.on_item.result c.if-not-on_item.false-raw) in
+    let e : item_of s ≡ some (state_flow s) = an_item s.place (state_flow s) (sym c.on_item.ensures ∙ c.if-not-on_item.false) in
     let k : length ps ≡ 64 = search rules in
     rw e (
       take n ps,

@@ -45,7 +45,7 @@ returns-then-not-on_item c =
     let on-first : let b = gone.book in At b None (first_way b) c.first-ways.result = c.first-ways.ensures.each gone.book begun in
     let p = gone in
     let w = c.first-ways.result in
-    let off = sym c.on_item.ensures ∙ not-true c.on_item.result c.if-not-on_item.true-raw in
+    let off = sym c.on_item.ensures ∙ c.if-not-on_item.true in
     writes_none _ _ _ _ p.ok p.book p.is
     (sym on-first.way_is ∙ ap (map_option (way_of p.book)) (no_item_by_test w.flows.place (state_flow w.flows) off)) c.put_none.ensures
 
@@ -54,7 +54,7 @@ list-requires c =
     let gone : Admitted c.args.book.now c.admit_book-admitted.result.book = admitted _ _ c.admit_book-admitted.ensures c.if-number-ne0.false in
     let begun : Enumerates gone.book c.start.result = let p = gone in (c.start.ensures.each p.book p.holds).enumerates in
     let on-first : let b = gone.book in At b None (first_way b) c.first-ways.result = c.first-ways.ensures.each gone.book begun in
-    let on : on_item c.first-ways.result.flows.place ≡ true = sym c.on_item.ensures ∙ not-false c.on_item.result c.if-not-on_item.false-raw in
+    let on : on_item c.first-ways.result.flows.place ≡ true = sym c.on_item.ensures ∙ c.if-not-on_item.false in
     let there = on-first in
     (record { book = gone.book; enumerates = there.enumerates; first = there.way_is; on = is_item c.first-ways.result.flows.place on }, omega (arith, c.requires))
 
@@ -63,7 +63,7 @@ returns c =
     let gone : Admitted c.args.book.now c.admit_book-admitted.result.book = admitted _ _ c.admit_book-admitted.ensures c.if-number-ne0.false in
     let begun : Enumerates gone.book c.start.result = let p = gone in (c.start.ensures.each p.book p.holds).enumerates in
     let on-first : let b = gone.book in At b None (first_way b) c.first-ways.result = c.first-ways.ensures.each gone.book begun in
-    let on : on_item c.first-ways.result.flows.place ≡ true = sym c.on_item.ensures ∙ not-false c.on_item.result c.if-not-on_item.false-raw in
+    let on : on_item c.first-ways.result.flows.place ≡ true = sym c.on_item.ensures ∙ c.if-not-on_item.false in
     let p = gone in
     let w = c.first-ways.result in
     let there = on-first in

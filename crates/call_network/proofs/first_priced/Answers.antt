@@ -24,7 +24,7 @@ returns-then-not-has_room c =
     let a = c.args in
     let (stands, fits) = past in
     fails_prices a.balances.now a.arcs.now c.admit_network-admitted.result.net stands a.flows.now fits a.prices.now c.code_alone-then-not-has_room.result
-    (sym c.has_room.ensures ∙ not-true c.has_room.result c.if-not-has_room.true-raw) c.code_alone-then-not-has_room.ensures
+    (sym c.has_room.ensures ∙ c.if-not-has_room.true) c.code_alone-then-not-has_room.ensures
 
 pub start-requires : goal.start-requires
 start-requires c =
@@ -33,7 +33,7 @@ start-requires c =
 
 pub hand_prices-requires : goal.hand_prices-requires
 hand_prices-requires c =
-    let fits-prices : room c.admit_network-admitted.result.net.nodes (length c.args.prices.now) ≡ true = sym c.has_room.ensures ∙ not-false c.has_room.result c.if-not-has_room.false-raw in
+    let fits-prices : room c.admit_network-admitted.result.net.nodes (length c.args.prices.now) ≡ true = sym c.has_room.ensures ∙ c.if-not-has_room.false in
     let same : c.first-enumerator.result.net ≡ c.admit_network-admitted.result.net = c.first-enumerator.ensures.net_is ∙ c.start.ensures.1 in
     let a = c.args in
     (c.first-enumerator.ensures.stands, ap (λ n. room n.nodes (length a.prices.now)) same ∙ fits-prices)
@@ -48,7 +48,7 @@ hand_flow-requires c =
 pub returns : goal.returns
 returns c =
     let past : StandsFor c.args.balances.now c.args.arcs.now c.admit_network-admitted.result.net × (room c.admit_network-admitted.result.net.arcs (length c.args.flows.now) ≡ true) = let a = c.args in passes a.balances.now a.arcs.now c.admit_network-admitted.result (length a.flows.now) c.admit_network-admitted.ensures c.if-number-ne0.false in
-    let fits-prices : room c.admit_network-admitted.result.net.nodes (length c.args.prices.now) ≡ true = sym c.has_room.ensures ∙ not-false c.has_room.result c.if-not-has_room.false-raw in
+    let fits-prices : room c.admit_network-admitted.result.net.nodes (length c.args.prices.now) ≡ true = sym c.has_room.ensures ∙ c.if-not-has_room.false in
     let same : c.first-enumerator.result.net ≡ c.admit_network-admitted.result.net = c.first-enumerator.ensures.net_is ∙ c.start.ensures.1 in
     let a = c.args in
     let (stands, fits) = past in

@@ -33,7 +33,7 @@ returns-then-not-on_item c =
     let (stands, fits) = past in
     let s = c.resume_flow-enumerator.result in
     fails_given a.balances.now a.arcs.now c.admit_network-admitted.result.net stands a.flows.now fits a.given.now c.code_alone-then-not-on_item.result
-    (on_none _ (words a.given.now) (item_of s) found (no_item_by_test s.place (state_flow s) (sym c.on_item.ensures ∙ not-true c.on_item.result c.if-not-on_item.true-raw)))
+    (on_none _ (words a.given.now) (item_of s) found (no_item_by_test s.place (state_flow s) (sym c.on_item.ensures ∙ c.if-not-on_item.true)))
     c.code_alone-then-not-on_item.ensures
 
 pub hand_flow-requires : goal.hand_flow-requires
@@ -51,7 +51,7 @@ returns c =
     let s = c.resume_flow-enumerator.result in
     let g = a.given.now in
     let (given, on-it) =
-    on_some _ (words g) (state_flow s) (item_of s) found (an_item s.place (state_flow s) (sym c.on_item.ensures ∙ not-false c.on_item.result c.if-not-on_item.false-raw)) in
+    on_some _ (words g) (state_flow s) (item_of s) found (an_item s.place (state_flow s) (sym c.on_item.ensures ∙ c.if-not-on_item.false)) in
     let same : net_in s.net ≡ net a.balances.now a.arcs.now = ap net_in c.resume_flow-enumerator.ensures.net_is ∙ stands.is in
     answers_next a.balances.now a.arcs.now c.admit_network-admitted.result.net stands a.flows.now fits g
     (net_in c.next.result.net) (item_of c.next.result) (ap net_in c.next.ensures.net_is ∙ same) given

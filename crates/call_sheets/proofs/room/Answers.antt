@@ -41,11 +41,11 @@ size_of-n-requires c = has_size_lem _ _ _ c.admit_way-asked.ensures c.if-number-
 
 pub overflow_cast-result : goal.overflow_cast-result
 overflow_cast-result c =
-    let few : c.type_size.result ≤ 2212 = size_few _ _ _ c.admit_way-asked.ensures c.if-number-ne0.false _ c.read_words-numbers.ensures _ c.join_ticks-ticks.ensures _ c.type_size.ensures in
+    let few : c.size_of-n.result ≤ 2212 = size_few _ _ _ c.admit_way-asked.ensures c.if-number-ne0.false _ c.read_words-numbers.ensures _ c.join_ticks-ticks.ensures _ c.size_of-n.ensures in
     simp fits (omega (arith, few))
 
 pub returns : goal.returns
 returns c =
-    let few : c.type_size.result ≤ 2212 = size_few _ _ _ c.admit_way-asked.ensures c.if-number-ne0.false _ c.read_words-numbers.ensures _ c.join_ticks-ticks.ensures _ c.type_size.ensures in
-    rw (to_z_pos w64 {n = c.type_size.result} (omega (arith, few)))
-    (room_told _ _ _ c.admit_way-asked.ensures c.if-number-ne0.false _ c.read_words-numbers.ensures _ c.join_ticks-ticks.ensures _ c.type_size.ensures)
+    let few : c.size_of-n.result ≤ 2212 = size_few _ _ _ c.admit_way-asked.ensures c.if-number-ne0.false _ c.read_words-numbers.ensures _ c.join_ticks-ticks.ensures _ c.size_of-n.ensures in
+    rw (to_z_pos w64 {n = c.size_of-n.result} (omega (arith, few)))
+    (room_told _ _ _ c.admit_way-asked.ensures c.if-number-ne0.false _ c.read_words-numbers.ensures _ c.join_ticks-ticks.ensures _ c.size_of-n.ensures)

@@ -42,7 +42,7 @@ fits_in-requires c = has_size_lem _ _ _ c.admit_way-admitted.ensures c.if-number
 
 pub returns-then-not-fits_in : goal.returns-then-not-fits_in
 returns-then-not-fits_in c = too_short _ _ _ c.admit_way-admitted.ensures c.if-number-ne0.false _ c.read_words-numbers.ensures _ c.join_ticks-ticks.ensures c.args.text.now _ c.fits_in.ensures
-    (not-true c.fits_in.result c.if-not-fits_in.true-raw) _ c.code_alone.ensures
+    c.if-not-fits_in.true _ c.code_alone.ensures
 
 pub slice_bounds-numbers-end-3 : goal.slice_bounds-numbers-end-3
 slice_bounds-numbers-end-3 c =
@@ -56,16 +56,16 @@ slice_bounds-put_sheets-end c =
 
 pub put_sheets-n-requires : goal.put_sheets-n-requires
 put_sheets-n-requires c = has_room _ _ _ c.admit_way-admitted.ensures c.if-number-ne0.false _ c.read_words-numbers.ensures _ c.join_ticks-ticks.ensures c.args.text.now _ c.fits_in.ensures
-    (not-false c.fits_in.result c.if-not-fits_in.false-raw)
+    c.if-not-fits_in.false
 
 pub overflow_cast-result : goal.overflow_cast-result
 overflow_cast-result c =
-    let wrote : c.put_sheets-n.result ≤ 2212 = written_few _ _ _ c.admit_way-admitted.ensures c.if-number-ne0.false _ c.read_words-numbers.ensures _ c.join_ticks-ticks.ensures c.args.text.now _ c.fits_in.ensures (not-false c.fits_in.result c.if-not-fits_in.false-raw) _ _ c.put_sheets-n.ensures in
+    let wrote : c.put_sheets-n.result ≤ 2212 = written_few _ _ _ c.admit_way-admitted.ensures c.if-number-ne0.false _ c.read_words-numbers.ensures _ c.join_ticks-ticks.ensures c.args.text.now _ c.fits_in.ensures c.if-not-fits_in.false _ _ c.put_sheets-n.ensures in
     simp fits (omega (arith, wrote))
 
 pub returns : goal.returns
 returns c =
-    let wrote : c.put_sheets-n.result ≤ 2212 = written_few _ _ _ c.admit_way-admitted.ensures c.if-number-ne0.false _ c.read_words-numbers.ensures _ c.join_ticks-ticks.ensures c.args.text.now _ c.fits_in.ensures (not-false c.fits_in.result c.if-not-fits_in.false-raw) _ _ c.put_sheets-n.ensures in
+    let wrote : c.put_sheets-n.result ≤ 2212 = written_few _ _ _ c.admit_way-admitted.ensures c.if-number-ne0.false _ c.read_words-numbers.ensures _ c.join_ticks-ticks.ensures c.args.text.now _ c.fits_in.ensures c.if-not-fits_in.false _ _ c.put_sheets-n.ensures in
     rw (to_z_pos w64 {n = c.put_sheets-n.result} (omega (arith, wrote)))
     (written _ _ _ c.admit_way-admitted.ensures c.if-number-ne0.false _ c.read_words-numbers.ensures _ c.join_ticks-ticks.ensures c.args.text.now _ c.fits_in.ensures
-    (not-false c.fits_in.result c.if-not-fits_in.false-raw) _ _ c.put_sheets-n.ensures)
+    c.if-not-fits_in.false _ _ c.put_sheets-n.ensures)

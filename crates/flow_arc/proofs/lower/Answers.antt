@@ -28,7 +28,7 @@ returns-then-not-free-a c =
   c.requires.0.within,
   λ b d π ti. low_done (whole b d) π c.args.free.now c.args.flow.now c.args.a c.requires.1 c.args.flow.now
       (low_start (whole b d) π c.args.free.now c.args.flow.now c.args.a c.requires.1 ti)
-      (not_lowerable_least (whole b d) π c.args.free.now c.args.flow.now ti c.args.a c.requires.1 (inl (not-true _ c.if-not-free-a.true-raw))),
+      (not_lowerable_least (whole b d) π c.args.free.now c.args.flow.now ti c.args.a c.requires.1 (inl c.if-not-free-a.true)),
 )
 
 pub bounds-tails-a : goal.bounds-tails-a
@@ -139,7 +139,7 @@ loop-a-preserved c =
   o.auto.flow ∙ a.invariant.0,
   within_with (net_with [] c.args.tails.now [] c.args.lows.now c.args.ups.now []) [] c.args.heads.now [] _ o.ensures.within,
   λ b x π ti. let N = whole b x in
-      low_step N π c.args.free.now c.args.flow.now c.args.a c.requires.1 a.flow _ codes-of (a.invariant.2 b x π ti) (not-false _ c.if-not-free-a.false-raw) c.if-f-l.false
+      low_step N π c.args.free.now c.args.flow.now c.args.a c.requires.1 a.flow _ codes-of (a.invariant.2 b x π ti) c.if-not-free-a.false c.if-f-l.false
       (free_walk_whole N a.flow c.args.free.now (tail N c.args.a) (head N c.args.a) (suc c.args.a) codes-of walk_of)
       (exact_whole N a.flow _ c.args.a codes-of o.ensures.exact),
 )

@@ -35,14 +35,14 @@ returns-then-not-cancel c =
     let net : Net = net_with [] c.args.tails.now c.args.heads.now c.args.lows.now c.args.ups.now c.args.costs.now in
     let flow : List ℕ = c.cancel.new.flow in
     let labels : List ℤ = c.cancel.new.labels in
-    none_left net c.args.flow.now c.loop-need.flow flow c.args.need labels c.cancel.result c.loop-need.invariant.1 c.cancel.ensures (not-true _ c.if-not-cancel.true-raw)
+    none_left net c.args.flow.now c.loop-need.flow flow c.args.need labels c.cancel.result c.loop-need.invariant.1 c.cancel.ensures c.if-not-cancel.true
 
 pub loop-need-smaller : goal.loop-need-smaller
 loop-need-smaller c =
     let net : Net = net_with [] c.args.tails.now c.args.heads.now c.args.lows.now c.args.ups.now c.args.costs.now in
     let flow : List ℕ = c.cancel.new.flow in
     let labels : List ℤ = c.cancel.new.labels in
-    let e = not-false _ c.if-not-cancel.false-raw in
+    let e = c.if-not-cancel.false in
     -- one cycle less
     let cheaper : Rerouted net c.loop-need.flow flow × (cost_of net flow <ℤ cost_of net c.loop-need.flow) =
       one_less net c.loop-need.flow flow c.args.need labels c.cancel.result c.cancel.ensures e in
@@ -55,7 +55,7 @@ loop-need-preserved c =
     let flow : List ℕ = c.cancel.new.flow in
     let labels : List ℤ = c.cancel.new.labels in
     let labels_len : length labels ≡ 64 = c.cancel.auto.labels ∙ c.loop-need.invariant.2 in
-    let e = not-false _ c.if-not-cancel.false-raw in
+    let e = c.if-not-cancel.false in
     -- one cycle less
     let cheaper : Rerouted net c.loop-need.flow flow × (cost_of net flow <ℤ cost_of net c.loop-need.flow) =
       one_less net c.loop-need.flow flow c.args.need labels c.cancel.result c.cancel.ensures e in

@@ -10,7 +10,7 @@ use Rattle.flow_closure.proofs.add_arc.Goals as goal
 pub returns-then-not-free-a : goal.returns-then-not-free-a
 returns-then-not-free-a c =
     let net : Net = net_with [] c.args.tails.now c.args.heads.now c.args.lows.now c.args.ups.now [] in
-    closure_skip net c.args.flow.now c.args.free.now c.args.a c.args.rows.now c.requires.2 (not-true _ c.if-not-free-a.true-raw)
+    closure_skip net c.args.flow.now c.args.free.now c.args.a c.args.rows.now c.requires.2 c.if-not-free-a.true
 
 pub overflow_cast-p : goal.overflow_cast-p
 overflow_cast-p c =
@@ -43,4 +43,4 @@ returns c =
     let net : Net = net_with [] c.args.tails.now c.args.heads.now c.args.lows.now c.args.ups.now [] in
     let tail_in : tail net c.args.a < 64 = c.requires.0.ends.tail_in c.args.a c.requires.1 in
     let head_in : head net c.args.a < 64 = c.requires.0.ends.head_in c.args.a c.requires.1 in
-    closure_arc net c.args.flow.now c.args.free.now c.args.a c.args.rows.now c.requires.2 c.requires.1 (not-false _ c.if-not-free-a.false-raw) tail_in head_in c.add.new.rows _ c.add.ensures c.add-2.ensures
+    closure_arc net c.args.flow.now c.args.free.now c.args.a c.args.rows.now c.requires.2 c.requires.1 c.if-not-free-a.false tail_in head_in c.add.new.rows _ c.add.ensures c.add-2.ensures

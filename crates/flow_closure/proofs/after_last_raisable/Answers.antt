@@ -31,8 +31,8 @@ loop-a-preserved-then-not-free-a c =
     let net : Net = net_with [] c.args.tails.now c.args.heads.now c.args.lows.now c.args.ups.now [] in
     let behind : Closure net c.args.flow.now c.args.free.now (suc (c.loop-a.a - 1)) c.loop-a.rows = before_arc net _ _ c.loop-a.a c.loop-a.rows c.loop-a-test.true c.loop-a.invariant.0 in
     let l = c.loop-a in (
-      closure_skip net c.args.flow.now c.args.free.now (l.a - 1) l.rows behind (not-true _ c.if-not-free-a.true-raw),
-      raisable_step net c.args.flow.now c.args.free.now l.a c.loop-a-test.true l.invariant.1 (inl (not-true _ c.if-not-free-a.true-raw)),
+      closure_skip net c.args.flow.now c.args.free.now (l.a - 1) l.rows behind c.if-not-free-a.true,
+      raisable_step net c.args.flow.now c.args.free.now l.a c.loop-a-test.true l.invariant.1 (inl c.if-not-free-a.true),
     )
 
 pub slice_bounds-closes_cycle-end : goal.slice_bounds-closes_cycle-end

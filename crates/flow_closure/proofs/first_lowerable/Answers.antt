@@ -44,8 +44,8 @@ loop-a-preserved-then-not-free-a c =
     let behind : Closure net c.args.flow.now c.args.free.now (suc (c.loop-a.a - 1)) c.loop-a.rows = before_arc net _ _ c.loop-a.a c.loop-a.rows some c.loop-a.invariant.1 in
     let l = c.loop-a in (
       omega (arith, c.loop-a-test.true),
-      closure_skip net c.args.flow.now c.args.free.now (l.a - 1) l.rows behind (not-true _ c.if-not-free-a.true-raw),
-      lowerable_step net c.args.flow.now c.args.free.now l.a l.first some l.invariant.2 (inl (not-true _ c.if-not-free-a.true-raw)),
+      closure_skip net c.args.flow.now c.args.free.now (l.a - 1) l.rows behind c.if-not-free-a.true,
+      lowerable_step net c.args.flow.now c.args.free.now l.a l.first some l.invariant.2 (inl c.if-not-free-a.true),
     )
 
 pub slice_bounds-closes_cycle-end : goal.slice_bounds-closes_cycle-end

@@ -42,7 +42,7 @@ start-requires c = c.requires
 pub returns-then-not-mark_if_least : goal.returns-then-not-mark_if_least
 returns-then-not-mark_if_least c = let r = c.mark_if_least in
     let p = c.start.ensures in
-    (p.0, p.1, resume_off (net_in c.args.net) c.requires.accepted.well_formed _ c.start.result (not_marked (net_in c.args.net) _ _ _ r.result r.ensures (not-true r.result c.if-not-mark_if_least.true-raw)) p.2)
+    (p.0, p.1, resume_off (net_in c.args.net) c.requires.accepted.well_formed _ c.start.result (not_marked (net_in c.args.net) _ _ _ r.result r.ensures c.if-not-mark_if_least.true) p.2)
 
 pub slice_bounds-cost_of-end-2 : goal.slice_bounds-cost_of-end-2
 slice_bounds-cost_of-end-2 c =
@@ -53,7 +53,7 @@ pub cost_of-cost-requires : goal.cost_of-cost-requires
 cost_of-cost-requires c =
     let given : List ℕ = take c.args.net.arcs c.args.flow in
     let free : List Bool = c.mark_if_least.new.free in
-    let item_of : Marked (net_in c.args.net) free given = let r = c.mark_if_least in marked_yes (net_in c.args.net) given _ free r.result r.ensures (not-false r.result c.if-not-mark_if_least.false-raw) in
+    let item_of : Marked (net_in c.args.net) free given = let r = c.mark_if_least in marked_yes (net_in c.args.net) given _ free r.result r.ensures c.if-not-mark_if_least.false in
     let N = net_in c.args.net in
     summable N c.requires.accepted given (flow_bounds N given item_of.marks.least.flow)
 
@@ -61,7 +61,7 @@ pub returns : goal.returns
 returns c =
     let given : List ℕ = take c.args.net.arcs c.args.flow in
     let free : List Bool = c.mark_if_least.new.free in
-    let item_of : Marked (net_in c.args.net) free given = let r = c.mark_if_least in marked_yes (net_in c.args.net) given _ free r.result r.ensures (not-false r.result c.if-not-mark_if_least.false-raw) in
+    let item_of : Marked (net_in c.args.net) free given = let r = c.mark_if_least in marked_yes (net_in c.args.net) given _ free r.result r.ensures c.if-not-mark_if_least.false in
     let n = c.args.net in
     let g = given in
     let m = item_of in (

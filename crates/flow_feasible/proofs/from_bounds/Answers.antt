@@ -73,14 +73,14 @@ returns-then-not-send c =
     let sent : List ℕ = c.send.new.flow in
     let within : InBounds net sent = within_with (bare net) c.args.balances.now c.args.heads.now [] sent c.send.ensures.within in
     no_flow_left net c.args.flow.now c.requires.0 c.loop-excess.flow c.loop-excess.invariant.0 excess c.excess_of.ensures c.args.free.now c.requires.2 c.first_excess-s.result c.if-s-excess.false
-    (c.first_excess-s.ensures.above c.if-s-excess.false) (c.send.ensures.stuck (not-true _ c.if-not-send.true-raw)) _ within
+    (c.first_excess-s.ensures.above c.if-s-excess.false) (c.send.ensures.stuck c.if-not-send.true) _ within
 
 pub loop-excess-smaller : goal.loop-excess-smaller
 loop-excess-smaller c =
     let net : Net = net_with c.args.balances.now c.args.tails.now c.args.heads.now c.args.lows.now c.args.ups.now [] in
     let excess : List ℤ = c.excess_of.new.excess in
     falls net c.args.flow.now c.requires.0 c.loop-excess.flow c.loop-excess.invariant.0 excess c.excess_of.ensures _ c.first_excess-s.result c.if-s-excess.false
-    (c.send.ensures.done (not-false _ c.if-not-send.false-raw))
+    (c.send.ensures.done c.if-not-send.false)
 
 pub loop-excess-preserved : goal.loop-excess-preserved
 loop-excess-preserved c =

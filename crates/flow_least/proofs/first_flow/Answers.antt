@@ -23,13 +23,13 @@ starting_flow-requires c = let p = c.requires in (p.0, p.1)
 pub returns-then-not-starting_flow : goal.returns-then-not-starting_flow
 returns-then-not-starting_flow c =
     let whole : Net = net_with c.args.balances.now c.args.tails.now c.args.heads.now c.args.lows.now c.args.ups.now c.args.costs.now in
-    (no_first whole c.requires.0.well_formed (c.starting_flow.ensures.none (not-true _ c.if-not-starting_flow.true-raw)), c.starting_flow.ensures.within, refl)
+    (no_first whole c.requires.0.well_formed (c.starting_flow.ensures.none c.if-not-starting_flow.true), c.starting_flow.ensures.within, refl)
 
 pub cancel_negative_cycles-requires : goal.cancel_negative_cycles-requires
 cancel_negative_cycles-requires c =
     let whole : Net = net_with c.args.balances.now c.args.tails.now c.args.heads.now c.args.lows.now c.args.ups.now c.args.costs.now in
     let given : List ℕ = c.starting_flow.new.flow in
-    let flow-of : IsFlow whole given = c.starting_flow.ensures.found (not-false _ c.if-not-starting_flow.false-raw) in
+    let flow-of : IsFlow whole given = c.starting_flow.ensures.found c.if-not-starting_flow.false in
     (accepted_relaxable whole c.requires.0 given (flow_bounds whole given flow-of), length-replicate {A = ℤ} 64 (pos 0))
 
 pub slice_bounds-mark-end : goal.slice_bounds-mark-end
@@ -41,7 +41,7 @@ mark-requires c =
     let flow : List ℕ = c.cancel_negative_cycles.new.flow in
     let labels : List ℤ = c.cancel_negative_cycles.new.labels in
     let given : List ℕ = c.starting_flow.new.flow in
-    let flow-of : IsFlow whole given = c.starting_flow.ensures.found (not-false _ c.if-not-starting_flow.false-raw) in
+    let flow-of : IsFlow whole given = c.starting_flow.ensures.found c.if-not-starting_flow.false in
     let least : LeastCost whole flow = cheapest whole given flow c.requires.0.well_formed flow-of c.cancel_negative_cycles.ensures.0 (λ v. get_or labels v (pos 0)) c.cancel_negative_cycles.ensures.1.feasible in
     (c.requires.0, least, labels_whole whole flow labels c.cancel_negative_cycles.ensures.1, c.requires.2)
 
@@ -51,7 +51,7 @@ unmark_fixed-requires c =
     let flow : List ℕ = c.cancel_negative_cycles.new.flow in
     let labels : List ℤ = c.cancel_negative_cycles.new.labels in
     let given : List ℕ = c.starting_flow.new.flow in
-    let flow-of : IsFlow whole given = c.starting_flow.ensures.found (not-false _ c.if-not-starting_flow.false-raw) in
+    let flow-of : IsFlow whole given = c.starting_flow.ensures.found c.if-not-starting_flow.false in
     let least : LeastCost whole flow = cheapest whole given flow c.requires.0.well_formed flow-of c.cancel_negative_cycles.ensures.0 (λ v. get_or labels v (pos 0)) c.cancel_negative_cycles.ensures.1.feasible in
     let ready : (free : List Bool) → length free ≡ arcs whole → Ready (bare whole) flow free = λ free e. accepted_ready whole c.requires.0 flow free e (flow_bounds whole flow least.flow) in
     (ready c.mark.new.free c.mark.ensures.marks_len).searchable
@@ -62,7 +62,7 @@ minimise-requires c =
     let flow : List ℕ = c.cancel_negative_cycles.new.flow in
     let labels : List ℤ = c.cancel_negative_cycles.new.labels in
     let given : List ℕ = c.starting_flow.new.flow in
-    let flow-of : IsFlow whole given = c.starting_flow.ensures.found (not-false _ c.if-not-starting_flow.false-raw) in
+    let flow-of : IsFlow whole given = c.starting_flow.ensures.found c.if-not-starting_flow.false in
     let least : LeastCost whole flow = cheapest whole given flow c.requires.0.well_formed flow-of c.cancel_negative_cycles.ensures.0 (λ v. get_or labels v (pos 0)) c.cancel_negative_cycles.ensures.1.feasible in
     let ready : (free : List Bool) → length free ≡ arcs whole → Ready (bare whole) flow free = λ free e. accepted_ready whole c.requires.0 flow free e (flow_bounds whole flow least.flow) in
     let marked-of : Marked whole c.unmark_fixed.new.free flow = let m = c.mark in let n = c.unmark_fixed in marked_narrowed whole flow m.new.free n.new.free m.ensures n.auto.free n.ensures in

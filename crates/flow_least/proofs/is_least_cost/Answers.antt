@@ -24,19 +24,19 @@ pub returns-then-not-is_flow : goal.returns-then-not-is_flow
 returns-then-not-is_flow c =
     let whole : Net = net_with c.args.balances.now c.args.tails.now c.args.heads.now c.args.lows.now c.args.ups.now c.args.costs.now in
     let t = c.is_flow in
-    λ L. decided (IsFlow (uncosted whole) c.args.flow.now) t.result false t.ensures (not-true t.result c.if-not-is_flow.true-raw) (flow_with whole [] c.args.flow.now L.flow)
+    λ L. decided (IsFlow (uncosted whole) c.args.flow.now) t.result false t.ensures c.if-not-is_flow.true (flow_with whole [] c.args.flow.now L.flow)
 
 pub find_cycle-requires : goal.find_cycle-requires
 find_cycle-requires c =
     let whole : Net = net_with c.args.balances.now c.args.tails.now c.args.heads.now c.args.lows.now c.args.ups.now c.args.costs.now in
-    let flow-of : IsFlow whole c.args.flow.now = let t = c.is_flow in flow_with (uncosted whole) c.args.costs.now c.args.flow.now (decided (IsFlow (uncosted whole) c.args.flow.now) t.result true t.ensures (not-false t.result c.if-not-is_flow.false-raw)) in
+    let flow-of : IsFlow whole c.args.flow.now = let t = c.is_flow in flow_with (uncosted whole) c.args.costs.now c.args.flow.now (decided (IsFlow (uncosted whole) c.args.flow.now) t.result true t.ensures c.if-not-is_flow.false) in
     let can-relax : Relaxable (costed whole) c.args.flow.now = accepted_relaxable whole c.requires.0 c.args.flow.now (flow_bounds whole c.args.flow.now flow-of) in
     (can-relax, omega arith, omega arith, c.requires.2, length-replicate {A = ℕ} 64 0)
 
 pub returns : goal.returns
 returns c =
     let whole : Net = net_with c.args.balances.now c.args.tails.now c.args.heads.now c.args.lows.now c.args.ups.now c.args.costs.now in
-    let flow-of : IsFlow whole c.args.flow.now = let t = c.is_flow in flow_with (uncosted whole) c.args.costs.now c.args.flow.now (decided (IsFlow (uncosted whole) c.args.flow.now) t.result true t.ensures (not-false t.result c.if-not-is_flow.false-raw)) in
+    let flow-of : IsFlow whole c.args.flow.now = let t = c.is_flow in flow_with (uncosted whole) c.args.costs.now c.args.flow.now (decided (IsFlow (uncosted whole) c.args.flow.now) t.result true t.ensures c.if-not-is_flow.false) in
     let can-relax : Relaxable (costed whole) c.args.flow.now = accepted_relaxable whole c.requires.0 c.args.flow.now (flow_bounds whole c.args.flow.now flow-of) in
     let r = c.find_cycle in
     tested whole c.args.flow.now c.requires.0.well_formed can-relax flow-of r.new.labels _ r.new.out r.result r.ensures

@@ -16,18 +16,18 @@ pub returns-then-not-is_least_cost : goal.returns-then-not-is_least_cost
 returns-then-not-is_least_cost c =
     let whole : Net = net_with c.args.balances.now c.args.tails.now c.args.heads.now c.args.lows.now c.args.ups.now c.args.costs.now in
     let labels : List ℤ = c.is_least_cost.new.labels in
-    (tested_no whole c.args.flow.now labels c.is_least_cost.result c.is_least_cost.ensures (not-true c.is_least_cost.result c.if-not-is_least_cost.true-raw), refl)
+    (tested_no whole c.args.flow.now labels c.is_least_cost.result c.is_least_cost.ensures c.if-not-is_least_cost.true, refl)
 
 pub slice_bounds-mark-end : goal.slice_bounds-mark-end
 slice_bounds-mark-end c =
     let whole : Net = net_with c.args.balances.now c.args.tails.now c.args.heads.now c.args.lows.now c.args.ups.now c.args.costs.now in
     let labels : List ℤ = c.is_least_cost.new.labels in
-    let yes_of : LeastCost whole c.args.flow.now × PotentialLabels whole c.args.flow.now 1 labels = tested_yes whole c.args.flow.now labels c.is_least_cost.result c.is_least_cost.ensures (not-false c.is_least_cost.result c.if-not-is_least_cost.false-raw) in
+    let yes_of : LeastCost whole c.args.flow.now × PotentialLabels whole c.args.flow.now 1 labels = tested_yes whole c.args.flow.now labels c.is_least_cost.result c.is_least_cost.ensures c.if-not-is_least_cost.false in
     sym yes_of.1.len
 
 pub mark-requires : goal.mark-requires
 mark-requires c =
     let whole : Net = net_with c.args.balances.now c.args.tails.now c.args.heads.now c.args.lows.now c.args.ups.now c.args.costs.now in
     let labels : List ℤ = c.is_least_cost.new.labels in
-    let yes_of : LeastCost whole c.args.flow.now × PotentialLabels whole c.args.flow.now 1 labels = tested_yes whole c.args.flow.now labels c.is_least_cost.result c.is_least_cost.ensures (not-false c.is_least_cost.result c.if-not-is_least_cost.false-raw) in
+    let yes_of : LeastCost whole c.args.flow.now × PotentialLabels whole c.args.flow.now 1 labels = tested_yes whole c.args.flow.now labels c.is_least_cost.result c.is_least_cost.ensures c.if-not-is_least_cost.false in
     (c.requires.0, yes_of.0, yes_of.1, c.requires.2)

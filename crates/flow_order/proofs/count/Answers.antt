@@ -29,7 +29,7 @@ returns-then-not-next c =
     let a = c.loop-n in let o = c.next in (
   omega (arith, c.loop-n-test.true),
   λ b d π ti e.
-      item_last (whole b d) a.n a.flow (a.invariant.4 b d π ti e) ti.well_formed c.args.cap _ o.result (not-true _ c.if-not-next.true-raw) (o.ensures.1 (not-true _ c.if-not-next.true-raw)) (o.ensures.2 b d π (free_any (whole b d) π c.args.free.now c.args.flow.now a.flow ti (a.invariant.4 b d π ti e).least)),
+      item_last (whole b d) a.n a.flow (a.invariant.4 b d π ti e) ti.well_formed c.args.cap _ o.result c.if-not-next.true (o.ensures.1 c.if-not-next.true) (o.ensures.2 b d π (free_any (whole b d) π c.args.free.now c.args.flow.now a.flow ti (a.invariant.4 b d π ti e).least)),
 )
 
 pub overflow_add-n : goal.overflow_add-n
@@ -46,7 +46,7 @@ loop-n-preserved c =
   omega (arith, c.loop-n-test.true),
   o.auto.flow ∙ a.invariant.2,
   o.ensures.0,
-  λ b d π ti e. item_next (whole b d) a.n a.flow (a.invariant.4 b d π ti e) ti.well_formed _ o.result (not-false _ c.if-not-next.false-raw) (o.ensures.2 b d π (free_any (whole b d) π c.args.free.now c.args.flow.now a.flow ti (a.invariant.4 b d π ti e).least)),
+  λ b d π ti e. item_next (whole b d) a.n a.flow (a.invariant.4 b d π ti e) ti.well_formed _ o.result c.if-not-next.false (o.ensures.2 b d π (free_any (whole b d) π c.args.free.now c.args.flow.now a.flow ti (a.invariant.4 b d π ti e).least)),
 )
 
 pub shape_of-flow : goal.shape_of-flow

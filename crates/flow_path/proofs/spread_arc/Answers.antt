@@ -9,7 +9,7 @@ use Rattle.flow_path.proofs.spread_arc.Goals as goal
 pub returns-then-not-free-a : goal.returns-then-not-free-a
 returns-then-not-free-a c =
     let net : Net = net_with [] c.args.tails.now c.args.heads.now c.args.lows.now c.args.ups.now [] in
-    arc_shut net c.args.flow.now c.args.free.now c.args.a c.args.rank.now c.args.via.now c.args.count (not-true _ c.if-not-free-a.true-raw)
+    arc_shut net c.args.flow.now c.args.free.now c.args.a c.args.rank.now c.args.via.now c.args.count c.if-not-free-a.true
 
 pub overflow_cast-u : goal.overflow_cast-u
 overflow_cast-u c = omega (arith, c.requires.0.ends.tail_in c.args.a c.requires.4)
@@ -32,4 +32,4 @@ pub returns : goal.returns
 returns c =
     let net : Net = net_with [] c.args.tails.now c.args.heads.now c.args.lows.now c.args.ups.now [] in
     let o = c.spread-n in
-    arc_tried net c.args.flow.now c.args.free.now c.args.a c.args.rank.now c.args.via.now c.args.count o.new.rank o.new.via o.result _ _ _ (not-false _ c.if-not-free-a.false-raw) o.ensures c.spread.ensures
+    arc_tried net c.args.flow.now c.args.free.now c.args.a c.args.rank.now c.args.via.now c.args.count o.new.rank o.new.via o.result _ _ _ c.if-not-free-a.false o.ensures c.spread.ensures

@@ -17,18 +17,18 @@ returns-then-not-within_bounds c =
     let net : Net = net_with c.args.balances.now c.args.tails.now c.args.heads.now c.args.lows.now c.args.ups.now [] in
     let Bounds : Type 0 = WithinBounds c.args.lows.now c.args.ups.now c.args.flow.now in
     let w = c.within_bounds in
-    out_of_bounds net c.args.flow.now c.requires (decided Bounds w.result false w.ensures (not-true w.result c.if-not-within_bounds.true-raw))
+    out_of_bounds net c.args.flow.now c.requires (decided Bounds w.result false w.ensures c.if-not-within_bounds.true)
 
 pub is_balanced-requires : goal.is_balanced-requires
 is_balanced-requires c =
     let net : Net = net_with c.args.balances.now c.args.tails.now c.args.heads.now c.args.lows.now c.args.ups.now [] in
     let Bounds : Type 0 = WithinBounds c.args.lows.now c.args.ups.now c.args.flow.now in
-    let within : InBounds net c.args.flow.now = let w = c.within_bounds in in_bounds net c.args.flow.now c.requires (decided Bounds w.result true w.ensures (not-false w.result c.if-not-within_bounds.false-raw)) in
+    let within : InBounds net c.args.flow.now = let w = c.within_bounds in in_bounds net c.args.flow.now c.requires (decided Bounds w.result true w.ensures c.if-not-within_bounds.false) in
     small_numbers net c.args.flow.now c.requires c.args.flow.now within
 
 pub returns : goal.returns
 returns c =
     let net : Net = net_with c.args.balances.now c.args.tails.now c.args.heads.now c.args.lows.now c.args.ups.now [] in
     let Bounds : Type 0 = WithinBounds c.args.lows.now c.args.ups.now c.args.flow.now in
-    let within : InBounds net c.args.flow.now = let w = c.within_bounds in in_bounds net c.args.flow.now c.requires (decided Bounds w.result true w.ensures (not-false w.result c.if-not-within_bounds.false-raw)) in
+    let within : InBounds net c.args.flow.now = let w = c.within_bounds in in_bounds net c.args.flow.now c.requires (decided Bounds w.result true w.ensures c.if-not-within_bounds.false) in
     if_balanced net c.args.flow.now c.requires within c.is_balanced.result c.is_balanced.ensures

@@ -28,13 +28,13 @@ pub returns-then-not-passes : goal.returns-then-not-passes
 returns-then-not-passes c =
     let asked : c.passes.result ≡ passes c.args.q (pos (c.args.n - 1)) (get_or (rows (ints c.args.arcs.now)) c.loop-a.a no_arc) = c.passes.ensures ∙ ap (passes c.args.q (to_z w32 (c.args.n - 1))) c.arc_at-r.ensures ∙ ap (λ z. passes c.args.q z (get_or (rows (ints c.args.arcs.now)) c.loop-a.a no_arc)) (to_z_pos w32 (omega (arith, c.requires.1))) in
     let xs = c.args.arcs.now in
-    sym (all_fails (passes c.args.q (pos (c.args.n - 1))) (rows (ints xs)) no_arc c.loop-a.a (omega (arith, arcs_of xs)) c.loop-a.invariant.1 (sym asked ∙ not-true c.passes.result c.if-not-passes.true-raw))
+    sym (all_fails (passes c.args.q (pos (c.args.n - 1))) (rows (ints xs)) no_arc c.loop-a.a (omega (arith, arcs_of xs)) c.loop-a.invariant.1 (sym asked ∙ c.if-not-passes.true))
 
 pub loop-a-preserved : goal.loop-a-preserved
 loop-a-preserved c =
     let asked : c.passes.result ≡ passes c.args.q (pos (c.args.n - 1)) (get_or (rows (ints c.args.arcs.now)) c.loop-a.a no_arc) = c.passes.ensures ∙ ap (passes c.args.q (to_z w32 (c.args.n - 1))) c.arc_at-r.ensures ∙ ap (λ z. passes c.args.q z (get_or (rows (ints c.args.arcs.now)) c.loop-a.a no_arc)) (to_z_pos w32 (omega (arith, c.requires.1))) in
     let xs = c.args.arcs.now in
-    (omega arith, all_more (passes c.args.q (pos (c.args.n - 1))) (rows (ints xs)) no_arc c.loop-a.a (omega (arith, arcs_of xs)) c.loop-a.invariant.1 (sym asked ∙ not-false c.passes.result c.if-not-passes.false-raw))
+    (omega arith, all_more (passes c.args.q (pos (c.args.n - 1))) (rows (ints xs)) no_arc c.loop-a.a (omega (arith, arcs_of xs)) c.loop-a.invariant.1 (sym asked ∙ c.if-not-passes.false))
 
 pub returns : goal.returns
 returns c = let xs = c.args.arcs.now in

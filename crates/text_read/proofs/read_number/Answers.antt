@@ -16,7 +16,7 @@ loop-i-init c = digits_none _
 pub returns-then-i-eq7 : goal.returns-then-i-eq7
 returns-then-i-eq7 c =
     let B : ℕ = get_or c.args.rest.now c.loop-i.i 0 in
-    let is_digit : digit B ≡ true = sym c.is_digit.ensures ∙ not-false _ c.if-not-is_digit.false-raw in
+    let is_digit : digit B ≡ true = sym c.is_digit.ensures ∙ c.if-not-is_digit.false in
     number_long c.loop-i.invariant c.loop-i-test.true is_digit c.if-i-eq7.true
 
 pub overflow_mul-value : goal.overflow_mul-value
@@ -27,33 +27,33 @@ overflow_mul-value c =
 pub overflow_sub-value : goal.overflow_sub-value
 overflow_sub-value c =
     let B : ℕ = get_or c.args.rest.now c.loop-i.i 0 in
-    let is_digit : digit B ≡ true = sym c.is_digit.ensures ∙ not-false _ c.if-not-is_digit.false-raw in
+    let is_digit : digit B ≡ true = sym c.is_digit.ensures ∙ c.if-not-is_digit.false in
     (digit_range B is_digit).0
 
 pub overflow_cast-value : goal.overflow_cast-value
 overflow_cast-value c =
     let B : ℕ = get_or c.args.rest.now c.loop-i.i 0 in
-    let is_digit : digit B ≡ true = sym c.is_digit.ensures ∙ not-false _ c.if-not-is_digit.false-raw in
+    let is_digit : digit B ≡ true = sym c.is_digit.ensures ∙ c.if-not-is_digit.false in
     omega (arith, digit_range B is_digit)
 
 pub overflow_add-value : goal.overflow_add-value
 overflow_add-value c =
     let B : ℕ = get_or c.args.rest.now c.loop-i.i 0 in
-    let is_digit : digit B ≡ true = sym c.is_digit.ensures ∙ not-false _ c.if-not-is_digit.false-raw in
+    let is_digit : digit B ≡ true = sym c.is_digit.ensures ∙ c.if-not-is_digit.false in
     let room : (c.loop-i.value < 1000000) = digits_room c.loop-i.invariant c.if-i-eq7.false in
     omega (arith, room, digit_range B is_digit)
 
 pub loop-i-preserved : goal.loop-i-preserved
 loop-i-preserved c =
     let B : ℕ = get_or c.args.rest.now c.loop-i.i 0 in
-    let is_digit : digit B ≡ true = sym c.is_digit.ensures ∙ not-false _ c.if-not-is_digit.false-raw in
+    let is_digit : digit B ≡ true = sym c.is_digit.ensures ∙ c.if-not-is_digit.false in
     digits_more c.loop-i.invariant c.loop-i-test.true is_digit c.if-i-eq7.false
 
 pub returns-then-rest-eq48 : goal.returns-then-rest-eq48
 returns-then-rest-eq48 c =
     let ended : front digit (drop c.loop-i.i c.args.rest.now) ≡ [] = elim c.loop-i-test.branch [
       else-loop-i-test w ↦ front_ends digit _ _ w.loop-i-test.false
-      | then-loop-i-test+then-not-is_digit w ↦ front_stops digit _ _ w.loop-i-test.true (sym w.is_digit.ensures ∙ not-true _ w.if-not-is_digit.true-raw)
+      | then-loop-i-test+then-not-is_digit w ↦ front_stops digit _ _ w.loop-i-test.true (sym w.is_digit.ensures ∙ w.if-not-is_digit.true)
     ] in
     number_zero c.loop-i.invariant ended c.if-i-gt1.true c.if-rest-eq48.true
 
@@ -61,7 +61,7 @@ pub returns-else-rest-eq48 : goal.returns-else-rest-eq48
 returns-else-rest-eq48 c =
     let ended : front digit (drop c.loop-i.i c.args.rest.now) ≡ [] = elim c.loop-i-test.branch [
       else-loop-i-test w ↦ front_ends digit _ _ w.loop-i-test.false
-      | then-loop-i-test+then-not-is_digit w ↦ front_stops digit _ _ w.loop-i-test.true (sym w.is_digit.ensures ∙ not-true _ w.if-not-is_digit.true-raw)
+      | then-loop-i-test+then-not-is_digit w ↦ front_stops digit _ _ w.loop-i-test.true (sym w.is_digit.ensures ∙ w.if-not-is_digit.true)
     ] in
     number_right c.loop-i.invariant ended (λ _. c.if-rest-eq48.false)
 
@@ -69,6 +69,6 @@ pub returns-else-i-gt1 : goal.returns-else-i-gt1
 returns-else-i-gt1 c =
     let ended : front digit (drop c.loop-i.i c.args.rest.now) ≡ [] = elim c.loop-i-test.branch [
       else-loop-i-test w ↦ front_ends digit _ _ w.loop-i-test.false
-      | then-loop-i-test+then-not-is_digit w ↦ front_stops digit _ _ w.loop-i-test.true (sym w.is_digit.ensures ∙ not-true _ w.if-not-is_digit.true-raw)
+      | then-loop-i-test+then-not-is_digit w ↦ front_stops digit _ _ w.loop-i-test.true (sym w.is_digit.ensures ∙ w.if-not-is_digit.true)
     ] in
     number_right c.loop-i.invariant ended (λ h. absurd (omega arith))

@@ -12,16 +12,16 @@ loop-i-init c = (passed_none word_byte _, omega arith)
 
 pub returns-then-i-eq16 : goal.returns-then-i-eq16
 returns-then-i-eq16 c =
-    let in-word : word_byte (get_or c.args.rest.now c.loop-i.i 0) ≡ true = sym c.is_word_byte.ensures ∙ not-false _ c.if-not-is_word_byte.false-raw in
+    let in-word : word_byte (get_or c.args.rest.now c.loop-i.i 0) ≡ true = sym c.is_word_byte.ensures ∙ c.if-not-is_word_byte.false in
     word_long c.loop-i.invariant.0 c.loop-i-test.true in-word c.if-i-eq16.true
 
 pub loop-i-preserved : goal.loop-i-preserved
 loop-i-preserved c =
-    let in-word : word_byte (get_or c.args.rest.now c.loop-i.i 0) ≡ true = sym c.is_word_byte.ensures ∙ not-false _ c.if-not-is_word_byte.false-raw in
+    let in-word : word_byte (get_or c.args.rest.now c.loop-i.i 0) ≡ true = sym c.is_word_byte.ensures ∙ c.if-not-is_word_byte.false in
     (passed_more c.loop-i.invariant.0 c.loop-i-test.true in-word, omega arith)
 
 pub returns-after-loop-i : goal.returns-after-loop-i
 returns-after-loop-i c = word_right c.loop-i.invariant.0 c.loop-i.invariant.1 (front_ends word_byte _ _ c.loop-i-test.false)
 
 pub returns-then-not-is_word_byte : goal.returns-then-not-is_word_byte
-returns-then-not-is_word_byte c = word_right c.loop-i.invariant.0 c.loop-i.invariant.1 (front_stops word_byte _ _ c.loop-i-test.true (sym c.is_word_byte.ensures ∙ not-true _ c.if-not-is_word_byte.true-raw))
+returns-then-not-is_word_byte c = word_right c.loop-i.invariant.0 c.loop-i.invariant.1 (front_stops word_byte _ _ c.loop-i-test.true (sym c.is_word_byte.ensures ∙ c.if-not-is_word_byte.true))

@@ -43,13 +43,13 @@ returns-then-not-first_flow c =
     let flow : List ℕ = c.first_flow.new.flow in
     let free : List Bool = c.first_flow.new.free in
     let f = c.first_flow in
-    step_off c.args.self c.requires.sound _ _ None (λ _. refl) _ (not_found (state_net c.args.self) flow _ free f.result f.ensures (not-true f.result c.if-not-first_flow.true-raw))
+    step_off c.args.self c.requires.sound _ _ None (λ _. refl) _ (not_found (state_net c.args.self) flow _ free f.result f.ensures c.if-not-first_flow.true)
 
 pub slice_bounds-flow-end-2 : goal.slice_bounds-flow-end-2
 slice_bounds-flow-end-2 c =
     let flow : List ℕ = c.first_flow.new.flow in
     let free : List Bool = c.first_flow.new.free in
-    let told : let s = c.args.self in FirstFlow (state_net s) flow (take s.net.arcs s.free) free true = let f = c.first_flow in first_found (state_net c.args.self) flow _ free f.result f.ensures (not-false f.result c.if-not-first_flow.false-raw) in
+    let told : let s = c.args.self in FirstFlow (state_net s) flow (take s.net.arcs s.free) free true = let f = c.first_flow in first_found (state_net c.args.self) flow _ free f.result f.ensures c.if-not-first_flow.false in
     let flow-kept : length flow ≡ c.args.self.net.arcs = told.1.marks.least.flow.all_arcs ∙ sym c.requires.sound.arcs_held in
     let flow-written : let s = c.args.self in (s.net.arcs ≤ length (flow ++ drop s.net.arcs s.flow)) × (take s.net.arcs (flow ++ drop s.net.arcs s.flow) ≡ flow) = let s = c.args.self in part_written flow (drop s.net.arcs s.flow) s.net.arcs flow-kept in
     flow-written.0
@@ -58,7 +58,7 @@ pub slice_bounds-cost_of-end-2 : goal.slice_bounds-cost_of-end-2
 slice_bounds-cost_of-end-2 c =
     let flow : List ℕ = c.first_flow.new.flow in
     let free : List Bool = c.first_flow.new.free in
-    let told : let s = c.args.self in FirstFlow (state_net s) flow (take s.net.arcs s.free) free true = let f = c.first_flow in first_found (state_net c.args.self) flow _ free f.result f.ensures (not-false f.result c.if-not-first_flow.false-raw) in
+    let told : let s = c.args.self in FirstFlow (state_net s) flow (take s.net.arcs s.free) free true = let f = c.first_flow in first_found (state_net c.args.self) flow _ free f.result f.ensures c.if-not-first_flow.false in
     let flow-kept : length flow ≡ c.args.self.net.arcs = told.1.marks.least.flow.all_arcs ∙ sym c.requires.sound.arcs_held in
     let flow-written : let s = c.args.self in (s.net.arcs ≤ length (flow ++ drop s.net.arcs s.flow)) × (take s.net.arcs (flow ++ drop s.net.arcs s.flow) ≡ flow) = let s = c.args.self in part_written flow (drop s.net.arcs s.flow) s.net.arcs flow-kept in
     sym (ap length flow-written.1 ∙ flow-kept)
@@ -67,7 +67,7 @@ pub cost_of-cost-requires : goal.cost_of-cost-requires
 cost_of-cost-requires c =
     let flow : List ℕ = c.first_flow.new.flow in
     let free : List Bool = c.first_flow.new.free in
-    let told : let s = c.args.self in FirstFlow (state_net s) flow (take s.net.arcs s.free) free true = let f = c.first_flow in first_found (state_net c.args.self) flow _ free f.result f.ensures (not-false f.result c.if-not-first_flow.false-raw) in
+    let told : let s = c.args.self in FirstFlow (state_net s) flow (take s.net.arcs s.free) free true = let f = c.first_flow in first_found (state_net c.args.self) flow _ free f.result f.ensures c.if-not-first_flow.false in
     let flow-kept : length flow ≡ c.args.self.net.arcs = told.1.marks.least.flow.all_arcs ∙ sym c.requires.sound.arcs_held in
     let flow-written : let s = c.args.self in (s.net.arcs ≤ length (flow ++ drop s.net.arcs s.flow)) × (take s.net.arcs (flow ++ drop s.net.arcs s.flow) ≡ flow) = let s = c.args.self in part_written flow (drop s.net.arcs s.flow) s.net.arcs flow-kept in
     let N = state_net c.args.self in
@@ -77,7 +77,7 @@ pub returns : goal.returns
 returns c =
     let flow : List ℕ = c.first_flow.new.flow in
     let free : List Bool = c.first_flow.new.free in
-    let told : let s = c.args.self in FirstFlow (state_net s) flow (take s.net.arcs s.free) free true = let f = c.first_flow in first_found (state_net c.args.self) flow _ free f.result f.ensures (not-false f.result c.if-not-first_flow.false-raw) in
+    let told : let s = c.args.self in FirstFlow (state_net s) flow (take s.net.arcs s.free) free true = let f = c.first_flow in first_found (state_net c.args.self) flow _ free f.result f.ensures c.if-not-first_flow.false in
     let flow-kept : length flow ≡ c.args.self.net.arcs = told.1.marks.least.flow.all_arcs ∙ sym c.requires.sound.arcs_held in
     let flow-written : let s = c.args.self in (s.net.arcs ≤ length (flow ++ drop s.net.arcs s.flow)) × (take s.net.arcs (flow ++ drop s.net.arcs s.flow) ≡ flow) = let s = c.args.self in part_written flow (drop s.net.arcs s.flow) s.net.arcs flow-kept in
     let free-written : let s = c.args.self in take s.net.arcs (free ++ drop s.net.arcs s.free) ≡ free = (part_written free (drop c.args.self.net.arcs c.args.self.free) c.args.self.net.arcs (told.1.marks_len ∙ sym c.requires.sound.arcs_held)).1 in

@@ -35,7 +35,7 @@ pub returns-then-not-next : goal.returns-then-not-next
 returns-then-not-next c =
     let item_of : Marked (state_net c.args.self) (take c.args.self.net.arcs c.args.self.free) (state_flow c.args.self) = c.requires.0.marked c.requires.1 in
     let next_of : let s = c.args.self in Next (state_net s) (state_flow s) c.next.new.flow c.next.result = let N = state_net c.args.self in c.next.ensures.2 N.balances N.costs item_of.potential item_of.marks in
-    step_off c.args.self c.requires.0.sound _ _ End (λ _. refl) _ (next_of.end (not-true c.next.result c.if-not-next.true-raw))
+    step_off c.args.self c.requires.0.sound _ _ End (λ _. refl) _ (next_of.end c.if-not-next.true)
 
 pub returns : goal.returns
 returns c =
@@ -43,7 +43,7 @@ returns c =
     let next_of : let s = c.args.self in Next (state_net s) (state_flow s) c.next.new.flow c.next.result = let N = state_net c.args.self in c.next.ensures.2 N.balances N.costs item_of.potential item_of.marks in
     let x = c.args.self in
     let g = c.next.new.flow in
-    let yes = not-false c.next.result c.if-not-next.false-raw in
+    let yes = c.if-not-next.false in
     let least = next_of.least yes in
     step_on x c.requires.0.sound _ _ End _ g _ (next_of.follows yes)
     (part_written g (drop x.net.arcs x.flow) x.net.arcs (least.flow.all_arcs ∙ sym c.requires.0.sound.arcs_held)).1
