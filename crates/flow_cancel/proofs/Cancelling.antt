@@ -16,7 +16,7 @@ use Rattle.laws.specs.Members.{Every}
 use Rattle.laws.specs.Parts.{plus}
 use Rattle.laws.specs.Range.{Bounded, bounded_mul, bounded_more, fits}
 use Rattle.laws.specs.Sum.{sum_within}
-use Rattle.net_model.specs.Network.{Net, arcs, up, cost, on, net_out, cost_of}
+use Rattle.net_model.specs.Network.{Net, arcs, cost, on, net_out, cost_of}
 use Rattle.net_model.specs.Residual.{codes, src, dst, Walk, walk_cost, CodeWalk, usable}
 use Rattle.net_model.proofs.Walks.{walk_below, walk_with}
 use Rattle.net_theory.specs.ResidualCapacity.{has_capacity, residual_capacity}

@@ -1,6 +1,5 @@
 use mathlib.Core.Path.{refl, sym, ap, ◌∙◌}
 use lib.ListN.{length}
-use borrow.Author.Tests.{not-true, not-false}
 use Rattle.laws.specs.Rules.{next}
 use Rattle.laws.specs.Image.{map_option}
 use Rattle.bytes_read.specs.Words.{words}

@@ -2,7 +2,6 @@ use mathlib.Core.Path.{◌≡◌, refl, sym, subst, ◌∙◌}
 use mathlib.Core.Option.{none, some}
 use mir.Syntax.{w64}
 use mir.Facts.{to_z-of_z}
-use borrow.Author.Tests.{not-true, not-false}
 use Rattle.net_model.specs.Network.{cost_of}
 use Rattle.net_model.specs.Struct.{net_in}
 use Rattle.flow_enumerate.specs.Enumerator.{item_of, state_flow}

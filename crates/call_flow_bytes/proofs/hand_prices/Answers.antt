@@ -2,7 +2,6 @@ use mathlib.Core.Path.{◌≡◌, refl, sym, ap, ◌∙◌}
 use mathlib.Core.Option.{none, some}
 use native.Mathlib.Omega.{arith}
 use lib.ListN.{length, take}
-use borrow.Author.Tests.{not-true, not-false}
 use Rattle.bytes_read.specs.Words.{encode_ints, over}
 use Rattle.net_model.specs.Struct.{net_in}
 use Rattle.flow_enumerate.specs.Enumerator.{item_of, state_flow}

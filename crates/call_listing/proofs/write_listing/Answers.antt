@@ -2,7 +2,6 @@ use mathlib.Core.Path.{◌≡◌, sym, ap, ◌∙◌}
 use mathlib.Core.Bool.{true}
 use Prim.Native.Nat.{◌<◌}
 use native.Mathlib.Omega.{arith}
-use borrow.Author.Tests.{not-true, not-false}
 use Rattle.laws.specs.Image.{map_option}
 use Rattle.flow_enumerate.specs.declared.Place.TheVariants.{None}
 use Rattle.flow_enumerate.specs.Enumerator.{state_flow}

@@ -1,7 +1,6 @@
 use mathlib.Core.Path.{◌≡◌, refl, sym, ap, ◌∙◌}
 use mathlib.Core.Bool.{true}
 use lib.ListN.{length}
-use borrow.Author.Tests.{not-true, not-false}
 use Rattle.laws.specs.Rules.{next}
 use Rattle.bytes_read.specs.Words.{words}
 use Rattle.net_model.specs.FullList.{next_flow}

@@ -3,7 +3,6 @@ use mathlib.Core.Bool.{true}
 use lib.ListN.{length}
 use mir.Syntax.{w64}
 use mir.Facts.{to_z-of_z}
-use borrow.Author.Tests.{not-true, not-false}
 use Rattle.bytes_read.specs.Words.{words}
 use Rattle.net_model.specs.Struct.{net_in}
 use Rattle.flow_enumerate.specs.Enumerator.{item_of, state_flow}

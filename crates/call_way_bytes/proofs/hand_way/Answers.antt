@@ -2,7 +2,6 @@ use mathlib.Core.Path.{◌≡◌, sym, ap, ◌∙◌}
 use mathlib.Core.Bool.{true}
 use mir.Syntax.{w64}
 use mir.Facts.{to_z-of_z}
-use borrow.Author.Tests.{not-true, not-false}
 use Rattle.call_reply.specs.Replies.{on_item}
 use Rattle.call_reply.proofs.Places.{is_item}
 use Rattle.call_way_bytes.proofs.HandingWays.{hands_none, hands_way}

@@ -6,7 +6,6 @@ use native.Mathlib.Omega.{arith}
 use native.Mathlib.Numerals.{add-one}
 use lib.ListN.{length, take}
 use lib.IntN.{ℤ}
-use borrow.Author.Tests.{not-true, not-false}
 use Rattle.net_model.specs.Network.{Net, tail, head}
 use Rattle.net_theory.specs.Graph.{net_with}
 use Rattle.net_theory.specs.FreeArcs.{FreeWalk}
@@ -23,13 +22,12 @@ bounds-free-a c = omega (arith, c.requires.1, c.requires.0.searchable.free_len)
 
 pub returns-then-not-free-a : goal.returns-then-not-free-a
 returns-then-not-free-a c =
-    let whole : List ℤ → List ℤ → Net = λ b c1. net_with b c.args.tails.now c.args.heads.now c.args.lows.now c.args.ups.now c1 in
-    (
-  c.requires.0.within,
-  λ b d π ti. low_done (whole b d) π c.args.free.now c.args.flow.now c.args.a c.requires.1 c.args.flow.now
-      (low_start (whole b d) π c.args.free.now c.args.flow.now c.args.a c.requires.1 ti)
-      (not_lowerable_least (whole b d) π c.args.free.now c.args.flow.now ti c.args.a c.requires.1 (inl c.if-not-free-a.true)),
-)
+    let whole : List ℤ → List ℤ → Net = λ b c1. net_with b c.args.tails.now c.args.heads.now c.args.lows.now c.args.ups.now c1 in (
+      c.requires.0.within,
+      λ b d π ti. low_done (whole b d) π c.args.free.now c.args.flow.now c.args.a c.requires.1 c.args.flow.now
+          (low_start (whole b d) π c.args.free.now c.args.flow.now c.args.a c.requires.1 ti)
+          (not_lowerable_least (whole b d) π c.args.free.now c.args.flow.now ti c.args.a c.requires.1 (inl c.if-not-free-a.true)),
+    )
 
 pub bounds-tails-a : goal.bounds-tails-a
 bounds-tails-a c = c.requires.1
@@ -71,10 +69,10 @@ pub returns-then-f-l : goal.returns-then-f-l
 returns-then-f-l c =
     let whole : List ℤ → List ℤ → Net = λ b c1. net_with b c.args.tails.now c.args.heads.now c.args.lows.now c.args.ups.now c1 in
     let a = c.loop-a in (
-  a.invariant.1,
-  λ b d π ti. low_done (whole b d) π c.args.free.now c.args.flow.now c.args.a c.requires.1 a.flow (a.invariant.2 b d π ti)
-      (not_lowerable_least (whole b d) π c.args.free.now a.flow (a.invariant.2 b d π ti).free_still c.args.a c.requires.1 (inr (inl c.if-f-l.true))),
-)
+      a.invariant.1,
+      λ b d π ti. low_done (whole b d) π c.args.free.now c.args.flow.now c.args.a c.requires.1 a.flow (a.invariant.2 b d π ti)
+          (not_lowerable_least (whole b d) π c.args.free.now a.flow (a.invariant.2 b d π ti).free_still c.args.a c.requires.1 (inr (inl c.if-f-l.true))),
+    )
 
 pub overflow_add-a : goal.overflow_add-a
 overflow_add-a c =
@@ -85,11 +83,11 @@ pub find_walk-route-requires : goal.find_walk-route-requires
 find_walk-route-requires c =
     let net : Net = net_with [] c.args.tails.now c.args.heads.now c.args.lows.now c.args.ups.now [] in
     let ends = c.requires.0.searchable.ends in (
-  searchable_again net c.args.flow.now c.loop-a.flow c.args.free.now c.loop-a.invariant.0 c.requires.0.searchable,
-  ends.tail_in c.args.a c.requires.1,
-  ends.head_in c.args.a c.requires.1,
-  refl,
-)
+      searchable_again net c.args.flow.now c.loop-a.flow c.args.free.now c.loop-a.invariant.0 c.requires.0.searchable,
+      ends.tail_in c.args.a c.requires.1,
+      ends.head_in c.args.a c.requires.1,
+      refl,
+    )
 
 pub shape_of-flow-in-Cut : goal.shape_of-flow-in-Cut
 shape_of-flow-in-Cut c = c.loop-a.invariant.0
@@ -98,11 +96,11 @@ pub returns-in-Cut : goal.returns-in-Cut
 returns-in-Cut c =
     let whole : List ℤ → List ℤ → Net = λ b c1. net_with b c.args.tails.now c.args.heads.now c.args.lows.now c.args.ups.now c1 in
     let a = c.loop-a in (
-  a.invariant.1,
-  λ b x π ti. low_done (whole b x) π c.args.free.now c.args.flow.now c.args.a c.requires.1 a.flow (a.invariant.2 b x π ti)
-      (not_lowerable_least (whole b x) π c.args.free.now a.flow (a.invariant.2 b x π ti).free_still c.args.a c.requires.1
-      (inr (inr (rw add-one at (rw c.in-Cut.is at c.find_walk-route.ensures).0)))),
-)
+      a.invariant.1,
+      λ b x π ti. low_done (whole b x) π c.args.free.now c.args.flow.now c.args.a c.requires.1 a.flow (a.invariant.2 b x π ti)
+          (not_lowerable_least (whole b x) π c.args.free.now a.flow (a.invariant.2 b x π ti).free_still c.args.a c.requires.1
+          (inr (inr (rw add-one at (rw c.in-Cut.is at c.find_walk-route.ensures).0)))),
+    )
 
 pub take_off-requires : goal.take_off-requires
 take_off-requires c =
@@ -114,13 +112,13 @@ take_off-requires c =
     let told : (len_of ≤ length lent) × WalkFrom (c.args.a + 1) = let (few, walk, _) = rw c.in-Codes.is at c.find_walk-route.ensures in (few, walk) in
     let walk_of : WalkFrom (suc c.args.a) = rw add-one at told.1 in
     let a = c.loop-a in (
-  told.0,
-  bounds_with net [] [] [] c.requires.0.searchable.bounds,
-  within_with net [] [] [] a.flow a.invariant.1,
-  c.requires.1,
-  c.if-f-l.false,
-  capacity_above_with net [] a.flow c.args.a codes-of (walk_capacity_above net a.flow c.args.free.now (tail net c.args.a) (head net c.args.a) c.args.a codes-of walk_of),
-)
+      told.0,
+      bounds_with net [] [] [] c.requires.0.searchable.bounds,
+      within_with net [] [] [] a.flow a.invariant.1,
+      c.requires.1,
+      c.if-f-l.false,
+      capacity_above_with net [] a.flow c.args.a codes-of (walk_capacity_above net a.flow c.args.free.now (tail net c.args.a) (head net c.args.a) c.args.a codes-of walk_of),
+    )
 
 pub loop-a-smaller : goal.loop-a-smaller
 loop-a-smaller c = c.take_off.ensures.less
@@ -136,10 +134,10 @@ loop-a-preserved c =
     let told : (len_of ≤ length lent) × WalkFrom (c.args.a + 1) = let (few, walk, _) = rw c.in-Codes.is at c.find_walk-route.ensures in (few, walk) in
     let walk_of : WalkFrom (suc c.args.a) = rw add-one at told.1 in
     let o = c.take_off in let a = c.loop-a in (
-  o.auto.flow ∙ a.invariant.0,
-  within_with (net_with [] c.args.tails.now [] c.args.lows.now c.args.ups.now []) [] c.args.heads.now [] _ o.ensures.within,
-  λ b x π ti. let N = whole b x in
-      low_step N π c.args.free.now c.args.flow.now c.args.a c.requires.1 a.flow _ codes-of (a.invariant.2 b x π ti) c.if-not-free-a.false c.if-f-l.false
-      (free_walk_whole N a.flow c.args.free.now (tail N c.args.a) (head N c.args.a) (suc c.args.a) codes-of walk_of)
-      (exact_whole N a.flow _ c.args.a codes-of o.ensures.exact),
-)
+      o.auto.flow ∙ a.invariant.0,
+      within_with (net_with [] c.args.tails.now [] c.args.lows.now c.args.ups.now []) [] c.args.heads.now [] _ o.ensures.within,
+      λ b x π ti. let N = whole b x in
+          low_step N π c.args.free.now c.args.flow.now c.args.a c.requires.1 a.flow _ codes-of (a.invariant.2 b x π ti) c.if-not-free-a.false c.if-f-l.false
+          (free_walk_whole N a.flow c.args.free.now (tail N c.args.a) (head N c.args.a) (suc c.args.a) codes-of walk_of)
+          (exact_whole N a.flow _ c.args.a codes-of o.ensures.exact),
+    )

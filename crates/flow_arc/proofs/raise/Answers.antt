@@ -40,16 +40,15 @@ put_on-requires c =
     let codes-of : List ℕ = take len_of lent in
     let WalkFrom : ℕ → Type 0 = λ from. FreeWalk net c.args.flow.now c.args.free.now (head net c.args.a) (tail net c.args.a) from codes-of in
     let told : (len_of ≤ length lent) × WalkFrom (c.args.a + 1) = let (few, walk, _) = rw c.in-Codes.is at c.find_walk-route.ensures in (few, walk) in
-    let walk_of : WalkFrom (suc c.args.a) = rw add-one at told.1 in
-    (
-  told.0,
-  bounds_with net [] [] [] c.requires.0.searchable.bounds,
-  within_with net [] [] [] c.args.flow.now c.requires.0.within,
-  c.requires.1,
-  c.requires.2.1,
-  capacity_above_with net [] c.args.flow.now c.args.a codes-of
-      (walk_capacity_above net c.args.flow.now c.args.free.now (head net c.args.a) (tail net c.args.a) c.args.a codes-of walk_of),
-)
+    let walk_of : WalkFrom (suc c.args.a) = rw add-one at told.1 in (
+      told.0,
+      bounds_with net [] [] [] c.requires.0.searchable.bounds,
+      within_with net [] [] [] c.args.flow.now c.requires.0.within,
+      c.requires.1,
+      c.requires.2.1,
+      capacity_above_with net [] c.args.flow.now c.args.a codes-of
+          (walk_capacity_above net c.args.flow.now c.args.free.now (head net c.args.a) (tail net c.args.a) c.args.a codes-of walk_of),
+    )
 
 pub returns : goal.returns
 returns c =
@@ -62,8 +61,8 @@ returns c =
     let told : (len_of ≤ length lent) × WalkFrom (c.args.a + 1) = let (few, walk, _) = rw c.in-Codes.is at c.find_walk-route.ensures in (few, walk) in
     let walk_of : WalkFrom (suc c.args.a) = rw add-one at told.1 in
     let o = c.put_on in (
-  within_with (net_with [] c.args.tails.now [] c.args.lows.now c.args.ups.now []) [] c.args.heads.now [] _ o.ensures.within,
-  λ b x π ti. let N = whole b x in
-      raised_one N π c.args.free.now c.args.flow.now c.args.a c.requires.1 ti _ codes-of c.requires.2.0 c.requires.2.1
-      (free_walk_whole N c.args.flow.now c.args.free.now (head N c.args.a) (tail N c.args.a) (suc c.args.a) codes-of walk_of) o.ensures.exact,
-)
+      within_with (net_with [] c.args.tails.now [] c.args.lows.now c.args.ups.now []) [] c.args.heads.now [] _ o.ensures.within,
+      λ b x π ti. let N = whole b x in
+          raised_one N π c.args.free.now c.args.flow.now c.args.a c.requires.1 ti _ codes-of c.requires.2.0 c.requires.2.1
+          (free_walk_whole N c.args.flow.now c.args.free.now (head N c.args.a) (tail N c.args.a) (suc c.args.a) codes-of walk_of) o.ensures.exact,
+    )

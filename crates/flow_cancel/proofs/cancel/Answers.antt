@@ -26,8 +26,7 @@ bottleneck-d-requires c =
     let codes : List ℕ = c.find_cycle-len.new.out in
     let labels : List ℤ = c.find_cycle-len.new.labels in
     let cycle : (c.find_cycle-len.result ≤ 64) × NegativeCycle net c.args.flow.now c.args.need (take c.find_cycle-len.result codes) = cycle_of net c.args.flow.now c.args.need labels _ codes c.find_cycle-len.result c.find_cycle-len.ensures c.if-len-eq0.false in
-    let listed : c.find_cycle-len.result ≤ length codes = omega (arith, cycle.0, c.find_cycle-len.auto.out, length-replicate {A = ℕ} 64 0) in
-    (
+    let listed : c.find_cycle-len.result ≤ length codes = omega (arith, cycle.0, c.find_cycle-len.auto.out, length-replicate {A = ℕ} 64 0) in (
       listed,
       bounds_with net [] [] [] c.requires.0.bounds,
       within_with net [] [] [] c.args.flow.now c.requires.0.within,
@@ -42,8 +41,7 @@ push-requires c =
     let cycle : (c.find_cycle-len.result ≤ 64) × NegativeCycle net c.args.flow.now c.args.need (take c.find_cycle-len.result codes) = cycle_of net c.args.flow.now c.args.need labels _ codes c.find_cycle-len.result c.find_cycle-len.ensures c.if-len-eq0.false in
     let listed : c.find_cycle-len.result ≤ length codes = omega (arith, cycle.0, c.find_cycle-len.auto.out, length-replicate {A = ℕ} 64 0) in
     let cs : List ℕ = take c.find_cycle-len.result codes in
-    let capacity_is : c.bottleneck-d.result ≡ bottleneck net c.args.flow.now 1000000 cs = c.bottleneck-d.ensures ∙ capacity_with (net_with [] c.args.tails.now [] c.args.lows.now c.args.ups.now []) [] c.args.heads.now c.args.costs.now c.args.flow.now 1000000 cs in
-    (
+    let capacity_is : c.bottleneck-d.result ≡ bottleneck net c.args.flow.now 1000000 cs = c.bottleneck-d.ensures ∙ capacity_with (net_with [] c.args.tails.now [] c.args.lows.now c.args.ups.now []) [] c.args.heads.now c.args.costs.now c.args.flow.now 1000000 cs in (
       listed,
       bounds_with net [] [] [] c.requires.0.bounds,
       pushable_with net [] [] [] c.args.flow.now _ _ (able net c.args.flow.now c.requires.0 c.args.need _ cycle.1 _ capacity_is),

@@ -1,11 +1,9 @@
 use mathlib.Core.Path.{◌≡◌, sym, ◌∙◌}
-use mathlib.Core.Bool.{true}
 use mathlib.Core.List.{List, []}
 use Prim.Native.Nat.{ℕ}
 use lib.ListN.{length}
 use lib.IntN.{ℤ}
 use lib.Signed.{◌<ℤ◌}
-use borrow.Author.Tests.{not-true, not-false}
 use Rattle.net_model.specs.Network.{Net, cost_of}
 use Rattle.net_theory.specs.Graph.{net_with}
 use Rattle.flow_relax.specs.Labels.{Relaxable}
@@ -45,7 +43,7 @@ loop-need-smaller c =
     let e = c.if-not-cancel.false in
     -- one cycle less
     let cheaper : Rerouted net c.loop-need.flow flow × (cost_of net flow <ℤ cost_of net c.loop-need.flow) =
-      one_less net c.loop-need.flow flow c.args.need labels c.cancel.result c.cancel.ensures e in
+    one_less net c.loop-need.flow flow c.args.need labels c.cancel.result c.cancel.ensures e in
     let relaxable : Relaxable net flow = relaxable_again net c.loop-need.flow flow c.loop-need.invariant.0 cheaper.0.within in
     falls net c.loop-need.flow flow relaxable cheaper.1
 
@@ -58,6 +56,6 @@ loop-need-preserved c =
     let e = c.if-not-cancel.false in
     -- one cycle less
     let cheaper : Rerouted net c.loop-need.flow flow × (cost_of net flow <ℤ cost_of net c.loop-need.flow) =
-      one_less net c.loop-need.flow flow c.args.need labels c.cancel.result c.cancel.ensures e in
+    one_less net c.loop-need.flow flow c.args.need labels c.cancel.result c.cancel.ensures e in
     let relaxable : Relaxable net flow = relaxable_again net c.loop-need.flow flow c.loop-need.invariant.0 cheaper.0.within in
     (relaxable, further net c.args.flow.now c.loop-need.flow flow c.loop-need.invariant.1 cheaper.0, labels_len)

@@ -2,7 +2,6 @@ use mathlib.Core.Path.{◌∙◌}
 use mathlib.Core.List.{List, []}
 use Prim.Native.Nat.{ℕ}
 use lib.IntN.{ℤ}
-use borrow.Author.Tests.{not-true, not-false}
 use Rattle.net_model.specs.Network.{Net}
 use Rattle.net_theory.specs.Graph.{net_with}
 use Rattle.flow_cancel.specs.Cancelling.{Rerouted}

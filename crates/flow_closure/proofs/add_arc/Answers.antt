@@ -1,7 +1,6 @@
 use mathlib.Core.List.{[]}
 use Prim.Native.Nat.{◌<◌}
 use native.Mathlib.Omega.{arith}
-use borrow.Author.Tests.{not-true, not-false}
 use Rattle.net_model.specs.Network.{Net, tail, head}
 use Rattle.net_theory.specs.Graph.{net_with}
 use Rattle.flow_closure.proofs.Closure.{closure_skip, closure_arc}

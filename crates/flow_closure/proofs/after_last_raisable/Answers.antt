@@ -4,7 +4,6 @@ use mathlib.Core.List.{[]}
 use Prim.Native.Nat.{suc, ◌-◌, ◌<◌}
 use native.Mathlib.Omega.{arith}
 use lib.ListN.{length}
-use borrow.Author.Tests.{not-true}
 use Rattle.net_model.specs.Network.{Net}
 use Rattle.net_theory.specs.Graph.{net_with}
 use Rattle.flow_closure.specs.Closure.{Closure}

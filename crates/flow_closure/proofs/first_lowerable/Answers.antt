@@ -1,10 +1,9 @@
 use mathlib.Core.Path.{refl, sym, subst}
-use mathlib.Core.Logic.{inl, ⊎_elim}
+use mathlib.Core.Logic.{inl}
 use mathlib.Core.List.{[]}
 use Prim.Native.Nat.{ℕ, suc, ◌-◌, ◌<◌}
 use native.Mathlib.Omega.{arith}
 use lib.ListN.{length}
-use borrow.Author.Tests.{not-true}
 use Rattle.net_model.specs.Network.{Net}
 use Rattle.net_theory.specs.Graph.{net_with}
 use Rattle.flow_closure.specs.Closure.{Closure}
@@ -84,10 +83,10 @@ loop-a-preserved c =
       omega (arith, c.loop-a-test.true),
       c.add_arc.ensures,
       elim c.if-closes_cycle.branch [
-        then-closes_cycle w ↦ subst (λ (k : ℕ). FirstLowerable net c.args.flow.now c.args.free.now (l.a - 1) k) (sym w.first-is) (lowerable_first net c.args.flow.now c.args.free.now l.a l.first l.invariant.2
-          (lowerable net _ _ c.requires.0 (l.a - 1) l.rows low _ behind (c.closes_cycle.ensures.closes w.if-closes_cycle.true)))
+        | then-closes_cycle w ↦ subst (λ (k : ℕ). FirstLowerable net c.args.flow.now c.args.free.now (l.a - 1) k) (sym w.first-is) (lowerable_first net c.args.flow.now c.args.free.now l.a l.first l.invariant.2
+            (lowerable net _ _ c.requires.0 (l.a - 1) l.rows low _ behind (c.closes_cycle.ensures.closes w.if-closes_cycle.true)))
         | else-closes_cycle w ↦ subst (λ (k : ℕ). FirstLowerable net c.args.flow.now c.args.free.now (l.a - 1) k) (sym w.first-is) (lowerable_step net c.args.flow.now c.args.free.now l.a l.first some l.invariant.2
-          (not_lowerable net _ _ c.requires.0 (l.a - 1) l.rows low _ behind (c.closes_cycle.ensures.none w.if-closes_cycle.false)))
+            (not_lowerable net _ _ c.requires.0 (l.a - 1) l.rows low _ behind (c.closes_cycle.ensures.none w.if-closes_cycle.false)))
       ],
     )
 

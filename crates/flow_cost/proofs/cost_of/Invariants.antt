@@ -1,8 +1,6 @@
 use mathlib.Core.Path.{◌≡◌}
 use Prim.Native.Nat.{◌-◌, ◌≤◌}
 use lib.ListN.{length}
-use mir.Syntax.{w64}
-use mir.Val.{to_z}
 use Rattle.laws.specs.Sum.{sum}
 use Rattle.flow_cost.specs.Costs.{term}
 use Rattle.flow_cost.proofs.cost_of.Given as goal

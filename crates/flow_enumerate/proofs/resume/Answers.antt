@@ -8,7 +8,6 @@ use lib.ListN.{length, take, drop, replicate}
 use lib.Seq.{length-take-le}
 use mir.Syntax.{w64}
 use mir.Facts.{to_z-of_z}
-use borrow.Author.Tests.{not-true, not-false}
 use Rattle.laws.specs.Padded.{part_written}
 use Rattle.net_model.specs.Struct.{net_in}
 use Rattle.net_theory.proofs.Bounds.{flow_bounds}

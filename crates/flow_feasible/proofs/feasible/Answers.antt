@@ -29,8 +29,7 @@ slice_bounds-from_bounds-end-2 c = sym (length-take-le (length c.args.balances.n
 pub from_bounds-requires : goal.from_bounds-requires
 from_bounds-requires c =
     let net : Net = net_with c.args.balances.now c.args.tails.now c.args.heads.now c.args.lows.now c.args.ups.now [] in
-    let t = c.total in
-    (
+    let t = c.total in (
       c.requires.0,
       c.requires.1,
       all_free net c.requires.0.ends.few,

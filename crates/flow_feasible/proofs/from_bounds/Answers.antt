@@ -4,7 +4,6 @@ use Prim.Native.Nat.{ℕ}
 use native.Mathlib.Omega.{arith}
 use lib.ListN.{length}
 use lib.IntN.{ℤ}
-use borrow.Author.Tests.{not-true, not-false}
 use Rattle.net_model.specs.Network.{Net}
 use Rattle.net_theory.specs.Bounds.{InBounds}
 use Rattle.net_theory.specs.Graph.{net_with, bare}
@@ -43,8 +42,7 @@ returns-then-s-excess c =
 
 pub send-requires : goal.send-requires
 send-requires c =
-    let net : Net = net_with c.args.balances.now c.args.tails.now c.args.heads.now c.args.lows.now c.args.ups.now [] in
-    (
+    let net : Net = net_with c.args.balances.now c.args.tails.now c.args.heads.now c.args.lows.now c.args.ups.now [] in (
       ready_of net c.args.flow.now c.requires.0 c.args.free.now c.requires.2 c.loop-excess.flow c.loop-excess.invariant.0,
       c.if-s-excess.false,
       omega (arith, c.excess_of.ensures.len, c.requires.0.balances.few_nodes),

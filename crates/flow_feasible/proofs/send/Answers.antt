@@ -44,8 +44,7 @@ send_to-requires c =
     let net : Net = net_with [] c.args.tails.now c.args.heads.now c.args.lows.now c.args.ups.now [] in
     let at : ℕ → ℤ = λ v. get_or c.args.excess.now v (pos 0) in
     let excess-is : (v : ℕ) → to_z w64 (of_z w64 (at v)) ≡ at v = λ v. to_z-of_z {w = w64} (bounded_fits w64 3000000000 (at v) (c.requires.4 v) (omega arith)) in
-    let l = c.loop-t in
-    (
+    let l = c.loop-t in (
       subst (λ (f : List ℕ). Ready net f c.args.free.now) (sym l.invariant.1) c.requires.0,
       omega (arith, c.requires.1, c.requires.2),
       omega (arith, c.loop-t-test.true, c.requires.2),
@@ -76,8 +75,7 @@ loop-t-preserved c =
     let net : Net = net_with [] c.args.tails.now c.args.heads.now c.args.lows.now c.args.ups.now [] in
     let at : ℕ → ℤ = λ v. get_or c.args.excess.now v (pos 0) in
     let excess-is : (v : ℕ) → to_z w64 (of_z w64 (at v)) ≡ at v = λ v. to_z-of_z {w = w64} (bounded_fits w64 3000000000 (at v) (c.requires.4 v) (omega arith)) in
-    let told : SendsTo net c.args.flow.now c.send_to.new.flow c.args.free.now c.args.s c.loop-t.t c.capped-most.result (to_z w64 (of_z w64 (at c.loop-t.t))) c.send_to.result = subst (λ (f : List ℕ). SendsTo net f c.send_to.new.flow c.args.free.now c.args.s c.loop-t.t c.capped-most.result (to_z w64 (of_z w64 (at c.loop-t.t))) c.send_to.result) c.loop-t.invariant.1 c.send_to.ensures in
-    (
+    let told : SendsTo net c.args.flow.now c.send_to.new.flow c.args.free.now c.args.s c.loop-t.t c.capped-most.result (to_z w64 (of_z w64 (at c.loop-t.t))) c.send_to.result = subst (λ (f : List ℕ). SendsTo net f c.send_to.new.flow c.args.free.now c.args.s c.loop-t.t c.capped-most.result (to_z w64 (of_z w64 (at c.loop-t.t))) c.send_to.result) c.loop-t.invariant.1 c.send_to.ensures in (
       omega (arith, c.loop-t-test.true),
       c.send_to.ensures.same c.if-send_to.false ∙ c.loop-t.invariant.1,
       cut_step net c.args.flow.now _ c.args.free.now c.args.excess.now c.args.s c.loop-t.t c.capped-most.result _ c.send_to.result (excess-is c.loop-t.t) c.if-send_to.false told c.loop-t.invariant.2,

@@ -60,8 +60,7 @@ push-requires c =
     let lent : List ℕ = c.find_walk-route.new.codes in
     let codes-of : List ℕ = take len_of lent in
     let told : (len_of ≤ length lent) × FreeWalk net c.args.flow.now c.args.free.now c.args.s c.args.t 0 codes-of = let (few, walk, _) = subst (FindsWalk net c.args.flow.now c.args.free.now c.args.s c.args.t 0 (replicate 64 0) lent) c.in-Codes.is c.find_walk-route.ensures in (few, walk) in
-    let r = c.bottleneck-d in
-    (
+    let r = c.bottleneck-d in (
       told.0,
       bounds_with net [] [] [] c.requires.0.searchable.bounds,
       able_here net c.args.flow.now c.args.free.now c.args.s c.args.t c.args.most c.requires.0.within codes-of told.1 c.lesser-cap.result r.result r.ensures,

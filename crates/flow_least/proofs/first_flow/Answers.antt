@@ -5,7 +5,6 @@ use Prim.Native.Nat.{ℕ}
 use native.Mathlib.Omega.{arith}
 use lib.ListN.{length, get_or, length-replicate}
 use lib.IntN.{ℤ, pos}
-use borrow.Author.Tests.{not-true, not-false}
 use Rattle.net_model.specs.Network.{Net, arcs, IsFlow, LeastCost}
 use Rattle.net_theory.specs.Graph.{net_with, bare}
 use Rattle.net_theory.specs.Ready.{Ready}

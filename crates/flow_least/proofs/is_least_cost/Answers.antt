@@ -3,7 +3,6 @@ use mathlib.Core.List.{[]}
 use Prim.Native.Nat.{ℕ}
 use native.Mathlib.Omega.{arith}
 use lib.ListN.{length-replicate}
-use borrow.Author.Tests.{not-true, not-false}
 use Rattle.net_model.specs.Network.{Net, IsFlow}
 use Rattle.net_theory.specs.Graph.{net_with, costed}
 use Rattle.net_theory.proofs.Bounds.{flow_bounds}

@@ -2,7 +2,6 @@ use mathlib.Core.Path.{refl, sym}
 use mathlib.Core.List.{List}
 use lib.IntN.{ℤ, pos}
 use lib.ListN.{length-replicate}
-use borrow.Author.Tests.{not-true, not-false}
 use Rattle.net_model.specs.Network.{Net, LeastCost}
 use Rattle.flow_negative_cycle.specs.Search.{PotentialLabels}
 use Rattle.net_theory.specs.Graph.{net_with}

@@ -1,6 +1,6 @@
 use mathlib.Core.Path.{◌≡◌, refl, sym, subst, ◌∙◌}
 use mathlib.Core.List.{List, []}
-use Prim.Native.Nat.{ℕ, ◌+◌, ◌<◌}
+use Prim.Native.Nat.{ℕ, ◌<◌}
 use native.Mathlib.Omega.{arith}
 use lib.ListN.{get_or-replicate}
 use lib.IntN.{ℤ}
@@ -11,7 +11,7 @@ use Rattle.net_theory.proofs.Graph.{ends_with}
 use Rattle.flow_relax.proofs.Rounds.{sized_more}
 use Rattle.flow_negative_cycle.specs.Predecessors.{Returns, GoesBack, Labelled}
 use Rattle.flow_negative_cycle.specs.Search.{FindsCycle}
-use Rattle.flow_negative_cycle.proofs.Searching.{Searching, finds_none, searching_start, labelled', unchanged_of, fell, returns_of, searching_more, finds_cycle}
+use Rattle.flow_negative_cycle.proofs.Searching.{finds_none, searching_start, labelled', unchanged_of, fell, returns_of, searching_more, finds_cycle}
 use Rattle.flow_negative_cycle.proofs.OtherLists.{returns_with, goes_back_with, collects_with}
 use Rattle.flow_negative_cycle.proofs.find_cycle.Goals as goal
 use Rattle.flow_negative_cycle.proofs.find_cycle.Goals.{then-last-eq64, else-last-eq64+then-x-ne64}
@@ -59,7 +59,7 @@ rounds-preserved c =
     let labels : List ℤ = c.round-last.new.labels in
     let preds : List ℕ = c.round-last.new.preds in
     let back_whole : (x : ℕ) → GoesBack ends preds c.round-last.result x → GoesBack net preds c.round-last.result x =
-      λ x w. goes_back_with ends [] c.args.lows.now c.args.ups.now c.args.costs.now preds c.round-last.result x w in
+    λ x w. goes_back_with ends [] c.args.lows.now c.args.ups.now c.args.costs.now preds c.round-last.result x w in
     searching_more net c.args.flow.now c.requires.0 c.args.need c.rounds.labels c.rounds.preds c.rounds.k c.rounds.invariant labels preds c.round-last.result c.round-last.ensures c.go_back-x.result c.if-last-eq64.false (back_whole _ c.go_back-x.ensures) c.if-x-ne64.false
 
 pub shape_of-labels-then-node-eq64 : goal.shape_of-labels-then-node-eq64
@@ -77,7 +77,7 @@ returns-then-node-eq64 c =
     let preds : List ℕ = c.round-last.new.preds in
     let unchanged-here : c.round-last.result ≡ 64 → FindsCycle net c.args.flow.now c.args.need labels c.args.out.now c.args.out.now 0 = λ e. finds_none net c.args.flow.now c.args.need labels c.args.out.now (unchanged_of net c.args.flow.now c.requires.0 c.args.need c.rounds.labels c.rounds.preds c.rounds.k c.rounds.invariant labels preds c.round-last.result c.round-last.ensures e) in
     let out-unchanged : c.if-last-eq64.node ≡ 64 → FindsCycle net c.args.flow.now c.args.need labels c.args.out.now c.args.out.now 0 = λ e. elim c.if-last-eq64.branch [
-      then-last-eq64 w ↦ unchanged-here w.if-last-eq64.true
+      | then-last-eq64 w ↦ unchanged-here w.if-last-eq64.true
       | else-last-eq64+then-x-ne64 w ↦ absurd (w.if-x-ne64.true (sym w.node-is ∙ e))
     ] in
     out-unchanged c.if-node-eq64.true
@@ -99,12 +99,12 @@ collect-requires c =
     let ends : Net = net_with [] c.args.tails.now c.args.heads.now [] [] [] in
     let small_ends : SmallEnds ends = ends_with net [] [] [] [] c.requires.0.ends in
     let back_whole : (x : ℕ) → GoesBack ends preds c.round-last.result x → GoesBack net preds c.round-last.result x =
-      λ x w. goes_back_with ends [] c.args.lows.now c.args.ups.now c.args.costs.now preds c.round-last.result x w in
+    λ x w. goes_back_with ends [] c.args.lows.now c.args.ups.now c.args.costs.now preds c.round-last.result x w in
     let returning : (x : ℕ) → ¬ (c.round-last.result ≡ 64) → GoesBack ends preds c.round-last.result x → ¬ (x ≡ 64) → Returns ends preds x =
-      λ x n w m. returns_with net [] [] [] [] preds x
-        (returns_of net c.args.flow.now c.requires.0 c.args.need c.rounds.labels c.rounds.preds c.rounds.k c.rounds.invariant labels preds c.round-last.result c.round-last.ensures x n (back_whole x w) m) in
+    λ x n w m. returns_with net [] [] [] [] preds x
+    (returns_of net c.args.flow.now c.requires.0 c.args.need c.rounds.labels c.rounds.preds c.rounds.k c.rounds.invariant labels preds c.round-last.result c.round-last.ensures x n (back_whole x w) m) in
     let out-cycle : ¬ (c.if-last-eq64.node ≡ 64) → Returns ends preds c.if-last-eq64.node = λ n. elim c.if-last-eq64.branch [
-      then-last-eq64 w ↦ absurd (n w.node-is)
+      | then-last-eq64 w ↦ absurd (n w.node-is)
       | else-last-eq64+then-x-ne64 w ↦ subst (Returns ends preds) (sym w.node-is) (returning w.go_back-x.result w.if-last-eq64.false w.go_back-x.ensures w.if-x-ne64.true)
     ] in
     (small_ends, labelled.preds_len, c.requires.4, out-cycle c.if-node-eq64.false)

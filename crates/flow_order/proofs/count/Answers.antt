@@ -2,7 +2,6 @@ use mathlib.Core.Path.{refl, ◌∙◌}
 use mathlib.Core.List.{List, []}
 use native.Mathlib.Omega.{arith}
 use lib.IntN.{ℤ}
-use borrow.Author.Tests.{not-true, not-false}
 use Rattle.net_model.specs.Network.{Net}
 use Rattle.net_theory.specs.Graph.{net_with}
 use Rattle.net_theory.proofs.Ready.{ready_again}
@@ -27,10 +26,10 @@ pub returns-then-not-next : goal.returns-then-not-next
 returns-then-not-next c =
     let whole : List ℤ → List ℤ → Net = λ b c1. net_with b c.args.tails.now c.args.heads.now c.args.lows.now c.args.ups.now c1 in
     let a = c.loop-n in let o = c.next in (
-  omega (arith, c.loop-n-test.true),
-  λ b d π ti e.
-      item_last (whole b d) a.n a.flow (a.invariant.4 b d π ti e) ti.well_formed c.args.cap _ o.result c.if-not-next.true (o.ensures.1 c.if-not-next.true) (o.ensures.2 b d π (free_any (whole b d) π c.args.free.now c.args.flow.now a.flow ti (a.invariant.4 b d π ti e).least)),
-)
+      omega (arith, c.loop-n-test.true),
+      λ b d π ti e.
+          item_last (whole b d) a.n a.flow (a.invariant.4 b d π ti e) ti.well_formed c.args.cap _ o.result c.if-not-next.true (o.ensures.1 c.if-not-next.true) (o.ensures.2 b d π (free_any (whole b d) π c.args.free.now c.args.flow.now a.flow ti (a.invariant.4 b d π ti e).least)),
+    )
 
 pub overflow_add-n : goal.overflow_add-n
 overflow_add-n c = omega (arith, c.loop-n-test.true, c.ranges.cap)
@@ -42,12 +41,12 @@ pub loop-n-preserved : goal.loop-n-preserved
 loop-n-preserved c =
     let whole : List ℤ → List ℤ → Net = λ b c1. net_with b c.args.tails.now c.args.heads.now c.args.lows.now c.args.ups.now c1 in
     let a = c.loop-n in let o = c.next in (
-  omega arith,
-  omega (arith, c.loop-n-test.true),
-  o.auto.flow ∙ a.invariant.2,
-  o.ensures.0,
-  λ b d π ti e. item_next (whole b d) a.n a.flow (a.invariant.4 b d π ti e) ti.well_formed _ o.result c.if-not-next.false (o.ensures.2 b d π (free_any (whole b d) π c.args.free.now c.args.flow.now a.flow ti (a.invariant.4 b d π ti e).least)),
-)
+      omega arith,
+      omega (arith, c.loop-n-test.true),
+      o.auto.flow ∙ a.invariant.2,
+      o.ensures.0,
+      λ b d π ti e. item_next (whole b d) a.n a.flow (a.invariant.4 b d π ti e) ti.well_formed _ o.result c.if-not-next.false (o.ensures.2 b d π (free_any (whole b d) π c.args.free.now c.args.flow.now a.flow ti (a.invariant.4 b d π ti e).least)),
+    )
 
 pub shape_of-flow : goal.shape_of-flow
 shape_of-flow c = c.loop-n.invariant.2

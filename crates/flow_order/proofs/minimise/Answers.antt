@@ -40,15 +40,15 @@ pub loop-a-preserved : goal.loop-a-preserved
 loop-a-preserved c =
     let whole : List ℤ → List ℤ → Net = λ b c1. net_with b c.args.tails.now c.args.heads.now c.args.lows.now c.args.ups.now c1 in
     let a = c.loop-a in let o = c.lower in let w = c.first_lowerable-a-in-loop-a.ensures.none in (
-  omega (arith, a.invariant.0, w.after),
-  o.auto.flow ∙ a.invariant.1,
-  o.ensures.0,
-  λ b d π ti.
-      let x = free_any (whole b d) π c.args.free.now c.args.flow.now a.flow ti (a.invariant.3 b d π ti).least in
-      let y = o.ensures.1 b d π x in
-      min_pass (whole b d) π c.args.free.now _ (free_any (whole b d) π c.args.free.now a.flow _ x y.least) c.args.flow.now c.args.k (a.a + 1) c.first_lowerable-a-in-loop-a.result w
-      (rw add-one (min_step (whole b d) c.args.flow.now a.flow _ c.args.k a.a a.invariant.0 (a.invariant.3 b d π ti) y)),
-)
+      omega (arith, a.invariant.0, w.after),
+      o.auto.flow ∙ a.invariant.1,
+      o.ensures.0,
+      λ b d π ti.
+          let x = free_any (whole b d) π c.args.free.now c.args.flow.now a.flow ti (a.invariant.3 b d π ti).least in
+          let y = o.ensures.1 b d π x in
+          min_pass (whole b d) π c.args.free.now _ (free_any (whole b d) π c.args.free.now a.flow _ x y.least) c.args.flow.now c.args.k (a.a + 1) c.first_lowerable-a-in-loop-a.result w
+          (rw add-one (min_step (whole b d) c.args.flow.now a.flow _ c.args.k a.a a.invariant.0 (a.invariant.3 b d π ti) y)),
+    )
 
 pub shape_of-flow : goal.shape_of-flow
 shape_of-flow c = c.loop-a.invariant.1

@@ -45,8 +45,7 @@ returns c =
     let whole : List ℤ → List ℤ → Net = λ b c1. net_with b c.args.tails.now c.args.heads.now c.args.lows.now c.args.ups.now c1 in
     let some : 0 < c.after_last_raisable-k.result = omega (arith, c.if-k-eq0.false) in
     let m = c.minimise in
-    let o = c.after_last_raisable-k in
-    (
+    let o = c.after_last_raisable-k in (
       m.ensures.0,
       (λ e. absurd (let z : ◌≡◌ {A = ℕ} 0 1 = cc in omega arith)),
       λ b d π ti. next_yes (whole b d) π c.args.free.now c.args.flow.now ti c.raise.new.flow _ o.result some o.ensures.none.in_range

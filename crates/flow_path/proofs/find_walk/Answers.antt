@@ -22,16 +22,15 @@ pub trace-len-requires : goal.trace-len-requires
 trace-len-requires c =
     let net : Net = net_with [] c.args.tails.now c.args.heads.now c.args.lows.now c.args.ups.now [] in
     let rank-of : List ℕ = c.reach-count.new.rank in
-    let via-of : List ℕ = c.reach-count.new.via in
-    (
-  record {
-    heads_len = c.requires.0.ends.heads_len;
-    falls = reach_falls net c.args.flow.now c.args.free.now c.args.s c.args.t c.args.from rank-of via-of c.reach-count.result c.reach-count.ensures c.requires.0.ends;
-    node = c.requires.2;
-    reached = omega (arith, c.if-rank-t-eq0.false);
-  },
-  c.requires.3,
-)
+    let via-of : List ℕ = c.reach-count.new.via in (
+      record {
+        heads_len = c.requires.0.ends.heads_len;
+        falls = reach_falls net c.args.flow.now c.args.free.now c.args.s c.args.t c.args.from rank-of via-of c.reach-count.result c.reach-count.ensures c.requires.0.ends;
+        node = c.requires.2;
+        reached = omega (arith, c.if-rank-t-eq0.false);
+      },
+      c.requires.3,
+    )
 
 pub returns : goal.returns
 returns c =

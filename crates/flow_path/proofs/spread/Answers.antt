@@ -1,4 +1,3 @@
-use borrow.Author.Tests.{not-true, not-false}
 use Rattle.flow_path.proofs.Reaching.{spread_shut, spread_unreached, spread_old, spread_new}
 use Rattle.flow_path.proofs.spread.Goals as goal
 

@@ -1,6 +1,5 @@
 use mathlib.Core.List.{[]}
 use native.Mathlib.Omega.{arith}
-use borrow.Author.Tests.{not-true, not-false}
 use Rattle.net_model.specs.Network.{Net}
 use Rattle.net_theory.specs.Graph.{net_with}
 use Rattle.flow_path.proofs.Reaching.{spread_few, arc_shut, arc_tried}

@@ -26,14 +26,14 @@ pub loop-p-init : goal.loop-p-init
 loop-p-init c =
     let net : Net = net_with [] c.args.tails.now c.args.heads.now [] [] [] in
     record {
-  node = c.requires.0.node;
-  reached = c.requires.0.reached;
-  rank_is = refl;
-  same_len = refl;
-  far = omega arith;
-  traced = any_start 64 (codes net) (src net) (dst net) c.args.rank.now c.args.via.now c.args.t;
-  rest = refl;
-}
+      node = c.requires.0.node;
+      reached = c.requires.0.reached;
+      rank_is = refl;
+      same_len = refl;
+      far = omega arith;
+      traced = any_start 64 (codes net) (src net) (dst net) c.args.rank.now c.args.via.now c.args.t;
+      rest = refl;
+    }
 
 pub offset_bounds-via-v : goal.offset_bounds-via-v
 offset_bounds-via-v c =
@@ -145,7 +145,7 @@ returns c =
     let net : Net = net_with [] c.args.tails.now c.args.heads.now [] [] [] in
     let falls : Falls 64 (codes net) (src net) c.args.rank.now c.args.via.now = c.requires.0.falls in
     let T = c.loop-p.invariant in record {
-  fits = omega (arith, T.far, T.same_len, c.requires.1, falls.small c.args.t c.requires.0.node);
-  traced = any_done 64 (codes net) (src net) (dst net) c.args.rank.now c.args.via.now c.args.t c.loop-p.v _ T.node (omega (arith, T.reached, T.rank_is)) (omega (arith, c.loop-p-test.false, T.rank_is)) T.traced;
-  rest = T.rest;
-}
+      fits = omega (arith, T.far, T.same_len, c.requires.1, falls.small c.args.t c.requires.0.node);
+      traced = any_done 64 (codes net) (src net) (dst net) c.args.rank.now c.args.via.now c.args.t c.loop-p.v _ T.node (omega (arith, T.reached, T.rank_is)) (omega (arith, c.loop-p-test.false, T.rank_is)) T.traced;
+      rest = T.rest;
+    }

@@ -1,7 +1,6 @@
 use mathlib.Core.Path.{◌≡◌, sym, ◌∙◌}
 use Prim.Native.Nat.{ℕ}
 use native.Mathlib.Omega.{arith}
-use borrow.Author.Tests.{not-true, not-false}
 use Rattle.flow_preorder.proofs.Preorder.{stepped_all, stepped_one, stepped, same_rows}
 use Rattle.flow_preorder.proofs.add.Goals as goal
 

@@ -40,10 +40,10 @@ loop-i-preserved c =
     let net : Net = net_with [] c.args.tails.now [] c.args.lows.now c.args.ups.now [] in
     let left : ℕ → List ℕ = λ i. drop i (take c.args.len c.args.codes.now) in
     let i = c.loop-i.i in (
-  omega (arith, c.loop-i-test.true),
-  rw add-one (capacity_step net c.args.flow.now _ c.loop-i.least (left i) (get_or c.args.codes.now i 0) (left (suc i))
-      (rest_cons c.args.codes.now c.args.len c.requires.0 i c.loop-i-test.true) c.loop-i.invariant.1 _ _ c.lesser-least.ensures c.residual_capacity-r.ensures),
-)
+      omega (arith, c.loop-i-test.true),
+      rw add-one (capacity_step net c.args.flow.now _ c.loop-i.least (left i) (get_or c.args.codes.now i 0) (left (suc i))
+          (rest_cons c.args.codes.now c.args.len c.requires.0 i c.loop-i-test.true) c.loop-i.invariant.1 _ _ c.lesser-least.ensures c.residual_capacity-r.ensures),
+    )
 
 pub returns : goal.returns
 returns c =

@@ -36,11 +36,11 @@ loop-i-preserved c =
     let net : Net = net_with [] c.args.tails.now [] c.args.lows.now c.args.ups.now [] in
     let left : ℕ → List ℕ = λ i. drop i (take c.args.len c.args.codes.now) in
     let i = c.loop-i.i in (
-  omega (arith, c.loop-i-test.true),
-  c.push_one.auto.flow ∙ c.loop-i.invariant.1,
-  rw add-one (push_step net c.args.d _ c.loop-i.flow (left i) (get_or c.args.codes.now i 0) (left (suc i))
-      (rest_cons c.args.codes.now c.args.len c.requires.0 i c.loop-i-test.true) c.loop-i.invariant.2 _ c.push_one.ensures),
-)
+      omega (arith, c.loop-i-test.true),
+      c.push_one.auto.flow ∙ c.loop-i.invariant.1,
+      rw add-one (push_step net c.args.d _ c.loop-i.flow (left i) (get_or c.args.codes.now i 0) (left (suc i))
+          (rest_cons c.args.codes.now c.args.len c.requires.0 i c.loop-i-test.true) c.loop-i.invariant.2 _ c.push_one.ensures),
+    )
 
 pub shape_of-flow : goal.shape_of-flow
 shape_of-flow c = c.loop-i.invariant.1

@@ -3,7 +3,6 @@ use mathlib.Core.Bool.{true}
 use lib.ListN.{get_or}
 use lib.IntN.{pos}
 use mir.Syntax.{w64}
-use borrow.Author.Tests.{not-true, not-false}
 use Rattle.flow_relax.proofs.Sums.{sum_fits}
 use Rattle.flow_relax.proofs.Tried.{not_on, better_offer, no_better_offer}
 use Rattle.flow_relax.proofs.relax.Goals as goal

@@ -1,10 +1,10 @@
 use mathlib.Core.Path.{◌≡◌, refl, sym, ap, subst, ◌∙◌}
 use mathlib.Core.Bool.{◌&&◌}
 use mathlib.Core.List.{[]}
-use Prim.Native.Nat.{ℕ, ◌+◌, ◌<◌}
+use Prim.Native.Nat.{◌+◌}
 use native.Mathlib.Omega.{arith}
 use lib.Dec.{leb}
-use lib.ListN.{length, get_or}
+use lib.ListN.{get_or}
 use lib.IntN.{ℤ, pos, neg_ℤ, ◌+ℤ◌, ◌-ℤ◌}
 use lib.Signed.{lt_z}
 use mir.Syntax.{w32, w64}
@@ -44,8 +44,7 @@ relax-next-requires c =
     let limits : ArcLimits net c.args.flow.now c.args.a = arc_limits net c.args.flow.now c.requires.0 c.args.a c.requires.2 in
     let cost_read : to_z w64 (of_z w64 c.to_i64-c.result) ≡ get_or c.args.costs.now c.args.a (pos 0) = to_z-of_z {w = w64} (record { sfits = c.to_i64-c.type_inv }) ∙ c.to_i64-c.ensures ∙ to_z-of_z {w = w32} (record { sfits = c.to_i64-arg-1.given }) in
     let tail_in = limits.tail_in in
-    let head_in = limits.head_in in
-    (
+    let head_in = limits.head_in in (
       omega (arith, c.requires.1.labels_len),
       omega (arith, c.requires.1.labels_len),
       omega (arith, c.requires.1.preds_len),
@@ -74,13 +73,12 @@ relax-requires c =
     let minus_is : minus_read ≡ neg_ℤ (get_or c.args.costs.now c.args.a (pos 0)) = negative_is w64 1000000 (omega arith) c.to_i64-c.result _ cost_read limits.cost_small in
     let begun : State = state c.args.labels.now c.args.preds.now c.args.last in
     let forth : state c.relax-next.new.labels c.relax-next.new.preds c.relax-next.result ≡ relaxed net c.args.flow.now c.args.need (c.args.a + c.args.a) begun =
-      c.relax-next.ensures ∙ forward net c.args.flow.now c.args.need c.args.a begun _ _ refl cost_read in
+    c.relax-next.ensures ∙ forward net c.args.flow.now c.args.need c.args.a begun _ _ refl cost_read in
     let sized : Sized 65537000000 c.relax-next.new.labels c.relax-next.new.preds =
-      subst (λ (S : State). Sized 65537000000 S.labels S.preds) (sym forth)
-      (one_sized net c.args.flow.now c.requires.0 c.args.need 65536000000 begun (c.args.a + c.args.a) (omega (arith, c.requires.2)) c.requires.1) in
+    subst (λ (S : State). Sized 65537000000 S.labels S.preds) (sym forth)
+    (one_sized net c.args.flow.now c.requires.0 c.args.need 65536000000 begun (c.args.a + c.args.a) (omega (arith, c.requires.2)) c.requires.1) in
     let tail_in = limits.tail_in in
-    let head_in = limits.head_in in
-    (
+    let head_in = limits.head_in in (
       omega (arith, sized.labels_len),
       omega (arith, sized.labels_len),
       omega (arith, sized.preds_len),
@@ -96,7 +94,7 @@ returns c =
     let minus_is : minus_read ≡ neg_ℤ (get_or c.args.costs.now c.args.a (pos 0)) = negative_is w64 1000000 (omega arith) c.to_i64-c.result _ cost_read limits.cost_small in
     let begun : State = state c.args.labels.now c.args.preds.now c.args.last in
     let forth : state c.relax-next.new.labels c.relax-next.new.preds c.relax-next.result ≡ relaxed net c.args.flow.now c.args.need (c.args.a + c.args.a) begun =
-      c.relax-next.ensures ∙ forward net c.args.flow.now c.args.need c.args.a begun _ _ refl cost_read in
+    c.relax-next.ensures ∙ forward net c.args.flow.now c.args.need c.args.a begun _ _ refl cost_read in
     let s = c.args in
     let t = get_or s.tails.now s.a 0 in
     let h = get_or s.heads.now s.a 0 in

@@ -69,8 +69,7 @@ loop-a-preserved c =
     let net : Net = net_with c.args.balances.now c.args.tails.now c.args.heads.now [] [] [] in
     let minus_is : to_z w64 (of_z w64 c.negative.result) ≡ neg_ℤ (on c.args.flow.now c.loop-a.a) = to_z-of_z {w = w64} (record { sfits = c.negative.type_inv }) ∙ c.negative.ensures in
     let plus-is : to_z w64 (of_z w64 c.signed.result) ≡ on c.args.flow.now c.loop-a.a = to_z-of_z {w = w64} (record { sfits = c.signed.type_inv }) ∙ c.signed.ensures in
-    let l = c.loop-a in
-    (
+    let l = c.loop-a in (
       omega (arith, c.loop-a-test.true),
       rw add-one (both_done net c.args.flow.now c.requires.0 l.a c.loop-a-test.true l.excess l.invariant.1 _ minus_is c.add_at.new.excess c.add_at.ensures _ plus-is _ c.add_at-in-loop-a.ensures),
     )

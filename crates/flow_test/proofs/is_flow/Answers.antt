@@ -1,7 +1,6 @@
 use mathlib.Core.Path.{sym, ◌∙◌}
 use mathlib.Core.Bool.{true, false}
 use mathlib.Core.List.{[]}
-use borrow.Author.Tests.{not-true, not-false}
 use Rattle.net_model.specs.Network.{Net}
 use Rattle.net_theory.specs.Bounds.{InBounds}
 use Rattle.net_theory.specs.Graph.{net_with}

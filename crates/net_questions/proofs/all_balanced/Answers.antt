@@ -4,7 +4,6 @@ use lib.ListN.{get_or}
 use lib.IntN.{pos}
 use mir.Syntax.{w32}
 use mir.Facts.{to_z-of_z}
-use borrow.Author.Tests.{not-true, not-false}
 use Rattle.laws.specs.Tests.{all_more, all_fails, all_done}
 use Rattle.bytes_read.specs.Words.{ints}
 use Rattle.bytes_read.proofs.Words.{length_ints}

@@ -6,7 +6,6 @@ use lib.IntN.{pos}
 use mir.Syntax.{w32}
 use mir.Val.{to_z}
 use mir.Facts.{to_z_pos}
-use borrow.Author.Tests.{not-true, not-false}
 use Rattle.laws.specs.Tests.{all_more, all_fails, all_done}
 use Rattle.bytes_read.specs.Words.{ints}
 use Rattle.net_model.specs.Input.{rows}

@@ -3,7 +3,6 @@ use mathlib.Core.Path.{◌≡◌, sym, ◌∙◌}
 use mathlib.Core.Bool.{true}
 use mathlib.Core.List.{[]}
 use native.Mathlib.Omega.{arith}
-use borrow.Author.Tests.{not-true, not-false}
 use lib.ListN.{drop, get_or}
 use Rattle.text_read.specs.Reader.{digit, front}
 use Rattle.text_read.proofs.Runs.{digits_none, digits_more, digits_room, digit_range, number_long, number_zero, number_right, front_ends, front_stops}
@@ -52,7 +51,7 @@ loop-i-preserved c =
 pub returns-then-rest-eq48 : goal.returns-then-rest-eq48
 returns-then-rest-eq48 c =
     let ended : front digit (drop c.loop-i.i c.args.rest.now) ≡ [] = elim c.loop-i-test.branch [
-      else-loop-i-test w ↦ front_ends digit _ _ w.loop-i-test.false
+      | else-loop-i-test w ↦ front_ends digit _ _ w.loop-i-test.false
       | then-loop-i-test+then-not-is_digit w ↦ front_stops digit _ _ w.loop-i-test.true (sym w.is_digit.ensures ∙ w.if-not-is_digit.true)
     ] in
     number_zero c.loop-i.invariant ended c.if-i-gt1.true c.if-rest-eq48.true
@@ -60,7 +59,7 @@ returns-then-rest-eq48 c =
 pub returns-else-rest-eq48 : goal.returns-else-rest-eq48
 returns-else-rest-eq48 c =
     let ended : front digit (drop c.loop-i.i c.args.rest.now) ≡ [] = elim c.loop-i-test.branch [
-      else-loop-i-test w ↦ front_ends digit _ _ w.loop-i-test.false
+      | else-loop-i-test w ↦ front_ends digit _ _ w.loop-i-test.false
       | then-loop-i-test+then-not-is_digit w ↦ front_stops digit _ _ w.loop-i-test.true (sym w.is_digit.ensures ∙ w.if-not-is_digit.true)
     ] in
     number_right c.loop-i.invariant ended (λ _. c.if-rest-eq48.false)
@@ -68,7 +67,7 @@ returns-else-rest-eq48 c =
 pub returns-else-i-gt1 : goal.returns-else-i-gt1
 returns-else-i-gt1 c =
     let ended : front digit (drop c.loop-i.i c.args.rest.now) ≡ [] = elim c.loop-i-test.branch [
-      else-loop-i-test w ↦ front_ends digit _ _ w.loop-i-test.false
+      | else-loop-i-test w ↦ front_ends digit _ _ w.loop-i-test.false
       | then-loop-i-test+then-not-is_digit w ↦ front_stops digit _ _ w.loop-i-test.true (sym w.is_digit.ensures ∙ w.if-not-is_digit.true)
     ] in
     number_right c.loop-i.invariant ended (λ h. absurd (omega arith))

@@ -1,7 +1,6 @@
 use mathlib.Core.Path.{◌≡◌, sym, ◌∙◌}
 use mathlib.Core.Bool.{true}
 use native.Mathlib.Omega.{arith}
-use borrow.Author.Tests.{not-true, not-false}
 use lib.ListN.{get_or}
 use Rattle.text_read.specs.Reader.{word_byte}
 use Rattle.text_read.proofs.Runs.{passed_none, passed_more, word_long, word_right, front_ends, front_stops}

@@ -6,7 +6,6 @@ use lib.ListN.{length, take, drop}
 use lib.Seq.{length-take-le}
 use mir.Syntax.{w64}
 use mir.Facts.{to_z-of_z}
-use borrow.Author.Tests.{not-true, not-false}
 use Rattle.flow_order.specs.Following.{Next}
 use Rattle.flow_least.specs.Marked.{Marked}
 use Rattle.flow_least.proofs.Marked.{marked_any}
