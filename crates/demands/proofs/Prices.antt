@@ -32,7 +32,7 @@ use Rattle.call_network.specs.FirstFlow.{FindsFlow, FindsNoFlow}
 use Rattle.call_network.proofs.NetworkRun.{accepts}
 use Rattle.call_prices.specs.PriceCall.{prices_question, WroteCommonPrices, NetworkPrices}
 use Rattle.call_prices.proofs.CommonPrices.{wrote_common, prices_once}
-use Rattle.demands.specs.Demands.{Demand1, FirstFlowDemands, FlowPriced, PricesDemands, PricesAgreeDemands}
+use Rattle.demands.specs.Demands.{Demand1, FirstFlowDemands, FirstPricesDemands, FlowPriced, PricesDemands, PricesAgreeDemands}
 use Rattle.demands.proofs.Refusals.{says_value, reply_1}
 
 -- a call that is not refused passes the questions
@@ -97,12 +97,13 @@ module _ (bs xs : List ℕ) where
             given_listed (suc n) a b e = absurd (omega arith)
 
     -- after the first flow with its prices
-    module _ (l : Lent) (s : Seen Lent) (d : FirstFlowDemands bs xs l s) where
+    module _ (l : Lent) (s : Seen Lent) (d : FirstFlowDemands bs xs l s) (e : FirstPricesDemands bs xs l s) where
       pub prices_agree : PricesAgreeDemands bs xs g l s ps r ps'
       prices_agree = record {
         first_demands = d;
+        first_prices_demands = e;
         prices_demands = prices_demands;
-        same_prices = λ z c before after b a. same (prices_demands.priced c) before after (d.prices z before after b a);
+        same_prices = λ z c before after b a. same (prices_demands.priced c) before after (e.prices z before after b a);
         same_cost = λ z c. (let (ok, F) = found l s d.demand1 d.demand2 z in
             let p = prices_demands.priced c in
             p.value_is ∙ same_cost (net bs xs) (words g) F.flow p.least_cost F.least_cost ∙ sym F.shows.cost_is);

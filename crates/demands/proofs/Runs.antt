@@ -24,7 +24,7 @@ use Rattle.call_book.specs.BookRules.{book_rules}
 use Rattle.call_book.specs.BookEntries.{BookCount}
 use Rattle.call_book.proofs.BookRun.{ways_apart, book_readable}
 use Rattle.call_book.proofs.FirstWay.{first_finds_way}
-use Rattle.demands.specs.Demands.{Demand3, FirstFlowDemands, NextFlowDemands, CountFlowsDemands, FirstWayDemands, NextWayDemands, CountWaysDemands}
+use Rattle.demands.specs.Demands.{Demand3, FirstFlowDemands, FirstPricesDemands, NextFlowDemands, CountFlowsDemands, FirstWayDemands, NextWayDemands, CountWaysDemands}
 use Rattle.demands.proofs.Refusals.{demand_1, count_1}
 use Rattle.demands.proofs.Prices.{first_prices}
 
@@ -43,14 +43,14 @@ module _ {Item F G N Lists : Type 0} (R : Rules Item F G N Lists) (e : Call F G 
 
 module _ (bs xs : List ℕ) where
   pub first_flow_demands : (l : Lent) (s : Seen Lent) → Answers (network_rules bs xs) (first l) s → FirstFlowDemands bs xs l s
-  first_flow_demands l s h =
-      let refused = demand_1 (network_rules bs xs) (first l) s h in
-      record {
-        demand1 = refused;
-        demand2 = λ z. first_finds bs xs l s z h;
-        demand3 = demand_3 (network_rules bs xs) (first l, s) h (network_readable bs xs);
-        prices = first_prices bs xs l s refused (λ z. first_finds bs xs l s z h);
-      }
+  first_flow_demands l s h = record {
+    demand1 = demand_1 (network_rules bs xs) (first l) s h;
+    demand2 = λ z. first_finds bs xs l s z h;
+    demand3 = demand_3 (network_rules bs xs) (first l, s) h (network_readable bs xs);
+  }
+
+  pub first_prices_demands : (l : Lent) (s : Seen Lent) → Answers (network_rules bs xs) (first l) s → FirstPricesDemands bs xs l s
+  first_prices_demands l s h = record { prices = first_prices bs xs l s (demand_1 (network_rules bs xs) (first l) s h) (λ z. first_finds bs xs l s z h) }
 
   pub next_flow_demands : (g fs : List ℕ) (s : Seen Lent) → Answers (network_rules bs xs) (next g fs) s → NextFlowDemands bs xs g fs s
   next_flow_demands g fs s h = record {

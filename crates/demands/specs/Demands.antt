@@ -75,7 +75,9 @@ module _ (bs xs : List ℕ) where
     pub demand1 : Demand1 no_line (network_question bs xs (first l)) l s
     pub demand2 : network_question bs xs (first l) ≡ 0 → FindsFlow bs xs l s ⊎ FindsNoFlow bs xs l s
     pub demand3 : Demand3 (network_rules bs xs) (first l, s)
-    -- where a list is lent for the prices of the first flow, they are those of every least-cost flow
+
+  -- Where a list is lent for the prices of the first flow, they are those of every least-cost flow.
+  pub record FirstPricesDemands (l : Lent) (s : Seen Lent) : Type 0 where
     pub prices : s.number ≡ 0 → (before after : List ℕ) → l.prices ≡ some before → s.lists.prices ≡ some after → WroteCommonPrices (net bs xs) before after
 
   pub record NextFlowDemands (g fs : List ℕ) (s : Seen Lent) : Type 0 where
@@ -98,6 +100,7 @@ module _ (bs xs : List ℕ) where
   -- The first flow with its prices, and then the prices by any flow given: "the same numbers", to the byte, and the same cost.
   pub record PricesAgreeDemands (g : List ℕ) (l : Lent) (s : Seen Lent) (ps : List ℕ) (r : Reply) (ps' : List ℕ) : Type 0 where
     pub first_demands : FirstFlowDemands l s
+    pub first_prices_demands : FirstPricesDemands l s
     pub prices_demands : PricesDemands g ps r ps'
     pub same_prices : s.number ≡ 0 → r.code ≡ 0 → (before after : List ℕ) → l.prices ≡ some before → s.lists.prices ≡ some after
         → take (4 * nodes (net bs xs)) ps' ≡ take (4 * nodes (net bs xs)) after

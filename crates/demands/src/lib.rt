@@ -6,7 +6,7 @@ ghost use Rattle.std.specs.Prelude.{◌*◌, ◌/◌, length, take};
 ghost use Rattle.laws.specs.Rules.{first, next};
 ghost use Rattle.call_reply.specs.Replies.{sees};
 ghost use Rattle.call_network.specs.NetworkCalls.{lends};
-ghost use Rattle.demands.specs.Demands.{FirstFlowDemands, NextFlowDemands, CountFlowsDemands, RunFlowsDemands};
+ghost use Rattle.demands.specs.Demands.{FirstFlowDemands, FirstPricesDemands, NextFlowDemands, CountFlowsDemands, RunFlowsDemands};
 ghost use Rattle.demands.specs.Demands.{PricesDemands, PricesAgreeDemands};
 ghost use Rattle.demands.specs.Demands.{FirstWayDemands, NextWayDemands, CountWaysDemands, RunWaysDemands};
 ghost use Rattle.demands.specs.Demands.{ListWaysDemands, SpareDemands, NameOfDemands, made_of};
@@ -23,7 +23,9 @@ pub fn first_flow(balances: &[u8], arcs: &[u8], flows: &mut [u8]) -> Reply
 }
 
 pub fn first_priced_flow(balances: &[u8], arcs: &[u8], flows: &mut [u8], prices: &mut [u8]) -> Reply
-    ensures { FirstFlowDemands balances.now arcs.now (lends flows.old (some prices.old))
+    ensures demands { FirstFlowDemands balances.now arcs.now (lends flows.old (some prices.old))
+        (sees result (lends flows.new (some prices.new))) }
+    ensures prices { FirstPricesDemands balances.now arcs.now (lends flows.old (some prices.old))
         (sees result (lends flows.new (some prices.new))) }
 {
     desk::desk_network_first_priced(balances, arcs, flows, prices)
