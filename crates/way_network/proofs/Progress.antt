@@ -51,6 +51,13 @@ cost_small i j o h w = rw (w.each h.book h.tables) (go (predecessor_cost h.book 
     go none k = k
     go (some c) k = k
 
+-- the two ways through `put_join`
+pub put_none : (o : Join) (i j : ℕ) (A : Arrays) (m : ℕ) → o ≡ No → (A ≡ put_if o i j A m) × (m ≡ m + one_if (is_join o))
+put_none o i j A m e = rw e (refl, omega arith)
+
+pub put_one : (o : Join) (i j : ℕ) (A B : Arrays) (m c : ℕ) (a : NetworkArc) → o ≡ At c → a ≡ arc_with (2 * i) (2 * j - 1) c → B ≡ put_arc A m a → (B ≡ put_if o i j A m) × (m + 1 ≡ m + one_if (is_join o))
+put_one o i j A B m c a e f q = rw e (q ∙ ap (put_arc A m) f, refl)
+
 -- k of the arcs behind the joins put
 module _ (e : ℕ) where
   pub record Row (A : Arrays) (m : ℕ) (B : Arrays) (k : ℕ) : Type 0 where
