@@ -9,7 +9,7 @@ use lib.ListN.{length, length-append}
 use borrow.Author.Tests.{eqb-true}
 use Rattle.text_read.specs.Reader.{Parsed, fails, reads, Reader, then_read, ◌>>=◌, ◌>>◌, give, begins, text, number, numbers, row, ReadAs}
 use Rattle.text_read.specs.Heads.{bytes, space, line_end}
-use Rattle.text_read.proofs.Leaves.{not_read, both}
+use Rattle.text_read.proofs.Leaves.{not_read, reads_same, both}
 use Rattle.text_read.proofs.Sequence.{From, then_reads, then_fails, begin, next_read, stops, all_read}
 
 -- with the numbers d read before
@@ -132,21 +132,43 @@ module _ {head s : List ℕ} {n : ℕ} {d : List ℕ} {m : ℕ} {head' t : List 
       let is : numbers head n s ≡ give d t = f.is ∙ rw (z, append-nil) in
       all_read (record { is = is; ends = f.ends }) (omega (arith, k.count, k.shorter))
 
--- A row is its numbers, and the end of the line.
+-- A row is its first numbers, and a rest: K tells it by the numbers before it, which it hands on.
+module _ (K : List ℕ → Reader (List ℕ)) (hands_on : (v : ℕ) (vs t : List ℕ) → K (v ∷ vs) t ≡ (K vs >>= (λ l. give (v ∷ l))) t) where
+  one_before : (head : List ℕ) (n m : ℕ) → ((u : List ℕ) → row space m u ≡ (numbers space n >>= K) u) → (s : List ℕ) → row head (suc m) s ≡ (numbers head (suc n) >>= K) s
+  unfolding row numbers ◌>>◌ give ◌>>=◌ then_read
+  one_before head n m e s =
+      then_alike (text head) _ _ (λ _ t. then_alike number _ _ deep t ∙ sym (then_then number _ _ t)) s ∙ sym (then_then (text head) _ _ s)
+    where
+      deep : (v : ℕ) (u : List ℕ) → (row space m >>= (λ l. give (v ∷ l))) u ≡ ((numbers space n >>= (λ vs. give (v ∷ vs))) >>= K) u
+      deep v u =
+          ap (λ x. then_read x (λ l. give (v ∷ l))) (e u)
+          ∙ then_then (numbers space n) K (λ l. give (v ∷ l)) u
+          ∙ then_alike (numbers space n) _ _ (λ vs t. sym (hands_on v vs t)) u
+          ∙ sym (then_then (numbers space n) (λ vs. give (v ∷ vs)) K u)
+
+-- the rest is the end of the line
 row_is : (head : List ℕ) (n : ℕ) (s : List ℕ) → row head n s ≡ (numbers head n >>= (λ vs. text line_end >>= (λ _. give vs))) s
 unfolding row numbers ◌>>◌ give ◌>>=◌ then_read
 row_is head zero s = refl
 row_is head (suc n) s =
-    then_alike (text head) _ _ (λ _ t. then_alike number _ _ (λ v u. deep v u (row_is space n u)) t ∙ sym (then_then number _ _ t)) s
-    ∙ sym (then_then (text head) _ _ s)
-  where
-    ended : (v : ℕ) (x : Parsed (List ℕ)) → then_read (then_read x (λ vs. text line_end >>= (λ _. give vs))) (λ vs. give (v ∷ vs)) ≡ then_read (then_read x (λ vs. give (v ∷ vs))) (λ vs. text line_end >>= (λ _. give vs))
-    ended v fails = refl
-    ended v (reads vs w) = then_then (text line_end) _ _ w
+    one_before (λ vs. text line_end >>= (λ _. give vs)) (λ v vs t. sym (then_then (text line_end) (λ _. give vs) (λ l. give (v ∷ l)) t)) head n n (row_is space n) s
 
-    deep : (v : ℕ) (u : List ℕ) → row space n u ≡ (numbers space n >>= (λ vs. text line_end >>= (λ _. give vs))) u
-        → (row space n >>= (λ vs. give (v ∷ vs))) u ≡ ((numbers space n >>= (λ vs. give (v ∷ vs))) >>= (λ vs. text line_end >>= (λ _. give vs))) u
-    deep v u e = ap (λ x. then_read x (λ vs. give (v ∷ vs))) e ∙ ended v (numbers space n u)
+-- the rest has m numbers
+module _ (m : ℕ) where
+  abbrev others : List ℕ → Reader (List ℕ)
+  others vs = row space m >>= (λ ws. give (vs ++ ws))
+
+  others_on : (v : ℕ) (vs t : List ℕ) → others (v ∷ vs) t ≡ (others vs >>= (λ l. give (v ∷ l))) t
+  unfolding give ◌>>=◌ then_read
+  others_on v vs t = sym (then_then (row space m) (λ ws. give (vs ++ ws)) (λ l. give (v ∷ l)) t)
+
+  spaced : (n : ℕ) (s : List ℕ) → row space (n + m) s ≡ (numbers space n >>= others) s
+  unfolding numbers give ◌>>=◌ then_read
+  spaced zero s = let z : 0 + m ≡ m = omega arith in rw z (sym (after_nothing (row space m) s))
+  spaced (suc n) s = let z : suc n + m ≡ suc (n + m) = omega arith in rw z (one_before others others_on space n (n + m) (spaced n) s)
+
+  row_more : (head : List ℕ) (n : ℕ) (s : List ℕ) → row head (suc (n + m)) s ≡ (numbers head (suc n) >>= others) s
+  row_more head n s = one_before others others_on head n (n + m) (spaced n) s
 
 module _ (head s : List ℕ) (n : ℕ) where
   pub row_unread : numbers head n s ≡ fails → row head n s ≡ fails
@@ -161,3 +183,36 @@ module _ (head s : List ℕ) (n : ℕ) where
 
     pub row_closed : {u : List ℕ} → ReadAs t (text line_end t) tt u → ReadAs s (row head n s) l u
     row_closed o = all_read (next_read (text line_end) _ rowed o) (omega (arith, r.fewer, o.fewer))
+
+-- a row of m numbers more
+module _ (head s : List ℕ) (n m : ℕ) where
+  pub longer_unread : numbers head (suc n) s ≡ fails → row head (suc (n + m)) s ≡ fails
+  longer_unread e = row_more m head n s ∙ then_fails (numbers head (suc n)) _ s e
+
+  module _ {l t : List ℕ} (r : ReadAs s (numbers head (suc n) s) l t) where
+    goes_on : From (row head (suc (n + m)) s) (row space m >>= (λ ws. give (l ++ ws))) s t
+    goes_on = let f = begin (row head (suc (n + m))) s in next_read (numbers head (suc n)) _ (record { is = f.is ∙ row_more m head n s; ends = f.ends }) r
+
+    pub longer_fails : row space m t ≡ fails → row head (suc (n + m)) s ≡ fails
+    longer_fails e = stops (row space m) _ goes_on e
+
+    pub longer_read : {k u : List ℕ} → ReadAs t (row space m t) k u → ReadAs s (row head (suc (n + m)) s) (l ++ k) u
+    longer_read o = all_read (next_read (row space m) _ goes_on o) (omega (arith, r.fewer, o.fewer))
+
+-- how many numbers are read
+pub numbers_length : (head : List ℕ) (n : ℕ) (s : List ℕ) {l t : List ℕ} → numbers head n s ≡ reads l t → length l ≡ n
+unfolding numbers give ◌>>◌
+numbers_length head zero s {l} {t} e = ap length (sym (reads_same [] l s t e).0)
+numbers_length head (suc n) s {l} {t} e =
+    let a = both (text head) _ s l t e in
+    let b = both number _ a.rest l t a.second in
+    let c = both (numbers space n) _ b.rest l t b.second in
+    let longer = ap length (sym (reads_same (b.value ∷ c.value) l c.rest t c.second).0) in
+    longer ∙ ap suc (numbers_length space n b.rest c.first)
+
+pub row_length : (head : List ℕ) (n : ℕ) (s : List ℕ) {l t : List ℕ} → row head n s ≡ reads l t → length l ≡ n
+unfolding give
+row_length head n s {l} {t} e =
+    let a = both (numbers head n) _ s l t (sym (row_is head n s) ∙ e) in
+    let b = both (text line_end) _ a.rest l t a.second in
+    ap length (sym (reads_same a.value l b.rest t b.second).0) ∙ numbers_length head n s a.first
