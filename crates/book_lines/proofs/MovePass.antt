@@ -5,11 +5,9 @@ use mathlib.Core.Bool.{Bool, true, false, cond}
 use mathlib.Core.List.{List, [], ◌∷◌, ◌++◌, append_assoc, append-nil}
 use native.Mathlib.Omega.{arith}
 use lib.ListN.{length, length-append, replicate, set}
-use Rattle.text_read.specs.declared.Row.{Row}
-use Rattle.text_read.specs.Reader.{row, ReadsFront, RowRead}
+use Rattle.text_read.specs.Reader.{fails, row, ReadAs}
 use Rattle.text_read.specs.Heads.{move_head}
-use Rattle.text_read.proofs.Sequence.{mapped}
-use Rattle.text_read.proofs.Rows.{number_at_lem}
+use Rattle.text_read.proofs.Sequence.{then_fails, mapped}
 use Rattle.std.specs.Prelude.{Option, Some, None}
 use Rattle.book_lines.specs.declared.moves.Move.{Move}
 use Rattle.book_lines.specs.declared.moves.PairMove.{PairMove}
@@ -22,11 +20,14 @@ use Rattle.book_lines.proofs.Table.{fair_parts, table_none, table_more, may_stan
 use Rattle.book_lines.proofs.FirstBad.{none_bad, first_bad_more}
 
 -- the line of a move, from its row
-pub move_read : {s : List ℕ} {r : Row} → RowRead s move_head 4 r → ReadsFront s (move s) r.used (move_from r.numbers)
-unfolding move
-move_read {s} {r} x =
-    let at = number_at_lem x.list x.numbers_are in
-    rw (at 0, at 1, at 2, at 3) (mapped (row move_head 4) move_from s x.right)
+module _ (s : List ℕ) where
+  pub move_read : {l t : List ℕ} → ReadAs s (row move_head 4 s) l t → ReadAs s (move s) (move_from l) t
+  unfolding move
+  move_read r = mapped (row move_head 4) move_from s r
+
+  pub no_move : row move_head 4 s ≡ fails → move s ≡ fails
+  unfolding move
+  no_move e = then_fails (row move_head 4) _ s e
 
 -- the answers to 14: of one more line, and how many
 moves_more : (ds ms : List Move) (m : Move) → moves ds (ms ++ (m ∷ [])) ≡ moves ds ms ++ (stands (ds ++ ms) m ∷ [])

@@ -1,6 +1,6 @@
 -- What the functions over lines promise: one line, and the passes over the moves and over the entries.
 use Rattle.std.specs.Prelude.{ℕ, ◌+◌, ◌-◌, ◌≤◌, ◌≡◌, Bool, cond, ◌&&◌, List, [], ◌∷◌, ◌++◌, length, take, drop, get_or, set, Option, Some, None, is_none}
-use Rattle.text_read.specs.Reader.{reads, many, ReadsFront}
+use Rattle.text_read.specs.Reader.{reads, many, ReadAs}
 use Rattle.book_lines.specs.declared.moves.Move.{Move}
 use Rattle.book_lines.specs.declared.moves.PairMove.{PairMove}
 use Rattle.book_lines.specs.declared.moves.Moves.{Moves}
@@ -53,13 +53,9 @@ numbers_of r = r.arrives ∷ r.leaves ∷ r.start ∷ r.finish ∷ []
 abbrev pub entry_of : List ℕ → EntryLine → Entry
 entry_of s r = record { name = take r.length (drop (length s - r.left) s); left = r.left; arrives = r.arrives; leaves = r.leaves; start = r.start; finish = r.finish }
 
--- where no entry stands
-abbrev pub no_entry : EntryLine
-no_entry = record { left = 0; length = 0; arrives = 0; leaves = 0; start = 0; finish = 0; used = 0 }
-
-pub record EntryRead (s : List ℕ) (r : EntryLine) : Type 0 where
-  pub right : ReadsFront s (entry s) r.used (entry_of s r)
-  pub none : r.used ≡ 0 → r ≡ no_entry
+-- the entry at the front of s, and the bytes `after` that follow it
+pub record EntryRead (s : List ℕ) (r : EntryLine) (after : List ℕ) : Type 0 where
+  pub right : ReadAs s (entry s) (entry_of s r) after
   pub begins : r.left ≤ length s
   pub ends : r.length ≤ r.left
 

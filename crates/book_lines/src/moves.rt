@@ -1,5 +1,7 @@
 // The lines of moves: question 14, and the table that they make.
 ghost use Rattle.std.specs.Prelude.{◌≡◌, ◌≤◌, ◌<◌, length};
+ghost use Rattle.text_read.specs.Reader.{ReadsFront};
+ghost use Rattle.book_lines.specs.Lines.{move};
 ghost use Rattle.book_lines.specs.Questions.{fair_move};
 ghost use Rattle.book_lines.specs.Columns.{place};
 ghost use Rattle.book_lines.specs.Passes.{Put, MovesRead};
@@ -29,6 +31,21 @@ pub struct Moves {
     pub line: u32,
     pub bad: Option<u32>,
     pub used: usize,
+}
+
+// The line of a move at the front of `rest`.
+fn read_move(rest: &[u8]) -> Option<(Move, &[u8])>
+    ensures { ReadsFront rest.now (move rest.now) result (λ r. r.0) (λ r. r.1.now) }
+{
+    let read = read_row::<4>(rest, &heads::MOVE)?;
+    let numbers = read.0;
+    let m = Move {
+        source: numbers[0],
+        target: numbers[1],
+        ticks: numbers[2],
+        cost: numbers[3],
+    };
+    Some((m, read.1))
 }
 
 fn is_fair(m: Move) -> bool
@@ -75,27 +92,16 @@ pub fn read_moves(book: &[u8]) -> Moves
     let mut line: u32 = 4;
     let mut bad: Option<u32> = None;
     let mut rest = book;
-    loop {
-        let r = read_row(rest, &heads::MOVE, 4);
-        let used = r.used;
-        if used == 0 {
-            return Moves {
-                table,
-                line,
-                bad,
-                used: book.len() - rest.len(),
-            };
-        }
-        let n = r.numbers;
-        let m = Move {
-            source: n[0],
-            target: n[1],
-            ticks: n[2],
-            cost: n[3],
-        };
+    while let Some((m, after)) = read_move(rest) {
         let passes = put_move(&mut table, m);
         bad = first_bad(bad, passes, line);
         line += 1;
-        rest = &rest[used..];
+        rest = after;
+    }
+    Moves {
+        table,
+        line,
+        bad,
+        used: book.len() - rest.len(),
     }
 }

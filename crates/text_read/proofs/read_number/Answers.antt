@@ -1,73 +1,20 @@
-use Prim.Native.Nat.{ℕ, ◌<◌}
-use mathlib.Core.Path.{◌≡◌, sym, ◌∙◌}
-use mathlib.Core.Bool.{true}
-use mathlib.Core.List.{[]}
-use native.Mathlib.Omega.{arith}
-use lib.ListN.{drop, get_or}
-use Rattle.text_read.specs.Reader.{digit, front}
-use Rattle.text_read.proofs.Runs.{digits_none, digits_more, digits_room, digit_range, number_long, number_zero, number_right, front_ends, front_stops}
+-- `text_read::read_number` meets its contract: the longest front of digits, if they are plain.
+use Rattle.std.proofs.Common.{arith, sym, ◌∙◌}
+use Rattle.std.proofs.lemmas.List.Sums.{prefix_len-le-length}
+use Rattle.text_read.specs.Reader.{digit}
+use Rattle.text_read.proofs.Runs.{front_passes, number_stands, number_fails}
 use Rattle.text_read.proofs.read_number.Goals as goal
-use Rattle.text_read.proofs.read_number.Goals.{else-loop-i-test, then-loop-i-test+then-not-is_digit}
 
-pub loop-i-init : goal.loop-i-init
-loop-i-init c = digits_none _
+pub split_at-requires : goal.split_at-requires
+split_at-requires c = omega (arith, c.count_digits.ensures, prefix_len-le-length digit c.args.rest.now)
 
-pub returns-then-i-eq7 : goal.returns-then-i-eq7
-returns-then-i-eq7 c =
-    let B : ℕ = get_or c.args.rest.now c.loop-i.i 0 in
-    let is_digit : digit B ≡ true = sym c.is_digit.ensures ∙ c.if-not-is_digit.false in
-    number_long c.loop-i.invariant c.loop-i-test.true is_digit c.if-i-eq7.true
+pub value_of-requires-clause-all : goal.value_of-requires-clause-all
+value_of-requires-clause-all c = rw c.split_at.ensures.front (front_passes digit c.args.rest.now c.count_digits.ensures)
 
-pub overflow_mul-value : goal.overflow_mul-value
-overflow_mul-value c =
-    let room : (c.loop-i.value < 1000000) = digits_room c.loop-i.invariant c.if-i-eq7.false in
-    omega (arith, room)
+pub returns-then-is_plain : goal.returns-then-is_plain
+returns-then-is_plain c =
+    let front = c.split_at.ensures.front in
+    rw (c.value_of.ensures, front, c.split_at.ensures.back) (number_stands c.args.rest.now c.count_digits.ensures (rw front at (sym c.is_plain.ensures ∙ c.if-is_plain.true)))
 
-pub overflow_sub-value : goal.overflow_sub-value
-overflow_sub-value c =
-    let B : ℕ = get_or c.args.rest.now c.loop-i.i 0 in
-    let is_digit : digit B ≡ true = sym c.is_digit.ensures ∙ c.if-not-is_digit.false in
-    (digit_range B is_digit).0
-
-pub overflow_cast-value : goal.overflow_cast-value
-overflow_cast-value c =
-    let B : ℕ = get_or c.args.rest.now c.loop-i.i 0 in
-    let is_digit : digit B ≡ true = sym c.is_digit.ensures ∙ c.if-not-is_digit.false in
-    omega (arith, digit_range B is_digit)
-
-pub overflow_add-value : goal.overflow_add-value
-overflow_add-value c =
-    let B : ℕ = get_or c.args.rest.now c.loop-i.i 0 in
-    let is_digit : digit B ≡ true = sym c.is_digit.ensures ∙ c.if-not-is_digit.false in
-    let room : (c.loop-i.value < 1000000) = digits_room c.loop-i.invariant c.if-i-eq7.false in
-    omega (arith, room, digit_range B is_digit)
-
-pub loop-i-preserved : goal.loop-i-preserved
-loop-i-preserved c =
-    let B : ℕ = get_or c.args.rest.now c.loop-i.i 0 in
-    let is_digit : digit B ≡ true = sym c.is_digit.ensures ∙ c.if-not-is_digit.false in
-    digits_more c.loop-i.invariant c.loop-i-test.true is_digit c.if-i-eq7.false
-
-pub returns-then-rest-eq48 : goal.returns-then-rest-eq48
-returns-then-rest-eq48 c =
-    let ended : front digit (drop c.loop-i.i c.args.rest.now) ≡ [] = elim c.loop-i-test.branch [
-      | else-loop-i-test w ↦ front_ends digit _ _ w.loop-i-test.false
-      | then-loop-i-test+then-not-is_digit w ↦ front_stops digit _ _ w.loop-i-test.true (sym w.is_digit.ensures ∙ w.if-not-is_digit.true)
-    ] in
-    number_zero c.loop-i.invariant ended c.if-i-gt1.true c.if-rest-eq48.true
-
-pub returns-else-rest-eq48 : goal.returns-else-rest-eq48
-returns-else-rest-eq48 c =
-    let ended : front digit (drop c.loop-i.i c.args.rest.now) ≡ [] = elim c.loop-i-test.branch [
-      | else-loop-i-test w ↦ front_ends digit _ _ w.loop-i-test.false
-      | then-loop-i-test+then-not-is_digit w ↦ front_stops digit _ _ w.loop-i-test.true (sym w.is_digit.ensures ∙ w.if-not-is_digit.true)
-    ] in
-    number_right c.loop-i.invariant ended (λ _. c.if-rest-eq48.false)
-
-pub returns-else-i-gt1 : goal.returns-else-i-gt1
-returns-else-i-gt1 c =
-    let ended : front digit (drop c.loop-i.i c.args.rest.now) ≡ [] = elim c.loop-i-test.branch [
-      | else-loop-i-test w ↦ front_ends digit _ _ w.loop-i-test.false
-      | then-loop-i-test+then-not-is_digit w ↦ front_stops digit _ _ w.loop-i-test.true (sym w.is_digit.ensures ∙ w.if-not-is_digit.true)
-    ] in
-    number_right c.loop-i.invariant ended (λ h. absurd (omega arith))
+pub returns-else-is_plain : goal.returns-else-is_plain
+returns-else-is_plain c = number_fails c.args.rest.now c.count_digits.ensures (rw c.split_at.ensures.front at (sym c.is_plain.ensures ∙ c.if-is_plain.false))

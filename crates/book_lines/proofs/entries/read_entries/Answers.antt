@@ -13,11 +13,11 @@ use Rattle.book_lines.proofs.entries.read_entries.Goals.{then-count-lt28, else-c
 pub loop-e-init : goal.loop-e-init
 loop-e-init c = ([], lines_none entry _, known_entries_none _ _)
 
-pub returns-then-used-eq0 : goal.returns-then-used-eq0
-returns-then-used-eq0 c = let v = c.loop-e.invariant in
+pub returns : goal.returns
+returns c = let v = c.loop-e.invariant in
     record {
       list = v.0;
-      is = lines_all v.1 c.read_entry-e.ensures.right c.if-used-eq0.true;
+      is = lines_all v.1 c.in_default.ensures;
       within = omega arith;
       count = v.2.count_is;
       bad = v.2.bad_is;
@@ -26,7 +26,7 @@ returns-then-used-eq0 c = let v = c.loop-e.invariant in
 
 pub loop-e-preserved : goal.loop-e-preserved
 loop-e-preserved c =
-    let stored : c.loop-e.count < 28 → c.if-count-lt28.entries ≡ set c.loop-e.entries c.loop-e.count (told c.args.total c.read_entry-e.result) = λ h. elim c.if-count-lt28.branch [
+    let stored : c.loop-e.count < 28 → c.if-count-lt28.entries ≡ set c.loop-e.entries c.loop-e.count (told c.args.total c.in-Some.e) = λ h. elim c.if-count-lt28.branch [
       | then-count-lt28 w ↦ rw w.told.ensures at w.entries-is
       | else-count-lt28 w ↦ absurd (omega (arith, h, w.if-count-lt28.false))
     ] in
@@ -35,11 +35,11 @@ loop-e-preserved c =
       | else-count-lt28 w ↦ w.entries-is
     ] in
     let v = c.loop-e.invariant in
-    let r = c.read_entry-e.result in
+    let r = c.in-Some.e in
     let t = c.loop-e.rest.now in
-    let e = c.read_entry-e.ensures in (
+    let e = c.in-Some.ensures in (
       v.0 ++ (entry_of t r ∷ []),
-      lines_more v.1 e.right c.if-used-eq0.false,
+      lines_more v.1 e.right,
       rw (c.first_bad-bad.ensures, c.is_fair.ensures)
           (known_entries_more _ _ v.0 _ _ _ _ _ t r v.2 stored passed_over e),
     )
