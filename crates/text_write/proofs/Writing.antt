@@ -1,8 +1,12 @@
 -- Pieces that a writer writes one behind another, and the room for them.
-use Rattle.std.proofs.Common.{List, ◌++◌, ℕ, ◌∙◌, arith, length-append}
-use Rattle.laws.specs.Appended.{appended_then, appended_long}
+use Rattle.std.proofs.Common.{refl, List, [], ◌++◌, ℕ, ◌∙◌, arith, length-append}
+use Rattle.laws.specs.Appended.{appended_none, appended_then, appended_long}
 use Rattle.text_write.specs.declared.Writer.{Writer}
 use Rattle.text_write.specs.Writing.{HasRoom, Writes}
+
+-- nothing is written
+pub writes_none : {a : Writer} {p : List ℕ} → HasRoom a p → Writes a [] a
+writes_none h = record { lent = refl; appended = appended_none _ _ (omega (arith, h.fits)) }
 
 -- a piece and then a piece are one piece
 pub writes_then : {a b c : Writer} {p q : List ℕ} → Writes a p b → Writes b q c → Writes a (p ++ q) c

@@ -1,5 +1,5 @@
 // Texts and numbers, written one behind another into a lent list of bytes.
-#![tactic(auto, using(crate::proofs::Writing::writes_then, crate::proofs::Writing::room_first, crate::proofs::Writing::room_then))]
+#![tactic(auto, using(crate::proofs::Writing::room_first, crate::proofs::Writing::room_then))]
 
 ghost use Rattle.std.specs.Prelude.{◌≡◌, [], ◌∷◌, ◌++◌, ◌+◌, ◌≤◌, length};
 ghost use Rattle.text_read.specs.Heads.{line_end};
