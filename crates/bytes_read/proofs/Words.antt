@@ -2,12 +2,11 @@
 use mathlib.Core.Path.{◌≡◌, refl, sym, ap, ◌∙◌}
 use mathlib.Core.Bool.{Bool, true, false}
 use mathlib.Core.List.{List, [], ◌∷◌, ◌++◌, map}
-use Prim.Native.Nat.{ℕ, zero, suc, ◌+◌, ◌*◌, ◌-◌, ◌/◌, ◌%◌, ◌≤◌, ◌<◌, min}
+use Prim.Native.Nat.{ℕ, zero, suc, ◌+◌, ◌*◌, ◌-◌, ◌/◌, ◌%◌, ◌≤◌, ◌<◌}
 use native.Mathlib.Omega.{arith}
-use native.Mathlib.Nat.{min-le_right, suc-min-suc}
 use lib.Dec.{ltb}
 use lib.IntN.{ℤ, pos, negsuc}
-use lib.ListN.{length, get_or, take, length-map, get_or-map, get_or-eq_default}
+use lib.ListN.{length, get_or, length-map, get_or-map, get_or-eq_default}
 use borrow.Author.Tests.{lt-ltb, le-ltb}
 use mir.Syntax.{w32}
 use mir.Val.{SFits, to_z}
@@ -118,15 +117,3 @@ ints_past l i h = get_or-eq_default (ints l) (pos 0) (omega (arith, length_ints 
 pub length_encode : (l : List ℕ) → length (encode_words l) ≡ 4 * length l
 length_encode [] = refl
 length_encode (n ∷ l) = let e = length_encode l in omega arith
-
--- ---- the first numbers
-take_nil : (n : ℕ) → take {A = ℕ} n [] ≡ []
-take_nil zero = refl
-take_nil (suc n) = refl
-
-pub take_least : (xs : List ℕ) (k m : ℕ) → k ≡ min (length xs) m → take k xs ≡ take m xs
-take_least [] k m e = take_nil k ∙ sym (take_nil m)
-take_least (x ∷ xs) zero zero e = refl
-take_least (x ∷ xs) (suc k) zero e = absurd (omega (arith, min-le_right (length (x ∷ xs)) 0))
-take_least (x ∷ xs) zero (suc m) e = absurd (omega (arith, suc-min-suc (length xs) m))
-take_least (x ∷ xs) (suc k) (suc m) e = cc (take_least xs k m (omega (arith, suc-min-suc (length xs) m)))

@@ -1,9 +1,9 @@
 use Rattle.std.proofs.Common.{◌≡◌, ℕ, ◌<◌, ◌/◌, [], length, get_or, take, min, ap, ◌∙◌, arith}
-use Rattle.std.proofs.lemmas.List.{map-id, get_or-take, length-take}
+use Rattle.std.proofs.lemmas.List.{map-id, get_or-take, length-take, take_min}
 use Rattle.std.specs.Simd.{first_chunks}
 use Rattle.laws.specs.Padded.{padded, filled_more}
 use Rattle.bytes_read.specs.Words.{words}
-use Rattle.bytes_read.proofs.Words.{word_of_chunk, length_words, take_least}
+use Rattle.bytes_read.proofs.Words.{word_of_chunk, length_words}
 use Rattle.bytes_read.proofs.read_words.Goals as goal
 
 pub loop-i-preserved : goal.loop-i-preserved
@@ -21,6 +21,5 @@ pub returns : goal.returns
 returns c =
     let b = c.args.b.now in
     let i = c.loop-i.i in
-    let fours = c.as_chunks.result.0.now in
-    let e : i ≡ min (length (words b)) 512 = omega (arith, length_words b, length-take c.min-m.result fours, c.as_chunks.ensures.front_len, c.min-m.ensures) in
-    c.loop-i.invariant ∙ ap (padded 512 0) (map-id (take i (words b)) ∙ take_least (words b) i 512 e)
+    let e : i ≡ min 512 (length (words b)) = omega (arith, length_words b, length-take c.min-m.result c.as_chunks.result.0.now, c.as_chunks.ensures.front_len, c.min-m.ensures) in
+    c.loop-i.invariant ∙ ap (padded 512 0) (map-id (take i (words b)) ∙ ap (λ k. take k (words b)) e ∙ take_min 512 (words b))
