@@ -44,9 +44,6 @@ module _ (n lo hi : ℕ) (sr ds : ℕ → ℕ) (go : ℕ → Bool) (s : ℕ) (ra
   }
 
 module _ (n hi : ℕ) (sr ds : ℕ → ℕ) (rank via : List ℕ) (t : ℕ) where
-  pub any_start : TracedAny n hi sr ds rank via t (λ _. t) []
-  any_start lo go s count tr = trace_start lo hi sr ds go rank t
-
   pub any_step : (v : ℕ) (cs : List ℕ) → v < n → 1 < get_or rank v 0 → TracedAny n hi sr ds rank via t (λ _. v) cs
       → TracedAny n hi sr ds rank via t (λ _. sr (get_or via v 0)) (cs ++ (get_or via v 0 ∷ []))
   any_step v cs l h w lo go s count tr = trace_step lo hi sr ds go rank t v cs (get_or via v 0) (w lo go s count tr) (tr.led v l h)
