@@ -4,9 +4,9 @@ use Rattle.net_model.specs.Network.{Net, arcs, low, up}
 use Rattle.net_theory.specs.Bounds.{InBounds}
 use Rattle.flow_clamp.specs.Clamped.{WritesWithin}
 
-pub in_bounds : (N : Net) {r f : List ℕ} → WritesWithin N.lows N.ups r f → length N.lows ≡ arcs N → ((a : ℕ) → a < arcs N → low N a ≤ up N a) → InBounds N f
-in_bounds N w e h = record {
-  all_arcs = omega (arith, w.len);
+pub in_bounds : (N : Net) {r f : List ℕ} → WritesWithin N r f → ((a : ℕ) → a < arcs N → low N a ≤ up N a) → InBounds N f
+in_bounds N w h = record {
+  all_arcs = w.len;
   above = λ a k. omega (arith, w.each a (omega (arith, w.len)), h a k);
   below = λ a k. omega (arith, w.each a (omega (arith, w.len)));
 }
