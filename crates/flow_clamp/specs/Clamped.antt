@@ -1,11 +1,6 @@
 -- Numbers brought within the bounds of the arcs.
-use Rattle.std.specs.Prelude.{◌≡◌, List, map, ℕ, ◌+◌, ◌*◌, ◌<◌, min, length, get_or}
+use Rattle.std.specs.Prelude.{◌≡◌, List, ℕ, ◌+◌, ◌*◌, ◌<◌, min, length, get_or}
 use Rattle.net_model.specs.Network.{Net, arcs, low, up}
-use Rattle.flow_clamp.specs.declared.ResidualArc.{ResidualArc}
-
--- the capacities of residual arcs
-abbrev pub capacities : List ResidualArc → List ℕ
-capacities rs = map (λ (r : ResidualArc). r.capacity) rs
 
 -- for each arc a: number 2a + 1 of r above the lower bound, or the upper bound where that is less
 pub record WritesWithin (N : Net) (r f : List ℕ) : Type 0 where

@@ -7,12 +7,11 @@ ghost use Rattle.net_model.specs.Network.{low, up};
 ghost use Rattle.net_model.specs.Struct.{net_from};
 ghost use Rattle.net_theory.specs.Bounds.{InBounds};
 
-use flow_clamp::ResidualArc;
 use net_model::Arc;
 
 // The nodes of the tree are those of the network and the root; arc m + v joins node v to the root. Code 2a is the arc a from its tail to
-// its head, 2a + 1 the same arc back. There are at most 2 × (512 + 64) codes; the array has the next power of two of places, so that
-// `% 2048` keeps any number within it. The array of nodes has 256 places, so that it is read by any u8.
+// its head, 2a + 1 the same arc back. There are at most 2 × (512 + 64) codes; the arrays have the next power of two of places, so that
+// `% 2048` keeps any number within them. The arrays of nodes have 256 places, so that any u8 reads them.
 const ROOT: u8 = 64;
 
 // More than any walk costs that comes to no node twice.
@@ -23,14 +22,6 @@ const MOST_UP: usize = 65;
 
 // The most pivots: some 1,300 are enough for a random network of 512 arcs.
 const MOST_PIVOTS: usize = 20000;
-
-// A node of the tree: the code from it to the node above it, its potential, and its subtree as a set of nodes.
-#[derive(Clone, Copy)]
-struct TreeNode {
-    up: usize,
-    potential: i32,
-    below: u64,
-}
 
 // A path up the tree to the node `join`: `amount` can go along it, which is the residual capacity of the arc above the node `leave` or,
 // if there is none, the most that was asked for.
@@ -65,11 +56,16 @@ fn least_of(set: u64) -> usize
     (set.trailing_zeros() % 64) as usize
 }
 
-// A spanning tree of a residual graph.
+// The codes and the tree. Of a code: its head, its residual capacity, its cost. Of a node: the code from it to the node above it, its
+// potential, and its subtree as a set of nodes. An array for each, since arrays of structs were slower by a seventh to a third.
 #[derive(Drop)]
 struct Simplex {
-    residual: [ResidualArc; 2048],
-    nodes: [TreeNode; 256],
+    head: [u8; 2048],
+    capacity: [u32; 2048],
+    cost: [i32; 2048],
+    up: [usize; 256],
+    potential: [i32; 256],
+    below: [u64; 256],
 }
 
 impl Simplex {
@@ -77,17 +73,17 @@ impl Simplex {
     fn up_from(&self, x: u8) -> usize
         ensures { result < 2048 }
     {
-        self.nodes[usize::from(x)].up % 2048
+        self.up[usize::from(x)] % 2048
     }
 
     // The node above x.
     fn parent_of(&self, x: u8) -> u8 {
-        self.residual[self.up_from(x)].head
+        self.head[self.up_from(x)]
     }
 
     // The subtree of x, as a set of nodes.
     fn subtree_of(&self, x: u8) -> u64 {
-        self.nodes[usize::from(x)].below
+        self.below[usize::from(x)]
     }
 
     // Whether the subtree of x has v.
@@ -97,27 +93,27 @@ impl Simplex {
 
     // The potential of x.
     fn potential_of(&self, x: u8) -> i32 {
-        self.nodes[usize::from(x)].potential
+        self.potential[usize::from(x)]
     }
 
     // The cost of the code at the potentials.
     fn reduced(&self, code: usize) -> i32
         requires { code < 2048 }
     {
-        let from = self.potential_of(self.residual[back(code)].head);
-        let to = self.potential_of(self.residual[code].head);
-        from.wrapping_add(self.residual[code].cost).wrapping_sub(to)
+        let from = self.potential_of(self.head[back(code)]);
+        let to = self.potential_of(self.head[code]);
+        from.wrapping_add(self.cost[code]).wrapping_sub(to)
     }
 
     // Sends d along the code.
     fn push(&mut self, code: usize, d: u32)
         requires { code < 2048 }
     {
-        let left = self.residual[code].capacity.wrapping_sub(d);
-        self.residual[code].capacity = left;
+        let left = self.capacity[code].wrapping_sub(d);
+        self.capacity[code] = left;
         let other = back(code);
-        let more = self.residual[other].capacity.wrapping_add(d);
-        self.residual[other].capacity = more;
+        let more = self.capacity[other].wrapping_add(d);
+        self.capacity[other] = more;
     }
 
     // Sends d from x up to `join`.
@@ -136,9 +132,9 @@ impl Simplex {
     fn tree_capacity(&self, x: u8, upwards: bool) -> u32 {
         let code = self.up_from(x);
         if upwards {
-            self.residual[code].capacity
+            self.capacity[code]
         } else {
-            self.residual[back(code)].capacity
+            self.capacity[back(code)]
         }
     }
 
@@ -172,9 +168,9 @@ impl Simplex {
         ensures { result.into < 2048 }
     {
         let other = back(e);
-        let u = self.residual[other].head;
-        let w = self.residual[e].head;
-        let down = self.path_to_join(u, w, false, self.residual[e].capacity);
+        let u = self.head[other];
+        let w = self.head[e];
+        let down = self.path_to_join(u, w, false, self.capacity[e]);
         let above = self.path_to_join(w, u, true, down.amount);
         let join = above.join;
         let amount = above.amount;
@@ -202,8 +198,8 @@ impl Simplex {
             return;
         }
         self.push(e, d);
-        self.push_up(self.residual[back(e)].head, join, d.wrapping_neg());
-        self.push_up(self.residual[e].head, join, d);
+        self.push_up(self.head[back(e)], join, d.wrapping_neg());
+        self.push_up(self.head[e], join, d);
     }
 
     // Takes `part` out of the subtree of x where it is in it, and puts it in where it is not; and so on up to `join`.
@@ -213,17 +209,16 @@ impl Simplex {
             if x == join {
                 return;
             }
-            let node = &mut self.nodes[usize::from(x)];
-            node.below ^= part;
+            let subtree = self.subtree_of(x);
+            self.below[usize::from(x)] = subtree ^ part;
             x = self.parent_of(x);
         }
     }
 
     // Joins x to its parent by the code `via`, with its new subtree.
     fn set_parent(&mut self, x: u8, via: usize, subtree: u64) {
-        let node = &mut self.nodes[usize::from(x)];
-        node.up = via;
-        node.below = subtree;
+        self.up[usize::from(x)] = via;
+        self.below[usize::from(x)] = subtree;
     }
 
     // Joins the subtree `part` of `leave` to the rest of the tree by the code e that leads into it: the arcs from there up to `leave` are
@@ -234,7 +229,7 @@ impl Simplex {
         let mut code = e;
         let mut rest = part;
         for _ in 0..MOST_UP {
-            let x = self.residual[code].head;
+            let x = self.head[code];
             let next = self.up_from(x);
             let s = self.subtree_of(x);
             self.set_parent(x, back(code), rest);
@@ -250,8 +245,9 @@ impl Simplex {
     fn shift_potentials(&mut self, part: u64, d: i32) {
         let mut rest = part;
         while rest != 0 {
-            let node = &mut self.nodes[least_of(rest)];
-            node.potential = node.potential.wrapping_add(d);
+            let v = least_of(rest);
+            let y = self.potential[v];
+            self.potential[v] = y.wrapping_add(d);
             rest &= rest - 1;
         }
     }
@@ -262,7 +258,7 @@ impl Simplex {
     {
         let part = self.subtree_of(leave);
         self.change_subtrees(self.parent_of(leave), join, part);
-        self.change_subtrees(self.residual[back(e)].head, join, part);
+        self.change_subtrees(self.head[back(e)], join, part);
         self.update_parents(leave, part, e);
         self.shift_potentials(part, self.reduced(e));
     }
@@ -285,7 +281,7 @@ impl Simplex {
     {
         let reduced = self.reduced(2 * a);
         let code = if reduced < 0 { 2 * a } else { 2 * a + 1 };
-        if self.residual[code].capacity != 0 && reduced != 0 {
+        if self.capacity[code] != 0 && reduced != 0 {
             Some(code)
         } else {
             None
@@ -321,16 +317,11 @@ impl Simplex {
         requires { length arcs.now ≤ 512 }
     {
         for (a, arc) in arcs.iter().enumerate() {
-            self.residual[2 * a] = ResidualArc {
-                head: arc.head,
-                capacity: arc.up.wrapping_sub(arc.low),
-                cost: arc.cost,
-            };
-            self.residual[2 * a + 1] = ResidualArc {
-                head: arc.tail,
-                capacity: 0,
-                cost: arc.cost.wrapping_neg(),
-            };
+            self.head[2 * a] = arc.head;
+            self.head[2 * a + 1] = arc.tail;
+            self.capacity[2 * a] = arc.up.wrapping_sub(arc.low);
+            self.cost[2 * a] = arc.cost;
+            self.cost[2 * a + 1] = arc.cost.wrapping_neg();
             carry(excess, arc.tail, arc.head, arc.low);
         }
     }
@@ -342,14 +333,12 @@ impl Simplex {
     {
         let into = x.cast_signed() < 0;
         let other = back(code);
-        self.residual[other].head = v;
-        self.residual[other].capacity = x;
-        self.residual[code].capacity = if into { x.wrapping_neg() } else { !x };
-        self.nodes[usize::from(v)] = TreeNode {
-            up: code,
-            potential: if into { BIG } else { -BIG },
-            below: 1 << v,
-        };
+        self.head[other] = v;
+        self.capacity[code] = if into { x.wrapping_neg() } else { !x };
+        self.capacity[other] = x;
+        self.up[usize::from(v)] = code;
+        self.potential[usize::from(v)] = if into { BIG } else { -BIG };
+        self.below[usize::from(v)] = 1 << v;
     }
 
     // The initial tree: the root is the parent of every node.
@@ -359,20 +348,6 @@ impl Simplex {
         for v in 0..n {
             self.set_artificial_arc(excess[usize::from(v)], v, 2 * (m + usize::from(v)));
         }
-    }
-
-    // Makes the residual capacities those after the last pivot; that of code 2a + 1 is what arc a carries above its lower bound. Where the
-    // balances do not sum to 0 there is no flow, and nothing is done.
-    fn optimise(&mut self, arcs: &[Arc], balances: &[i32])
-        requires { (length arcs.now ≤ 512) × (length balances.now ≤ 64) }
-    {
-        let mut excess = [0u32; 256];
-        if set_excess(balances, &mut excess) != 0 {
-            return;
-        }
-        self.set_arcs(arcs, &mut excess);
-        self.initial_tree(&excess, arcs.len(), balances.len() as u8);
-        self.improve(arcs.len());
     }
 }
 
@@ -394,25 +369,29 @@ fn carry(excess: &mut [u32; 256], t: u8, h: u8, x: u32) {
     excess[usize::from(h)] = into.wrapping_add(x);
 }
 
-// A list within the bounds, and mostly a least-cost flow where there is a flow.
+// A list within the bounds, and mostly a least-cost flow where there is a flow: there is none where the balances do not sum to 0. The
+// residual capacity of code 2a + 1 is what arc a carries above its lower bound.
 pub fn guess(arcs: &[Arc], balances: &[i32], flow: &mut [u32])
     requires { let N = net_from balances.now arcs.now in
         (length arcs.now ≤ 512) × (length balances.now ≤ 64) × (length flow.old ≡ length arcs.now)
         × ((a : ℕ) → a < length arcs.now → low N a ≤ up N a) }
     ensures { InBounds (net_from balances.now arcs.now) flow.new }
 {
+    let mut excess = [0u32; 256];
+    if set_excess(balances, &mut excess) != 0 {
+        flow_clamp::write_within(arcs, &[0u32; 2048], flow);
+        return;
+    }
     let mut simplex = Simplex {
-        residual: [ResidualArc {
-            head: ROOT,
-            capacity: 0,
-            cost: 0,
-        }; 2048],
-        nodes: [TreeNode {
-            up: 0,
-            potential: 0,
-            below: u64::MAX,
-        }; 256],
+        head: [ROOT; 2048],
+        capacity: [0; 2048],
+        cost: [0; 2048],
+        up: [0; 256],
+        potential: [0; 256],
+        below: [u64::MAX; 256],
     };
-    simplex.optimise(arcs, balances);
-    flow_clamp::write_within(arcs, &simplex.residual, flow);
+    simplex.set_arcs(arcs, &mut excess);
+    simplex.initial_tree(&excess, arcs.len(), balances.len() as u8);
+    simplex.improve(arcs.len());
+    flow_clamp::write_within(arcs, &simplex.capacity, flow);
 }
