@@ -64,7 +64,6 @@ pub struct CheckedBook {
 pub struct Opening {
     pub players: u32,
     pub fee: u32,
-    pub used: usize,
 }
 
 // The first line that fails 13.

@@ -4,7 +4,7 @@ use mathlib.Core.Path.{◌≡◌, refl, ap, ◌∙◌}
 use mathlib.Core.List.{List}
 use native.Mathlib.Omega.{arith}
 use native.Mathlib.Nat.{sub_self}
-use lib.ListN.{length, drop}
+use lib.ListN.{length, length-drop, drop}
 use lib.Seq.{drop-drop}
 use Rattle.text_read.specs.Reader.{Parsed, fails, reads, Reader, then_read, ◌>>=◌, give, remaining, ReadAs}
 
@@ -15,6 +15,12 @@ pub record Ends (s t : List ℕ) : Type 0 where
 
 pub ends_all : (s : List ℕ) → Ends s s
 ends_all s = record { within = omega arith; is = rw sub_self }
+
+pub ends_drop : (s : List ℕ) (n : ℕ) → n ≤ length s → Ends s (drop n s)
+ends_drop s n h =
+    let l : length (drop n s) ≡ length s - n = length-drop n s in
+    let place : n ≡ length s - length (drop n s) = omega arith in
+    record { within = omega arith; is = ap (λ k. drop k s) place }
 
 pub ends_more : {s t u : List ℕ} → Ends s t → Ends t u → Ends s u
 ends_more {s} {t} {u} x y =
