@@ -9,14 +9,14 @@ loop-k-init c = order_begin _ _
 
 pub put_part-at-requires : goal.put_part-at-requires
 put_part-at-requires c = let h = c.loop-k-test.true in
-    (c.requires, omega arith, omega arith, rw (opened_yes _ _ c.if-i-eq0.true) at (order_room c.loop-k.invariant h (omega (arith, c.requires.few, order_length _ c.requires))))
+    (c.requires, omega arith, omega arith, rw (opened_yes c.args.way.now c.loop-k.k c.if-i-eq0.true) at (order_room c.loop-k.invariant h (omega (arith, c.requires.few, order_length _ c.requires))))
 
 pub loop-k-preserved : goal.loop-k-preserved
 loop-k-preserved c =
     let d = c.loop-k.invariant in
     let h = c.loop-k-test.true in
     elim c.if-i-eq0.branch [
-      | then-i-eq0 w ↦ rw (w.order-is, w.at-is) (order_more d h (rw (opened_yes _ _ w.if-i-eq0.true) w.put_part-at.ensures))
+      | then-i-eq0 w ↦ rw (w.order-is, w.at-is) (order_more d h (rw (opened_yes c.args.way.now c.loop-k.k w.if-i-eq0.true) w.put_part-at.ensures))
       | else-i-eq0 w ↦ rw (w.order-is, w.at-is) (order_same d h w.if-i-eq0.false)
     ]
 
