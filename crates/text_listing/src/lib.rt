@@ -1,6 +1,8 @@
 // The lines of a listing.
 #![tactic(auto)]
 
+ghost use Rattle.std.specs.Prelude.{◌≤◌, length};
+ghost use Rattle.laws.specs.Appended.{Appended};
 ghost use Rattle.text_write.specs.Writing.{HasRoom, Writes};
 ghost use Rattle.text_listing.specs.Lines.{spaced, way_line};
 ghost use Rattle.text_listing.specs.TextOfLine.{text_of_line};
@@ -30,6 +32,16 @@ pub fn put_line(writer: &mut Writer, line: Line)
         Line::NoWay => writer.text(b"(none)\n"),
         Line::Refused(number) => writer.row(&heads::REFUSED, number),
     }
+}
+
+// A line alone, at the front of a list; how long it is.
+pub fn put_alone(out: &mut [u8], line: Line) -> usize
+    requires { length (text_of_line line) ≤ length out.old }
+    ensures { Appended out.old 0 (text_of_line line) out.new result }
+{
+    let mut writer = Writer { out, at: 0 };
+    put_line(&mut writer, line);
+    writer.at
 }
 
 // A space and a number, for each number of the list.

@@ -10,6 +10,7 @@ ghost use Rattle.text_write.specs.Writing.{HasRoom, Writes};
 use text_read::heads;
 
 // A lent list of bytes, and the place behind what is written into it.
+#[derive(Drop)]
 pub struct Writer<'a> {
     pub out: &'a mut [u8],
     pub at: usize,
