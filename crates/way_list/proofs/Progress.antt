@@ -14,7 +14,7 @@ use Rattle.laws.specs.Equality.{same_list}
 use Rattle.laws.specs.Lexicographic.{◌<lex◌, lex_irrefl, lex_trans}
 use Rattle.laws.specs.Members.{first?, none_some}
 use Rattle.text_write.specs.declared.Writer.{Writer}
-use Rattle.text_write.specs.Writing.{HasRoom, Writes}
+use Rattle.text_write.specs.Writing.{HasRoomFor, Writes}
 use Rattle.text_write.proofs.Writing.{writes_none, writes_then}
 use Rattle.text_listing.specs.Lines.{end_line, more_line}
 use Rattle.book_form.specs.Book.{Book}
@@ -41,7 +41,7 @@ lines_more (v ∷ l) w = ap (λ r. line_of_way v ++ r) (lines_more l w) ∙ sym 
 apart : (b : Book) → Apart (λ (w : List ℕ). w) (full_ways b)
 apart b = ascending_apart ◌<lex◌ lex_irrefl lex_trans (full_ways b) (full_ways_ascending b)
 
-pub starts : (b : Book) (before : Writer) (o : Option (List ℕ)) → o ≡ first_way b → HasRoom before [] → ListedSoFar b before o before 0
+pub starts : (b : Book) (before : Writer) (o : Option (List ℕ)) → o ≡ first_way b → HasRoomFor before [] → ListedSoFar b before o before 0
 starts b before o e h = record { done = []; left = full_ways b; whole = refl; count = refl; stands = e; written = writes_none h }
 
 module _ (b : Book) (before now : Writer) (n : ℕ) where
