@@ -4,7 +4,7 @@ use Rattle.laws.specs.Appended.{Appended}
 use Rattle.text_write.specs.declared.Writer.{Writer}
 
 -- the list has room for a piece
-pub record HasRoom (w : Writer) (piece : List ℕ) : Type 0 where
+pub record HasRoomFor (w : Writer) (piece : List ℕ) : Type 0 where
   pub fits : w.at + length piece ≤ length w.out.now
 
 -- the piece is written, into the list that was lent

@@ -5,11 +5,12 @@ ghost use Rattle.std.specs.Prelude.{◌≡◌, [], ◌∷◌, ◌++◌, ◌+◌,
 ghost use Rattle.text_read.specs.Heads.{line_end};
 ghost use Rattle.text_write.specs.Decimal.{decimal};
 ghost use Rattle.text_write.specs.Fit.{fit};
-ghost use Rattle.text_write.specs.Writing.{HasRoom, Writes};
+ghost use Rattle.text_write.specs.Writing.{HasRoomFor, Writes};
 
 use text_read::heads;
 
 // A lent list of bytes, and the place behind what is written into it.
+#[derive(Drop)]
 pub struct Writer<'a> {
     pub out: &'a mut [u8],
     pub at: usize,
@@ -18,7 +19,7 @@ pub struct Writer<'a> {
 impl<'a> Writer<'a> {
     // The bytes of `head`.
     pub fn text(&mut self, head: &[u8])
-        requires { HasRoom self.old head.now }
+        requires { HasRoomFor self.old head.now }
         ensures { Writes self.old head.now self.new }
     {
         let end = self.at + head.len();
@@ -28,7 +29,7 @@ impl<'a> Writer<'a> {
 
     // A digit.
     fn digit(&mut self, d: u64)
-        requires { (d ≤ 9) × HasRoom self.old ((48 + d) ∷ []) }
+        requires { (d ≤ 9) × HasRoomFor self.old ((48 + d) ∷ []) }
         ensures { Writes self.old ((48 + d) ∷ []) self.new }
     {
         self.out[self.at] = b'0' + (d as u8);
@@ -37,7 +38,7 @@ impl<'a> Writer<'a> {
 
     // The digits of n.
     fn number(&mut self, n: u64)
-        requires { HasRoom self.old (decimal n) }
+        requires { HasRoomFor self.old (decimal n) }
         ensures { Writes self.old (decimal n) self.new }
     {
         if n < 10 {
@@ -50,7 +51,7 @@ impl<'a> Writer<'a> {
 
     // A text and a number.
     pub fn item(&mut self, head: &[u8], n: u64)
-        requires { HasRoom self.old (head.now ++ decimal n) }
+        requires { HasRoomFor self.old (head.now ++ decimal n) }
         ensures { Writes self.old (head.now ++ decimal n) self.new }
     {
         self.text(head);
@@ -59,7 +60,7 @@ impl<'a> Writer<'a> {
 
     // A text, a number and the end of the line.
     pub fn row(&mut self, head: &[u8], n: u64)
-        requires { HasRoom self.old (head.now ++ decimal n ++ line_end) }
+        requires { HasRoomFor self.old (head.now ++ decimal n ++ line_end) }
         ensures { Writes self.old (head.now ++ decimal n ++ line_end) self.new }
     {
         self.item(head, n);
