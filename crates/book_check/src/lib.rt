@@ -6,7 +6,7 @@ ghost use Rattle.book_form.specs.Book.{opening};
 ghost use Rattle.book_check.specs.Closing.{Closing};
 ghost use Rattle.book_check.specs.BookCheck.{ChecksBook};
 
-use book_form::{Answer, Checked, Opening, judge, refused};
+use book_form::{BookRefusal, CheckedBook, Opening, judge};
 use book_lines::entries::read_entries;
 use book_lines::moves::read_moves;
 use text_read::{heads, read_row, read_text};
@@ -63,16 +63,16 @@ fn closes(rest: &[u8]) -> bool
 }
 
 // Puts the questions 11 to 16 to a book.
-pub fn check(book: &[u8]) -> Checked
+pub fn check(book: &[u8]) -> Result<CheckedBook, BookRefusal>
     ensures { ChecksBook book.now result }
 {
     if 16384 < book.len() {
-        return refused(Answer::TooLong);
+        return Err(BookRefusal::TooLong);
     }
     let o = read_opening(book);
     let n1 = o.used;
     if n1 == 0 {
-        return refused(Answer::Malformed);
+        return Err(BookRefusal::Malformed);
     }
     let rest = &book[n1..];
     let m = read_moves(rest);
@@ -81,7 +81,7 @@ pub fn check(book: &[u8]) -> Checked
     let e = read_entries(rest, m.line, book.len());
     let n3 = e.used;
     if !closes(&rest[n3..]) {
-        return refused(Answer::Malformed);
+        return Err(BookRefusal::Malformed);
     }
-    judge(o, m, e)
+    judge(o, &m, &e)
 }

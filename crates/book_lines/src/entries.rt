@@ -1,8 +1,8 @@
-// The lines of entries: question 15, and the columns that they make.
+// The lines of entries: question 15, and the entries that they make.
 ghost use Rattle.std.specs.Prelude.{◌≡◌, ◌+◌, ◌≤◌, ◌<◌, length};
 ghost use Rattle.text_read.specs.Reader.{◌<|>◌, ReadsFront};
 ghost use Rattle.book_lines.specs.Lines.{short_form, long_form};
-ghost use Rattle.book_lines.specs.Passes.{numbers_of, no_entry, EntryRead, fair_line, put_in, EntriesRead};
+ghost use Rattle.book_lines.specs.Passes.{numbers_of, no_entry, EntryRead, fair_line, told, EntriesRead};
 
 use crate::verdict::{first_bad, is_instrument};
 use text_read::{heads, read_numbers, read_text, read_word};
@@ -30,22 +30,23 @@ struct EntryNumbers {
     used: usize,
 }
 
+// An entry of a book: `name` says where in the book its name begins, and `length` how many bytes it has.
 #[derive(Clone, Copy)]
-pub struct Columns {
-    pub arrives: [u32; 28],
-    pub leaves: [u32; 28],
-    pub starts: [u32; 28],
-    pub finishes: [u32; 28],
-    pub names: [usize; 28],
-    pub lengths: [usize; 28],
+pub struct BookEntry {
+    pub arrives: u32,
+    pub leaves: u32,
+    pub start: u32,
+    pub finish: u32,
+    pub name: usize,
+    pub length: usize,
 }
 
-// The columns of the first 28 entries; `count` is how many entries there are, and `bad` the first line that fails, or 0.
+// The first 28 entries; `count` is how many there are, and `bad` the first line that fails.
 #[derive(Clone, Copy)]
 pub struct Entries {
-    pub columns: Columns,
+    pub entries: [BookEntry; 28],
     pub count: usize,
-    pub bad: u32,
+    pub bad: Option<u32>,
     pub used: usize,
 }
 
@@ -134,19 +135,19 @@ fn is_fair(e: EntryLine) -> bool
         & (e.finish <= 1_000_000)
 }
 
-// Puts entry n of a book of `total` bytes into the columns.
-fn put_entry(columns: Columns, n: usize, total: usize, e: EntryLine) -> Columns
-    requires { (n < 28) × (e.left ≤ total) }
-    ensures { result ≡ put_in columns n total e }
+// The entry of a line, of a book of `total` bytes.
+fn told(total: usize, e: EntryLine) -> BookEntry
+    requires { e.left ≤ total }
+    ensures { result ≡ told total e }
 {
-    let mut c = columns;
-    c.arrives[n] = e.arrives;
-    c.leaves[n] = e.leaves;
-    c.starts[n] = e.start;
-    c.finishes[n] = e.finish;
-    c.names[n] = total - e.left;
-    c.lengths[n] = e.length;
-    c
+    BookEntry {
+        arrives: e.arrives,
+        leaves: e.leaves,
+        start: e.start,
+        finish: e.finish,
+        name: total - e.left,
+        length: e.length,
+    }
 }
 
 // The entries at the front of `book`, whose first line is `first`; the whole book has `total` bytes.
@@ -154,31 +155,32 @@ pub fn read_entries(book: &[u8], first: u32, total: usize) -> Entries
     requires { (1 ≤ first) × (first + length book.now < 4294967296) × (length book.now ≤ total) }
     ensures { EntriesRead book.now first total result }
 {
-    let mut columns = Columns {
-        arrives: [0u32; 28],
-        leaves: [0u32; 28],
-        starts: [0u32; 28],
-        finishes: [0u32; 28],
-        names: [0usize; 28],
-        lengths: [0usize; 28],
+    let blank = BookEntry {
+        arrives: 0,
+        leaves: 0,
+        start: 0,
+        finish: 0,
+        name: 0,
+        length: 0,
     };
+    let mut entries = [blank; 28];
     let mut count: usize = 0;
     let mut line = first;
-    let mut bad: u32 = 0;
+    let mut bad: Option<u32> = None;
     let mut rest = book;
     loop {
         let e = read_entry(rest);
         let used = e.used;
         if used == 0 {
             return Entries {
-                columns,
+                entries,
                 count,
                 bad,
                 used: book.len() - rest.len(),
             };
         }
         if count < 28 {
-            columns = put_entry(columns, count, total, e);
+            entries[count] = told(total, e);
         }
         bad = first_bad(bad, is_fair(e), line);
         count += 1;

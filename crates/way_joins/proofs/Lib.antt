@@ -1,3 +1,1 @@
-pub mod Counts
-mod Narrow
-mod Lookup
+pub mod Lookup

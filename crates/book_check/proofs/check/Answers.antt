@@ -19,13 +19,13 @@ unfolding book ◌>>◌
 opens s o r z = first _ _ (begin book _) r z
 
 pub returns-then-book-gt16384 : goal.returns-then-book-gt16384
-returns-then-book-gt16384 c = long_right c.args.book.now _ c.refused.ensures c.if-book-gt16384.true
+returns-then-book-gt16384 c = long_right c.args.book.now c.if-book-gt16384.true
 
 pub returns-then-n1-eq0 : goal.returns-then-n1-eq0
 unfolding book ◌>>◌
 returns-then-n1-eq0 c = let s = c.args.book.now in
     let e = parse_fails s (first_stops _ _ (begin book s) c.read_opening-o.ensures c.if-n1-eq0.true) in
-    form_right s _ c.refused-then-n1-eq0.ensures c.if-book-gt16384.false e
+    form_right s c.if-book-gt16384.false e
 
 pub returns-then-not-closes : goal.returns-then-not-closes
 returns-then-not-closes c =
@@ -37,7 +37,7 @@ returns-then-not-closes c =
     let listed = next _ _ moved (rw part_part at e.is) (rw part_part at e.within) in
     let closed = closing_part s c.read_opening-o.result.used c.read_moves-m.result.used c.read_entries-e.result.used _ c.closes.ensures in
     let unclosed = parse_open _ _ _ _ listed closed c.if-not-closes.true in
-    form_right s _ c.refused-then-not-closes.ensures c.if-book-gt16384.false unclosed
+    form_right s c.if-book-gt16384.false unclosed
 
 pub returns : goal.returns
 returns c =
@@ -55,10 +55,9 @@ returns c =
       entry_list = e.list;
       parsed = parse_closed _ _ _ _ listed closed c.if-not-closes.false;
       moves_bad = m.bad;
-      ticks = m.ticks;
-      costs = m.costs;
+      table_is = m.table_is;
       count = e.count;
       entries_bad = rw m.line at e.bad;
-      columns = e.columns;
+      entries_are = e.entries_are;
     } in
     rw c.judge.ensures (judged_right s o _ _ found c.if-book-gt16384.false)

@@ -1,0 +1,51 @@
+-- What a check hands back: the book that the bytes hold, or a refusal of them.
+use Prim.Native.Nat.{ℕ, zero, suc}
+use mathlib.Core.Path.{◌≡◌, refl, sym, ◌∙◌}
+use mathlib.Core.Option.{Option as Maybe, none, some}
+use mathlib.Core.List.{List}
+use native.Mathlib.Omega.{arith}
+use lib.ListN.{length}
+use Rattle.std.specs.Prelude.{Some, Ok, Err}
+use Rattle.std.proofs.lemmas.Option.{none-some, same_Some}
+use Rattle.book_form.specs.declared.CheckedBook.{CheckedBook}
+use Rattle.book_form.specs.declared.BookRefusal.{BookRefusal}
+use Rattle.book_form.specs.declared.BookRefusal.TheVariants.{TooLong, Malformed, BadHeader, BadMove, BadEntry, TooMany}
+use Rattle.book_form.specs.Book.{Book, parse}
+use Rattle.book_form.specs.Checked.{checked_of, checked_unless}
+use Rattle.book_form.specs.Questions.{book_refusal, question_of}
+use Rattle.book_form.specs.Held.{Holds, Held}
+use Rattle.book_form.proofs.WithinLimits.{within_limits}
+use Rattle.book_check.specs.BookCheck.{ChecksBook}
+
+-- c is the checked book of the bytes s, which are accepted
+pub record Accepted (s : List ℕ) (c : CheckedBook) : Type 0 where
+  pub ok : book_refusal s ≡ 0
+  pub book : Book
+  pub parsed : parse s ≡ some book
+  pub is : c ≡ checked_of (length s) book
+
+pub accepted : {s : List ℕ} {c : CheckedBook} → ChecksBook s (Ok c) → Accepted s c
+accepted {s} {c} h = go (book_refusal s) refl (parse s) refl h.book
+  where
+    go : (q : ℕ) → book_refusal s ≡ q → (o : Maybe Book) → parse s ≡ o → Some c ≡ checked_unless q (length s) o → Accepted s c
+    go zero a (some b) p e = record { ok = a; book = b; parsed = p; is = same_Some _ _ e }
+    go zero a none p e = absurd (none-some c (sym e))
+    go (suc q) a o p e = absurd (none-some c (sym e))
+
+pub accepted_holds : {s : List ℕ} {c : CheckedBook} (a : Accepted s c) → Holds a.book c
+accepted_holds {s} a = record { limits = within_limits s a.book a.ok a.parsed; total = length s; is = a.is }
+
+pub accepted_held : {s : List ℕ} {c : CheckedBook} → Accepted s c → Held c
+accepted_held a = record { book = a.book; holds = accepted_holds a }
+
+-- each refusal has a number
+some_question : (e : BookRefusal) → ¬ (question_of e ≡ 0)
+some_question TooLong z = omega arith
+some_question Malformed z = omega arith
+some_question (BadHeader k) z = omega arith
+some_question (BadMove k) z = omega arith
+some_question (BadEntry k) z = omega arith
+some_question TooMany z = omega arith
+
+pub refused_lem : {s : List ℕ} {e : BookRefusal} → ChecksBook s (Err e) → ¬ (book_refusal s ≡ 0)
+refused_lem {s} {e} h z = some_question e (h.question ∙ z)
