@@ -50,7 +50,7 @@ pub record Inside (lo hi z : ℤ) : Type 0 where
   pub from : lo ≤ℤ z
   pub to : z ≤ℤ hi
 
-is_inside : (lo hi z : ℤ) → inside lo hi z ≡ true → Inside lo hi z
+pub is_inside : (lo hi z : ℤ) → inside lo hi z ≡ true → Inside lo hi z
 is_inside lo hi z e = let (a, b) = and_true (le_z lo z) (le_z z hi) e in record { from = le_z_true lo z a; to = le_z_true z hi b }
 
 nat_abs_le : (x y : ℤ) → pos 0 ≤ℤ x → x ≤ℤ y → nat_abs x ≤ nat_abs y

@@ -81,14 +81,14 @@ by_places l d n e =
     ext_get_or d (map (λ k. get_or l k d) (range_with_len 0 n)) l (length-map-range_with_len (λ k. get_or l k d) 0 n ∙ sym e)
     (λ i h. get_or-map-range_with_len (λ k. get_or l k d) 0 n i i d (omega (arith, length-map-range_with_len (λ k. get_or l k d) 0 n)) (omega arith))
 
--- a test of every member, by what a run over them found
+-- a test of every member, by their places, and by what a run over them found
+pub all_by_places : {A : Type 0} (p : A → Bool) (l : List A) → ((k : ℕ) (d : A) → k < length l → p (get_or l k d) ≡ true) → all p l ≡ true
+all_by_places p [] f = refl
+all_by_places p (a ∷ l) f = true_and (p a) (all p l) (f 0 a (omega arith)) (all_by_places p l (λ k d q. f (suc k) d (omega arith)))
+
 pub all_by_run : {A : Type 0} (p : A → Bool) (m l : List A) → m ≡ l → (r : Bool)
     → MatchBool r (AllWithin (λ a. p a ≡ true) m 0 (length m)) ((k : ℕ) × (k < length m) × HoldsAt (λ a. p a ≡ false) m k) → r ≡ all p l
-all_by_run p m l q true h = sym (rw (← q) (holds m (λ k d. h k d (omega arith))))
-  where
-    holds : (m : List _) → ((k : ℕ) (d : _) → k < length m → p (get_or m k d) ≡ true) → all p m ≡ true
-    holds [] f = refl
-    holds (a ∷ m) f = true_and (p a) (all p m) (f 0 a (omega arith)) (holds m (λ k d q. f (suc k) d (omega arith)))
+all_by_run p m l q true h = sym (rw (← q) (all_by_places p m (λ k d. h k d (omega arith))))
 all_by_run p m l q false h = sym (rw (← q) (fails m h.0 h.1 h.2))
   where
     fails : (m : List _) (k : ℕ) → k < length m → ((d : _) → p (get_or m k d) ≡ false) → all p m ≡ false
