@@ -12,7 +12,7 @@ use mir.Syntax.{Width}
 use mir.Val.{SFits, hbits}
 use Rattle.laws.specs.Range.{Bounded, bounded_neg}
 use Rattle.net_theory.proofs.Codes.{even_code, even_arc, odd_code, odd_arc}
-use Rattle.net_theory.proofs.Lent.{lent_arcs, lent_below, lent_tail, lent_head, lent_low, lent_up, lent_cost}
+use Rattle.net_theory.proofs.ArcReads.{arcs_lent, arc_at}
 use Rattle.net_model.specs.Network.{Net, arcs}
 use Rattle.net_model.specs.Residual.{codes}
 use Rattle.net_model.specs.Struct.{net_from, blank_arc}
@@ -38,29 +38,29 @@ module _ (held : List Arc) (f : List ℕ) where
   module _ (ok : Relaxable N f) (a : ℕ) (k : a < length held) where
     pub arc_limits : ArcLimits a
     arc_limits =
-        let h : a < arcs N = lent_below [] held a k in
+        let h : a < arcs N = (arc_at [] held a k).inside in
         record {
-          tail_in = omega (arith, lent_tail [] held a k, ok.ends.tail_in a h);
-          head_in = omega (arith, lent_head [] held a k, ok.ends.head_in a h);
-          cost_small = rw (lent_cost [] held a k) (ok.costs.cost_small a h);
+          tail_in = omega (arith, (arc_at [] held a k).tail_is, ok.ends.tail_in a h);
+          head_in = omega (arith, (arc_at [] held a k).head_is, ok.ends.head_in a h);
+          cost_small = rw (arc_at [] held a k).cost_is (ok.costs.cost_small a h);
           flow_small = omega (arith, ok.within.below a h, ok.bounds.ups_small a h);
-          low_small = omega (arith, lent_low [] held a k, ok.within.above a h, ok.within.below a h, ok.bounds.ups_small a h);
+          low_small = omega (arith, (arc_at [] held a k).low_is, ok.within.above a h, ok.within.below a h, ok.bounds.ups_small a h);
         }
 
     pub first_code : a + a < codes N
-    first_code = omega (arith, lent_arcs [] held)
+    first_code = omega (arith, arcs_lent [] held)
 
     -- the code reads the tail t, the head h and the cost x
     module _ (δ t h : ℕ) (x : ℤ) (t-is : t ≡ (here a).tail) (h-is : h ≡ (here a).head) (x-is : x ≡ (here a).cost) (s : State) where
       pub forward : (on : Bool) (r : State) → on ≡ leb (get_or f a 0 + δ) (here a).up → r ≡ set_if (on && lt_z (label s t +ℤ x) (label s h)) h (label s t +ℤ x) (a + a) s → r ≡ relaxed N f δ (a + a) s
-      forward on r e q = q ∙ rw (e, t-is, h-is, x-is, lent_up [] held a k, lent_tail [] held a k, lent_head [] held a k, lent_cost [] held a k, even_code a, even_arc a)
+      forward on r e q = q ∙ rw (e, t-is, h-is, x-is, (arc_at [] held a k).up_is, (arc_at [] held a k).tail_is, (arc_at [] held a k).head_is, (arc_at [] held a k).cost_is, even_code a, even_arc a)
 
       pub backward : (S : State) → S ≡ relaxed N f δ (a + a) s → (on : Bool) (y : ℤ) (c : ℕ) (r : State) → on ≡ leb ((here a).low + δ) (get_or f a 0) → y ≡ neg_ℤ (here a).cost → c ≡ suc (a + a)
           → r ≡ set_if (on && lt_z (label S h +ℤ y) (label S t)) t (label S h +ℤ y) c S → r ≡ relaxed N f δ (suc (a + a)) (relaxed N f δ (a + a) s)
       backward S g on y c r e i o q = q ∙ one ∙ ap (λ T. relaxed N f δ (suc (a + a)) T) g
         where
           one : set_if (on && lt_z (label S h +ℤ y) (label S t)) t (label S h +ℤ y) c S ≡ relaxed N f δ (suc (a + a)) S
-          one = rw (e, t-is, h-is, i, o, lent_low [] held a k, lent_tail [] held a k, lent_head [] held a k, lent_cost [] held a k, odd_code a, odd_arc a)
+          one = rw (e, t-is, h-is, i, o, (arc_at [] held a k).low_is, (arc_at [] held a k).tail_is, (arc_at [] held a k).head_is, (arc_at [] held a k).cost_is, odd_code a, odd_arc a)
 
       -- what a sum of 64 bits asks of labels of at most B, before the first code and before the second
       module _ (w : Width) (B : ℕ) (z : Sized B s.labels s.preds) (l : B + 2000000 < 2 ^ hbits w) where
@@ -83,13 +83,13 @@ module _ (held : List Arc) (f : List ℕ) where
     pub turn_sized : (s : State) → Sized 64512000000 s.labels s.preds → (a : ℕ) → a < length held → (d : List ℤ) (p : List ℕ) (last : ℕ) → state d p last ≡ relaxed_all N f δ (a + a) s → Sized 65536000000 d p
     turn_sized s z a k d p last e =
         subst (λ (S : State). Sized 65536000000 S.labels S.preds) (sym e)
-        (sized_more (omega (arith, ok.ends.few, lent_arcs [] held)) (all_sized N f ok δ 64512000000 s (a + a) (omega (arith, lent_arcs [] held)) z))
+        (sized_more (omega (arith, ok.ends.few, arcs_lent [] held)) (all_sized N f ok δ 64512000000 s (a + a) (omega (arith, arcs_lent [] held)) z))
 
     -- a round that ends with no node
     pub round_none : (d : List ℤ) (p : List ℕ) → length d ≡ 64 → (a : ℕ) → a ≡ length held → (d' : List ℤ) (p' : List ℕ) (last : ℕ) → state d' p' last ≡ relaxed_all N f δ (a + a) (state d p 64) → 64 ≤ last
         → state d' p' 64 ≡ relaxed_all N f δ (codes N) (state d p 64)
     round_none d p l a k d' p' last e h =
-        let all : a + a ≡ codes N = omega (arith, lent_arcs [] held) in
+        let all : a + a ≡ codes N = omega (arith, arcs_lent [] held) in
         let e' : state d' p' last ≡ relaxed_all N f δ (codes N) (state d p 64) = rw all at e in
         let none : last ≡ 64 = omega (arith, left_node N f ok δ d p l d' p' last e') in
         rw none at e'

@@ -2,7 +2,7 @@
 // the bounds: whoever needs a flow tests it.
 #![tactic(auto)]
 
-ghost use Rattle.std.specs.Prelude.{◌≡◌, ℕ, ◌<◌, ◌≤◌, length, IfSome};
+ghost use Rattle.std.specs.Prelude.{◌≡◌, ℕ, ◌<◌, ◌≤◌, length};
 ghost use Rattle.net_model.specs.Network.{low, up};
 ghost use Rattle.net_model.specs.Struct.{net_from};
 ghost use Rattle.net_theory.specs.Bounds.{InBounds};
@@ -10,8 +10,8 @@ ghost use Rattle.net_theory.specs.Bounds.{InBounds};
 use net_model::Arc;
 
 // The nodes of the tree are those of the network and the root; arc m + v joins node v to the root. Code 2a is the arc a from its tail to
-// its head, 2a + 1 the same arc back. There are at most 2 × (512 + 64) codes; the arrays have the next power of two of places, so that
-// `% 2048` keeps any number within them. The arrays of nodes have 256 places, so that any u8 reads them.
+// its head, 2a + 1 the same arc back. There are at most 2 × (512 + 64) codes; the arrays have the next power of two of places. The
+// arrays of nodes have 256 places, so that any u8 reads them.
 const ROOT: u8 = 64;
 
 // More than any walk costs that comes to no node twice.
@@ -23,6 +23,22 @@ const MOST_UP: usize = 65;
 // The most pivots: some 1,300 are enough for a random network of 512 arcs.
 const MOST_PIVOTS: usize = 20000;
 
+// A code, by its number.
+#[derive(Clone, Copy)]
+struct Code {
+    number: usize,
+    ghost in_range: { number < 2048 },
+}
+
+impl Code {
+    // The same arc the other way.
+    fn back(self) -> Code {
+        Code {
+            number: self.number ^ 1,
+        }
+    }
+}
+
 // A path up the tree to the node `join`: `amount` can go along it, which is the residual capacity of the arc above the node `leave` or,
 // if there is none, the most that was asked for.
 #[derive(Clone, Copy)]
@@ -32,53 +48,48 @@ struct PathToJoin {
     amount: u32,
 }
 
-// The cycle of an entering arc: its sides meet at `join`, and `amount` can go round it. The arc above `leave` leaves the tree, or the
-// entering arc itself if there is none; the code `into` of the entering arc leads into the subtree of `leave`.
+// The arc above the node `leave`, and the code of the entering arc, which leads into the subtree of `leave`.
+#[derive(Clone, Copy)]
+struct Leaving {
+    leave: u8,
+    into: Code,
+}
+
+// The cycle of an entering arc: its sides meet at `join`, and `amount` can go round it. If nothing leaves the tree, the entering arc
+// itself does.
 #[derive(Clone, Copy)]
 struct Cycle {
     join: u8,
     amount: u32,
-    into: usize,
-    leave: Option<u8>,
-}
-
-// The code of the same arc the other way.
-fn back(code: usize) -> usize
-    ensures { result < 2048 }
-{
-    (code ^ 1) % 2048
-}
-
-// The least node of a set that is not empty.
-fn least_of(set: u64) -> usize
-    ensures { result < 64 }
-{
-    (set.trailing_zeros() % 64) as usize
+    leaving: Option<Leaving>,
 }
 
 // The codes and the tree. Of a code: its head, its residual capacity, its cost. Of a node: the code from it to the node above it, its
-// potential, and its subtree as a set of nodes. An array for each, since arrays of structs were slower by a seventh to a third.
+// potential, and its subtree as a set of nodes. Each has an array of its own: with an array of structs all took a seventh to a third longer.
 #[derive(Drop)]
 struct Simplex {
     head: [u8; 2048],
     capacity: [u32; 2048],
     cost: [i32; 2048],
-    up: [usize; 256],
+    up: [Code; 256],
     potential: [i32; 256],
     below: [u64; 256],
 }
 
 impl Simplex {
     // The code from x to the node above it.
-    fn up_from(&self, x: u8) -> usize
-        ensures { result < 2048 }
-    {
-        self.up[usize::from(x)] % 2048
+    fn up_from(&self, x: u8) -> Code {
+        self.up[usize::from(x)]
+    }
+
+    // The node to which the code leads.
+    fn head_of(&self, code: Code) -> u8 {
+        self.head[code.number]
     }
 
     // The node above x.
     fn parent_of(&self, x: u8) -> u8 {
-        self.head[self.up_from(x)]
+        self.head_of(self.up_from(x))
     }
 
     // The subtree of x, as a set of nodes.
@@ -97,23 +108,18 @@ impl Simplex {
     }
 
     // The cost of the code at the potentials.
-    fn reduced(&self, code: usize) -> i32
-        requires { code < 2048 }
-    {
-        let from = self.potential_of(self.head[back(code)]);
-        let to = self.potential_of(self.head[code]);
-        from.wrapping_add(self.cost[code]).wrapping_sub(to)
+    fn reduced(&self, code: Code) -> i32 {
+        let from = self.potential_of(self.head_of(code.back()));
+        let to = self.potential_of(self.head_of(code));
+        from.wrapping_add(self.cost[code.number]).wrapping_sub(to)
     }
 
     // Sends d along the code.
-    fn push(&mut self, code: usize, d: u32)
-        requires { code < 2048 }
-    {
-        let left = self.capacity[code].wrapping_sub(d);
-        self.capacity[code] = left;
-        let other = back(code);
-        let more = self.capacity[other].wrapping_add(d);
-        self.capacity[other] = more;
+    fn push(&mut self, code: Code, d: u32) {
+        let i = code.number;
+        let j = code.back().number;
+        self.capacity[i] = self.capacity[i].wrapping_sub(d);
+        self.capacity[j] = self.capacity[j].wrapping_add(d);
     }
 
     // Sends d from x up to `join`.
@@ -130,12 +136,9 @@ impl Simplex {
 
     // What can go by the arc above x, upwards or down.
     fn tree_capacity(&self, x: u8, upwards: bool) -> u32 {
-        let code = self.up_from(x);
-        if upwards {
-            self.capacity[code]
-        } else {
-            self.capacity[back(code)]
-        }
+        let up = self.up_from(x);
+        let code = if upwards { up } else { up.back() };
+        self.capacity[code.number]
     }
 
     // From `from` up to the join, the first node whose subtree has `to`, for at most `most`. Of the arcs with the least capacity, the last
@@ -163,43 +166,34 @@ impl Simplex {
     }
 
     // The cycle of e when it enters the tree.
-    fn cycle_of(&self, e: usize) -> Cycle
-        requires { e < 2048 }
-        ensures { result.into < 2048 }
-    {
-        let other = back(e);
-        let u = self.head[other];
-        let w = self.head[e];
-        let down = self.path_to_join(u, w, false, self.capacity[e]);
+    fn cycle_of(&self, e: Code) -> Cycle {
+        let u = self.head_of(e.back());
+        let w = self.head_of(e);
+        let down = self.path_to_join(u, w, false, self.capacity[e.number]);
         let above = self.path_to_join(w, u, true, down.amount);
-        let join = above.join;
-        let amount = above.amount;
-        if above.leave.is_none() {
-            return Cycle {
-                join,
-                amount,
-                into: other,
-                leave: down.leave,
-            };
-        }
+        let leaving = match (above.leave, down.leave) {
+            (Some(leave), _) => Some(Leaving { leave, into: e }),
+            (None, Some(leave)) => Some(Leaving {
+                leave,
+                into: e.back(),
+            }),
+            (None, None) => None,
+        };
         Cycle {
-            join,
-            amount,
-            into: e,
-            leave: above.leave,
+            join: above.join,
+            amount: above.amount,
+            leaving,
         }
     }
 
     // Sends d round the cycle of e, whose sides meet at `join`.
-    fn push_round(&mut self, e: usize, join: u8, d: u32)
-        requires { e < 2048 }
-    {
+    fn push_round(&mut self, e: Code, join: u8, d: u32) {
         if d == 0 {
             return;
         }
         self.push(e, d);
-        self.push_up(self.head[back(e)], join, d.wrapping_neg());
-        self.push_up(self.head[e], join, d);
+        self.push_up(self.head_of(e.back()), join, d.wrapping_neg());
+        self.push_up(self.head_of(e), join, d);
     }
 
     // Takes `part` out of the subtree of x where it is in it, and puts it in where it is not; and so on up to `join`.
@@ -209,30 +203,27 @@ impl Simplex {
             if x == join {
                 return;
             }
-            let subtree = self.subtree_of(x);
-            self.below[usize::from(x)] = subtree ^ part;
+            self.below[usize::from(x)] = self.subtree_of(x) ^ part;
             x = self.parent_of(x);
         }
     }
 
     // Joins x to its parent by the code `via`, with its new subtree.
-    fn set_parent(&mut self, x: u8, via: usize, subtree: u64) {
+    fn set_parent(&mut self, x: u8, via: Code, subtree: u64) {
         self.up[usize::from(x)] = via;
         self.below[usize::from(x)] = subtree;
     }
 
     // Joins the subtree `part` of `leave` to the rest of the tree by the code e that leads into it: the arcs from there up to `leave` are
     // reversed.
-    fn update_parents(&mut self, leave: u8, part: u64, e: usize)
-        requires { e < 2048 }
-    {
+    fn update_parents(&mut self, leave: u8, part: u64, e: Code) {
         let mut code = e;
         let mut rest = part;
         for _ in 0..MOST_UP {
-            let x = self.head[code];
+            let x = self.head_of(code);
             let next = self.up_from(x);
             let s = self.subtree_of(x);
-            self.set_parent(x, back(code), rest);
+            self.set_parent(x, code.back(), rest);
             if x == leave {
                 return;
             }
@@ -245,53 +236,46 @@ impl Simplex {
     fn shift_potentials(&mut self, part: u64, d: i32) {
         let mut rest = part;
         while rest != 0 {
-            let v = least_of(rest);
-            let y = self.potential[v];
-            self.potential[v] = y.wrapping_add(d);
+            let v = rest.trailing_zeros() as usize;
+            self.potential[v] = self.potential[v].wrapping_add(d);
             rest &= rest - 1;
         }
     }
 
     // Brings the arc of e into the tree in the place of the arc above `leave`; e leads into the subtree of `leave`.
-    fn exchange(&mut self, e: usize, leave: u8, join: u8)
-        requires { e < 2048 }
-    {
+    fn exchange(&mut self, e: Code, leave: u8, join: u8) {
         let part = self.subtree_of(leave);
         self.change_subtrees(self.parent_of(leave), join, part);
-        self.change_subtrees(self.head[back(e)], join, part);
+        self.change_subtrees(self.head_of(e.back()), join, part);
         self.update_parents(leave, part, e);
         self.shift_potentials(part, self.reduced(e));
     }
 
     // Lets e enter: sends round its cycle what can go, and takes an arc that is then full or empty out of the tree.
-    fn pivot(&mut self, e: usize)
-        requires { e < 2048 }
-    {
+    fn pivot(&mut self, e: Code) {
         let cycle = self.cycle_of(e);
         self.push_round(e, cycle.join, cycle.amount);
-        if let Some(leave) = cycle.leave {
-            self.exchange(cycle.into, leave, cycle.join);
+        if let Some(Leaving { leave, into }) = cycle.leaving {
+            self.exchange(into, leave, cycle.join);
         }
     }
 
     // The code of arc a that may enter: the cost falls by it.
-    fn eligible(&self, a: usize) -> Option<usize>
+    fn eligible(&self, a: usize) -> Option<Code>
         requires { a < 1024 }
-        ensures { IfSome result (λ code. code < 2048) }
     {
-        let reduced = self.reduced(2 * a);
-        let code = if reduced < 0 { 2 * a } else { 2 * a + 1 };
-        if self.capacity[code] != 0 && reduced != 0 {
-            Some(code)
+        let reduced = self.reduced(Code { number: 2 * a });
+        let number = if reduced < 0 { 2 * a } else { 2 * a + 1 };
+        if self.capacity[number] != 0 && reduced != 0 {
+            Some(Code { number })
         } else {
             None
         }
     }
 
     // The code that enters: that of the first arc that has one, from `from` on and then from 0.
-    fn entering(&self, from: usize, m: usize) -> Option<usize>
+    fn entering(&self, from: usize, m: usize) -> Option<Code>
         requires { (from ≤ 1024) × (m ≤ 512) }
-        ensures { IfSome result (λ code. code < 2048) }
     {
         (from..m)
             .find_map(|a| self.eligible(a))
@@ -308,7 +292,7 @@ impl Simplex {
                 return;
             };
             self.pivot(e);
-            from = e / 2 + 1;
+            from = e.number / 2 + 1;
         }
     }
 
@@ -328,14 +312,13 @@ impl Simplex {
 
     // The artificial arc by which the root is the parent of v, with the code given: it carries the excess x, from v to the root or from
     // the root to v.
-    fn set_artificial_arc(&mut self, x: u32, v: u8, code: usize)
-        requires { (v < 64) × (code < 2048) }
+    fn set_artificial_arc(&mut self, x: u32, v: u8, code: Code)
+        requires { v < 64 }
     {
         let into = x.cast_signed() < 0;
-        let other = back(code);
-        self.head[other] = v;
-        self.capacity[code] = if into { x.wrapping_neg() } else { !x };
-        self.capacity[other] = x;
+        self.head[code.back().number] = v;
+        self.capacity[code.number] = if into { x.wrapping_neg() } else { !x };
+        self.capacity[code.back().number] = x;
         self.up[usize::from(v)] = code;
         self.potential[usize::from(v)] = if into { BIG } else { -BIG };
         self.below[usize::from(v)] = 1 << v;
@@ -346,7 +329,10 @@ impl Simplex {
         requires { (m ≤ 512) × (n ≤ 64) }
     {
         for v in 0..n {
-            self.set_artificial_arc(excess[usize::from(v)], v, 2 * (m + usize::from(v)));
+            let code = Code {
+                number: 2 * (m + usize::from(v)),
+            };
+            self.set_artificial_arc(excess[usize::from(v)], v, code);
         }
     }
 }
@@ -363,10 +349,10 @@ fn set_excess(balances: &[i32], excess: &mut [u32; 256]) -> u32 {
 
 // Takes x from node t to node h.
 fn carry(excess: &mut [u32; 256], t: u8, h: u8, x: u32) {
-    let out = excess[usize::from(t)];
-    excess[usize::from(t)] = out.wrapping_sub(x);
-    let into = excess[usize::from(h)];
-    excess[usize::from(h)] = into.wrapping_add(x);
+    let out = usize::from(t);
+    let into = usize::from(h);
+    excess[out] = excess[out].wrapping_sub(x);
+    excess[into] = excess[into].wrapping_add(x);
 }
 
 // A list within the bounds, and mostly a least-cost flow where there is a flow: there is none where the balances do not sum to 0. The
@@ -386,7 +372,7 @@ pub fn guess(arcs: &[Arc], balances: &[i32], flow: &mut [u32])
         head: [ROOT; 2048],
         capacity: [0; 2048],
         cost: [0; 2048],
-        up: [0; 256],
+        up: [Code { number: 0 }; 256],
         potential: [0; 256],
         below: [u64::MAX; 256],
     };

@@ -16,7 +16,7 @@ use Rattle.laws.specs.Sum.{sum}
 use Rattle.net_model.specs.Network.{Net, nodes, arcs, tail, head, balance, on}
 use Rattle.net_model.specs.Struct.{net_from, blank_arc}
 use Rattle.net_model.specs.declared.Arc.{Arc}
-use Rattle.net_theory.proofs.Lent.{lent_below, lent_tail, lent_head}
+use Rattle.net_theory.proofs.ArcReads.{arc_at}
 use Rattle.flow_test.specs.Excess.{SmallNumbers, Excesses}
 
 at_bounded : (u v B : ℕ) (x : ℤ) → Bounded B x → Bounded B (at u v x)
@@ -101,20 +101,20 @@ module _ (bs : List ℤ) (held : List Arc) (f : List ℕ) (s : SmallNumbers (net
   N = net_from bs held
 
   t-is : t ≡ tail N a
-  t-is = arc ∙ lent_tail bs held a k
+  t-is = arc ∙ (arc_at bs held a k).tail_is
 
   pub asks_first : (t < length l) × SFits w64 (get_or l t (pos 0) +ℤ x)
-  asks_first = rw (t-is, x-is) (fits_first N f s a (lent_below bs held a k) l T)
+  asks_first = rw (t-is, x-is) (fits_first N f s a ((arc_at bs held a k).inside) l T)
 
   module _ (l1 : List ℤ) (e1 : l1 ≡ set l t (get_or l t (pos 0) +ℤ x)) (h : ℕ) (end : h ≡ (get_or held a blank_arc).head) (y : ℤ) (y-is : y ≡ on f a) where
     h-is : h ≡ head N a
-    h-is = end ∙ lent_head bs held a k
+    h-is = end ∙ (arc_at bs held a k).head_is
 
     e1' : l1 ≡ set l (tail N a) (get_or l (tail N a) (pos 0) +ℤ neg_ℤ (on f a))
     e1' = rw (t-is, x-is) at e1
 
     pub asks_second : (h < length l1) × SFits w64 (get_or l1 h (pos 0) +ℤ y)
-    asks_second = rw (h-is, y-is, e1') (fits_second N f s a (lent_below bs held a k) l T)
+    asks_second = rw (h-is, y-is, e1') (fits_second N f s a ((arc_at bs held a k).inside) l T)
 
     pub both_done : (l2 : List ℤ) → l2 ≡ set l1 h (get_or l1 h (pos 0) +ℤ y) → ExcessTurn N f (suc a) l2
-    both_done l2 e2 = rw (e2, h-is, y-is, e1') (turn_step N f s a (lent_below bs held a k) l T)
+    both_done l2 e2 = rw (e2, h-is, y-is, e1') (turn_step N f s a ((arc_at bs held a k).inside) l T)

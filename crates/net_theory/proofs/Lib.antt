@@ -1,4 +1,3 @@
-pub mod Lent
 pub mod Limits
 pub mod Codes
 pub mod ResidualCapacity
