@@ -122,16 +122,23 @@ impl Simplex {
         self.capacity[j] = self.capacity[j].wrapping_add(d);
     }
 
-    // Sends d from x up to `join`.
-    fn push_up(&mut self, from: u8, join: u8, d: u32) {
+    // Takes the step at each node from `from` up to the one below `join`.
+    fn walk_up<F: Fn(&mut Simplex, u8)>(&mut self, from: u8, join: u8, step: F)
+        requires { F.IsAlwaysCallable step }
+    {
         let mut x = from;
         for _ in 0..MOST_UP {
             if x == join {
                 return;
             }
-            self.push(self.up_from(x), d);
+            step(self, x);
             x = self.parent_of(x);
         }
+    }
+
+    // Sends d from `from` up to `join`.
+    fn push_up(&mut self, from: u8, join: u8, d: u32) {
+        self.walk_up(from, join, |simplex, x| simplex.push(simplex.up_from(x), d));
     }
 
     // What can go by the arc above x, upwards or down.
@@ -196,16 +203,11 @@ impl Simplex {
         self.push_up(self.head_of(e), join, d);
     }
 
-    // Takes `part` out of the subtree of x where it is in it, and puts it in where it is not; and so on up to `join`.
+    // From `from` up to `join`, takes `part` out of the subtrees that have it, and puts it into those that have it not.
     fn change_subtrees(&mut self, from: u8, join: u8, part: u64) {
-        let mut x = from;
-        for _ in 0..MOST_UP {
-            if x == join {
-                return;
-            }
-            self.below[usize::from(x)] = self.subtree_of(x) ^ part;
-            x = self.parent_of(x);
-        }
+        self.walk_up(from, join, |simplex, x| {
+            simplex.below[usize::from(x)] = simplex.subtree_of(x) ^ part;
+        });
     }
 
     // Joins x to its parent by the code `via`, with its new subtree.
