@@ -37,9 +37,6 @@ pub record Filled (c : CheckedBook) (w : List ℕ) (x : List JoinTicks) (k : ℕ
   pub each : (b : Book) → Holds b c → x ≡ filled (ticks_before b w) (numbers b) 28 no_ticks k
   pub some : k ≤ length w
 
-pub fill_none : (c : CheckedBook) (w : List ℕ) → Filled c w (replicate 28 no_ticks) 0
-fill_none c w = record { each = λ b h. refl; some = omega arith }
-
 module _ {c : CheckedBook} {w : List ℕ} (has : HasWay c w) where
   pub held : Held c
   held = record { book = has.book; holds = has.holds }
