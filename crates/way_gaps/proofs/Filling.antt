@@ -1,9 +1,9 @@
 -- The array filled, entry after entry in book order; and what it holds of an entry.
-use mathlib.Core.Path.{◌≡◌, refl, ap, sym, ◌∙◌}
+use mathlib.Core.Path.{◌≡◌, ap, sym, ◌∙◌}
 use mathlib.Core.List.{List, map, map-id}
 use Prim.Native.Nat.{ℕ, ◌+◌, ◌-◌, ◌≤◌, ◌<◌}
 use native.Mathlib.Omega.{arith}
-use lib.ListN.{length, get_or, set, replicate}
+use lib.ListN.{length, get_or, set}
 use Rattle.laws.specs.Rows.{from_length, row_at}
 use Rattle.laws.specs.Padded.{padded_at, filled, filled_more, filled_all}
 use Rattle.book_form.specs.Book.{Book}
