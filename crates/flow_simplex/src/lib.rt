@@ -55,8 +55,8 @@ struct Leaving {
     into: Code,
 }
 
-// The cycle of an entering arc: its sides meet at `join`, and `amount` can go round it. If nothing leaves the tree, the entering arc
-// itself does.
+// The cycle of an entering arc: its sides meet at `join`, and `amount` can go round it. `leaving` is what leaves the tree, none if that is
+// the entering arc itself.
 #[derive(Clone, Copy)]
 struct Cycle {
     join: u8,
@@ -80,6 +80,21 @@ struct Simplex {
 }
 
 impl Simplex {
+    // So many arcs, before they are set, and no tree.
+    fn new(arcs: usize) -> Simplex
+        requires { arcs ≤ 512 }
+    {
+        Simplex {
+            arcs,
+            head: [ROOT; 2048],
+            capacity: [0; 2048],
+            cost: [0; 2048],
+            up: [Code { number: 0 }; 256],
+            potential: [0; 256],
+            below: [u64::MAX; 256],
+        }
+    }
+
     // The code from x to the node above it.
     fn up_from(&self, x: u8) -> Code {
         self.up[usize::from(x)]
@@ -371,15 +386,7 @@ pub fn guess(arcs: &[Arc], balances: &[i32], flow: &mut [u32])
         flow_clamp::write_within(arcs, &[0u32; 2048], flow);
         return;
     }
-    let mut simplex = Simplex {
-        arcs: arcs.len(),
-        head: [ROOT; 2048],
-        capacity: [0; 2048],
-        cost: [0; 2048],
-        up: [Code { number: 0 }; 256],
-        potential: [0; 256],
-        below: [u64::MAX; 256],
-    };
+    let mut simplex = Simplex::new(arcs.len());
     simplex.set_arcs(arcs, &mut excess);
     simplex.initial_tree(&excess, balances.len() as u8);
     simplex.improve();
