@@ -9,7 +9,7 @@ ghost use Rattle.net_theory.specs.Bounds.{InBounds};
 
 use net_model::Arc;
 
-// The nodes of the tree are those of the network and the root; arc m + v joins node v to the root. Code 2a is the arc a from its tail to
+// The nodes of the tree are those of the network and the root; after the network's m arcs, arc m + v joins node v to the root. Code 2a is the arc a from its tail to
 // its head, 2a + 1 the same arc back. There are at most 2 × (512 + 64) codes; the arrays have the next power of two of places. The
 // arrays of nodes have 256 places, so that any u8 reads them.
 const ROOT: u8 = 64;
@@ -55,8 +55,8 @@ struct Leaving {
     into: Code,
 }
 
-// The cycle of an entering arc: its sides meet at `join`, and `amount` can go round it. If nothing leaves the tree, the entering arc
-// itself does.
+// The cycle of an entering arc: its sides meet at `join`, and `amount` can go round it. `leaving` is what leaves the tree, none if that is
+// the entering arc itself.
 #[derive(Clone, Copy)]
 struct Cycle {
     join: u8,
@@ -64,19 +64,37 @@ struct Cycle {
     leaving: Option<Leaving>,
 }
 
-// The codes and the tree. Of a code: its head, its residual capacity, its cost. Of a node: the code from it to the node above it, its
-// potential, and its subtree as a set of nodes. Each has an array of its own: with an array of structs all took a seventh to a third longer.
+// The codes of so many arcs and of the nodes, and the tree. Of a code: its head, its residual capacity, its cost. Of a node: the code from it
+// to the node above it, its potential, and its subtree as a set of nodes. Each has an array of its own: with arrays of structs a guess took a
+// seventh to a third longer.
 #[derive(Drop)]
 struct Simplex {
+    arcs: usize,
     head: [u8; 2048],
     capacity: [u32; 2048],
     cost: [i32; 2048],
     up: [Code; 256],
     potential: [i32; 256],
     below: [u64; 256],
+    ghost few: { arcs ≤ 512 },
 }
 
 impl Simplex {
+    // So many arcs, before they are set, and no tree.
+    fn new(arcs: usize) -> Simplex
+        requires { arcs ≤ 512 }
+    {
+        Simplex {
+            arcs,
+            head: [ROOT; 2048],
+            capacity: [0; 2048],
+            cost: [0; 2048],
+            up: [Code { number: 0 }; 256],
+            potential: [0; 256],
+            below: [u64::MAX; 256],
+        }
+    }
+
     // The code from x to the node above it.
     fn up_from(&self, x: u8) -> Code {
         self.up[usize::from(x)]
@@ -276,21 +294,19 @@ impl Simplex {
     }
 
     // The code that enters: that of the first arc that has one, from `from` on and then from 0.
-    fn entering(&self, from: usize, m: usize) -> Option<Code>
-        requires { (from ≤ 1024) × (m ≤ 512) }
+    fn entering(&self, from: usize) -> Option<Code>
+        requires { from ≤ 1024 }
     {
-        (from..m)
+        (from..self.arcs)
             .find_map(|a| self.eligible(a))
             .or_else(|| (0..from).find_map(|a| self.eligible(a)))
     }
 
     // Pivots until no arc may enter.
-    fn improve(&mut self, m: usize)
-        requires { m ≤ 512 }
-    {
+    fn improve(&mut self) {
         let mut from = 0;
         for _ in 0..MOST_PIVOTS {
-            let Some(e) = self.entering(from, m) else {
+            let Some(e) = self.entering(from) else {
                 return;
             };
             self.pivot(e);
@@ -327,12 +343,12 @@ impl Simplex {
     }
 
     // The initial tree: the root is the parent of every node.
-    fn initial_tree(&mut self, excess: &[u32; 256], m: usize, n: u8)
-        requires { (m ≤ 512) × (n ≤ 64) }
+    fn initial_tree(&mut self, excess: &[u32; 256], n: u8)
+        requires { n ≤ 64 }
     {
         for v in 0..n {
             let code = Code {
-                number: 2 * (m + usize::from(v)),
+                number: 2 * (self.arcs + usize::from(v)),
             };
             self.set_artificial_arc(excess[usize::from(v)], v, code);
         }
@@ -370,16 +386,9 @@ pub fn guess(arcs: &[Arc], balances: &[i32], flow: &mut [u32])
         flow_clamp::write_within(arcs, &[0u32; 2048], flow);
         return;
     }
-    let mut simplex = Simplex {
-        head: [ROOT; 2048],
-        capacity: [0; 2048],
-        cost: [0; 2048],
-        up: [Code { number: 0 }; 256],
-        potential: [0; 256],
-        below: [u64::MAX; 256],
-    };
+    let mut simplex = Simplex::new(arcs.len());
     simplex.set_arcs(arcs, &mut excess);
-    simplex.initial_tree(&excess, arcs.len(), balances.len() as u8);
-    simplex.improve(arcs.len());
+    simplex.initial_tree(&excess, balances.len() as u8);
+    simplex.improve();
     flow_clamp::write_within(arcs, &simplex.capacity, flow);
 }
