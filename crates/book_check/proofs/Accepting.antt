@@ -1,18 +1,15 @@
--- What a check hands back: the book that the bytes hold, or a refusal of them.
+-- What a check hands back of accepted bytes: the book that they hold.
 use Prim.Native.Nat.{ℕ, zero, suc}
-use mathlib.Core.Path.{◌≡◌, refl, sym, ◌∙◌}
+use mathlib.Core.Path.{◌≡◌, refl, sym}
 use mathlib.Core.Option.{Option as Maybe, none, some}
 use mathlib.Core.List.{List}
-use native.Mathlib.Omega.{arith}
 use lib.ListN.{length}
-use Rattle.std.specs.Prelude.{Some, Ok, Err}
+use Rattle.std.specs.Prelude.{Some, Ok}
 use Rattle.std.proofs.lemmas.Option.{none-some, same_Some}
 use Rattle.book_form.specs.declared.CheckedBook.{CheckedBook}
-use Rattle.book_form.specs.declared.BookRefusal.{BookRefusal}
-use Rattle.book_form.specs.declared.BookRefusal.TheVariants.{TooLong, Malformed, BadHeader, BadMove, BadEntry, TooMany}
 use Rattle.book_form.specs.Book.{Book, parse}
 use Rattle.book_form.specs.Checked.{checked_of, checked_unless}
-use Rattle.book_form.specs.Questions.{book_refusal, question_of}
+use Rattle.book_form.specs.Questions.{book_refusal}
 use Rattle.book_form.specs.Held.{Holds, Held}
 use Rattle.book_form.proofs.WithinLimits.{within_limits}
 use Rattle.book_check.specs.BookCheck.{ChecksBook}
@@ -37,15 +34,3 @@ accepted_holds {s} a = record { limits = within_limits s a.book a.ok a.parsed; t
 
 pub accepted_held : {s : List ℕ} {c : CheckedBook} → Accepted s c → Held c
 accepted_held a = record { book = a.book; holds = accepted_holds a }
-
--- each refusal has a number
-some_question : (e : BookRefusal) → ¬ (question_of e ≡ 0)
-some_question TooLong z = omega arith
-some_question Malformed z = omega arith
-some_question (BadHeader k) z = omega arith
-some_question (BadMove k) z = omega arith
-some_question (BadEntry k) z = omega arith
-some_question TooMany z = omega arith
-
-pub refused_lem : {s : List ℕ} {e : BookRefusal} → ChecksBook s (Err e) → ¬ (book_refusal s ≡ 0)
-refused_lem {s} {e} h z = some_question e (h.question ∙ z)

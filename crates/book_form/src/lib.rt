@@ -49,7 +49,8 @@ impl BookRefusal {
 }
 
 // A book that passed its questions. What the line of the move from instrument a to b says is at (a - 1) * 16 + (b - 1) of `moves`. An entry
-// begins on the instrument that `arrives` has, and ends on that of `leaves`.
+// begins on the instrument that `arrives` has, and ends on that of `leaves`. That it holds a book within its limits is a clause (`Held`) and no
+// ghost field: `check` and `judge` promise equations of checked books, and a ghost field would be a part of what is equal.
 #[derive(Clone, Copy)]
 pub struct CheckedBook {
     pub players: u32,

@@ -3,7 +3,7 @@ use Prim.Native.Nat.{ℕ, ◌+◌, ◌/◌, ◌%◌, ◌<◌, ◌≤◌}
 use mathlib.Core.Path.{◌≡◌, refl, sym, ap, ◌∙◌}
 use mathlib.Core.Bool.{Bool, true, false, cond, ◌&&◌, false≢true}
 use mathlib.Core.Option.{Option as Maybe, none, some}
-use Rattle.std.specs.Prelude.{Option, Some, None, is_none, option_map}
+use Rattle.std.specs.Prelude.{Some, None, is_none, option_map}
 use Rattle.laws.specs.Optional.{optional}
 use mathlib.Core.List.{List, [], ◌∷◌, ◌++◌}
 use native.Mathlib.Omega.{arith}
@@ -12,11 +12,10 @@ use lib.Seq.{get_or-set_same, get_or-set_other, ext_get_or}
 use lib.Dec.{leb, eqb}
 use borrow.Author.Tests.{leb-true, eqb-true, eqb-false, eq-eqb}
 use Rattle.book_lines.specs.declared.moves.Move.{Move}
-use Rattle.book_lines.specs.declared.moves.PairMove.{PairMove}
 use Rattle.book_lines.specs.Questions.{is_instrument, fair_move, move_of, none?, stands}
 use Rattle.laws.specs.Tabulate.{tabulate_length, tabulate_at, tabulate_same}
 use Rattle.book_lines.specs.Columns.{place, said, cell, table}
-use Rattle.book_lines.specs.Passes.{place_of, may_stand, Put}
+use Rattle.book_lines.specs.Passes.{place_of, may_stand}
 use Rattle.laws.specs.Tests.{and_true}
 
 -- a and b are instruments
@@ -128,11 +127,3 @@ may_stand_is ms m true e = rw (e, table_at _ _ (fair_parts m e).pair ms) (go (mo
 
 pub may_stand_stands : (ms : List Move) (m : Move) → may_stand (table ms) m ≡ stands ms m
 may_stand_stands ms m = may_stand_is ms m (fair_move m) refl
-
--- a move that is put, and one that is not
-module _ (m : Move) (t : List (Option PairMove)) where
-  pub put_yes : may_stand t m ≡ true → Put m t (set t (place_of m) (Some (said m))) true
-  put_yes e = record { is = sym e; table_is = rw e }
-
-  pub put_no : may_stand t m ≡ false → Put m t t false
-  put_no e = record { is = sym e; table_is = rw e }

@@ -6,7 +6,7 @@ ghost use Rattle.book_lines.specs.Passes.{first_bad_after};
 pub fn is_instrument(a: u32) -> bool
     ensures { result ≡ is_instrument a }
 {
-    (1 <= a) & (a <= 16)
+    (1..=16).contains(&a)
 }
 
 // With one line more: `bad` is the first line that failed before it, if any.

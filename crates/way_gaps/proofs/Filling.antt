@@ -1,9 +1,9 @@
 -- The array filled, entry after entry in book order; and what it holds of an entry.
-use mathlib.Core.Path.{◌≡◌, refl, ap, sym, ◌∙◌}
+use mathlib.Core.Path.{◌≡◌, ap, sym, ◌∙◌}
 use mathlib.Core.List.{List, map, map-id}
 use Prim.Native.Nat.{ℕ, ◌+◌, ◌-◌, ◌≤◌, ◌<◌}
 use native.Mathlib.Omega.{arith}
-use lib.ListN.{length, get_or, set, replicate}
+use lib.ListN.{length, get_or, set}
 use Rattle.laws.specs.Rows.{from_length, row_at}
 use Rattle.laws.specs.Padded.{padded_at, filled, filled_more, filled_all}
 use Rattle.book_form.specs.Book.{Book}
@@ -36,9 +36,6 @@ module _ (b : Book) (w : List ℕ) (x : List JoinTicks) (d : JoinTicksOf b w x) 
 pub record Filled (c : CheckedBook) (w : List ℕ) (x : List JoinTicks) (k : ℕ) : Type 0 where
   pub each : (b : Book) → Holds b c → x ≡ filled (ticks_before b w) (numbers b) 28 no_ticks k
   pub some : k ≤ length w
-
-pub fill_none : (c : CheckedBook) (w : List ℕ) → Filled c w (replicate 28 no_ticks) 0
-fill_none c w = record { each = λ b h. refl; some = omega arith }
 
 module _ {c : CheckedBook} {w : List ℕ} (has : HasWay c w) where
   pub held : Held c
