@@ -1,25 +1,24 @@
 -- A fixed text, a number and a word, at the front of the bytes.
 use Prim.Native.Nat.{ℕ, suc, ◌+◌, ◌*◌, ◌-◌, ◌^◌, ◌<◌, ◌≤◌}
 use mathlib.Core.Path.{◌≡◌, refl, sym, ap, ◌∙◌}
-use mathlib.Core.List.{List, [], ◌∷◌}
-use mathlib.Core.Bool.{Bool, true, false, ◌&&◌}
+use mathlib.Core.List.{List, [], ◌∷◌, ◌++◌}
+use mathlib.Core.Bool.{Bool, true, false, ◌&&◌, false≢true}
 use native.Mathlib.Omega.{arith}
 use native.Mathlib.Numerals.{add-one}
 use native.Mathlib.Nat.{pow-suc, lt_of_lt_of_le, pow-le-pow_right}
-use lib.ListN.{length, length-take, length-drop, take, drop, get_or, drop_of_length-le}
+use lib.ListN.{length, length-take, length-drop, take, drop, get_or}
 use lib.Dec.{eqb, leb}
+use lib.Seq.{take-suc, length-take-le}
 use lib.Pointwise.{pointwise}
 use denote.Bor.{Bor}
-use borrow.Author.Tests.{leb-true}
-use Rattle.std.specs.List.{All, prefix_len}
+use borrow.Author.Tests.{le-leb, lt-leb, leb-true, leb-false}
+use Rattle.std.specs.List.{prefix_len}
 use Rattle.std.specs.Option.{MatchOption}
 use Rattle.std.proofs.Common.{Option, Some, None}
-use Rattle.std.proofs.lemmas.List.{get_or-take}
 use Rattle.std.proofs.lemmas.List.Folds.{length-prefix_len}
-use Rattle.std.proofs.lemmas.List.Sums.{prefix_len-le-length, prefix_len_passes}
+use Rattle.std.proofs.lemmas.List.Sums.{prefix_len-le-length, prefix_len_passes, prefix_len_stops}
 use Rattle.text_read.specs.Reader.{Parsed, fails, reads, then_read, ◌>>=◌, ◌>>◌, give, guard, begins, text, front, run, digit, plain, value_from, number, short, word_byte, word, ReadAs, ReadsFront}
 use Rattle.laws.specs.Tests.{and_true}
-use Rattle.laws.specs.Suffix.{drop_step}
 
 -- what is read of the first n bytes
 pub read_of : {A : Type 0} {s : List ℕ} {p : Parsed A} {a : A} (n : ℕ) → 0 < n → n ≤ length s → p ≡ reads a (drop n s) → ReadAs s p a (drop n s)
@@ -58,12 +57,6 @@ front_length test s = ap length (front_is test s) ∙ length-prefix_len test s
 
 pub take_front : (test : ℕ → Bool) (s : List ℕ) → take (length (front test s)) s ≡ front test s
 take_front test s = rw (front_length test s) (sym (front_is test s))
-
--- those bytes pass it
-pub front_passes : (test : ℕ → Bool) (s : List ℕ) {n : ℕ} → n ≡ prefix_len test s → All (λ b. test b ≡ true) (take n s)
-front_passes test s {n} e k d h =
-    let here : k < prefix_len test s = omega (arith, h, e, length-take {A = ℕ}) in
-    rw (get_or-take n s k d (omega (arith, here, e))) (prefix_len_passes test s k d here)
 
 -- a run of bytes that is judged as a whole: a number, a word
 module _ {B : Type 0} (test : ℕ → Bool) (passes : List ℕ → Bool) (f : List ℕ → B) (s : List ℕ) {n : ℕ} (e : n ≡ prefix_len test s) where
@@ -105,18 +98,74 @@ module _ (s : List ℕ) {n : ℕ} where
 pub digit_range : (b : ℕ) → digit b ≡ true → (48 ≤ b) × (b ≤ 57)
 digit_range b e = let x = and_true (leb 48 b) (leb b 57) e in (leb-true 48 b x.0, leb-true b 57 x.1)
 
-module _ (ds : List ℕ) (v i : ℕ) where
-  pub value_more : i < length ds → value_from v (drop i ds) ≡ value_from (v * 10 + (get_or ds i 0 - 48)) (drop (i + 1) ds)
-  unfolding value_from
-  value_more h = rw (drop_step ds i h)
+-- What the loop of `read_number` knows after i digits of the value v.
+pub record Digits (s : List ℕ) (v i : ℕ) : Type 0 where
+  pub within : i ≤ prefix_len digit s
+  pub few : i ≤ 8
+  pub small : v < 10 ^ i
+  pub value : value_from 0 (take i s) ≡ v
 
-  pub value_all : length ds ≤ i → value_from v (drop i ds) ≡ v
-  unfolding value_from
-  value_all h = rw (drop_of_length-le ds h)
+pub digits_none : (s : List ℕ) → Digits s 0 0
+unfolding value_from
+digits_none s = record { within = omega arith; few = omega arith; small = omega arith; value = refl }
+
+value_more : (a : ℕ) (ds : List ℕ) (d : ℕ) → value_from a (ds ++ (d ∷ [])) ≡ value_from a ds * 10 + (d - 48)
+unfolding value_from
+value_more a [] d = refl
+value_more a (x ∷ ds) d = value_more (a * 10 + (x - 48)) ds d
+
+module _ {s : List ℕ} {v i : ℕ} (d : Digits s v i) where
+  pub digits_more : i < length s → digit (get_or s i 0) ≡ true → i < 8 → Digits s (v * 10 + (get_or s i 0 - 48)) (i + 1)
+  digits_more h e n =
+      let r = digit_range (get_or s i 0) e in
+      record {
+        within = go (leb (prefix_len digit s) i) refl;
+        few = omega arith;
+        small = rw (add-one, pow-suc) (omega (arith, d.small, r));
+        value = rw (add-one, take-suc s i 0 h, value_more, d.value);
+      }
+    where
+      go : (x : Bool) → leb (prefix_len digit s) i ≡ x → i + 1 ≤ prefix_len digit s
+      go true q =
+          let at : i ≡ prefix_len digit s = omega (arith, d.within, leb-true (prefix_len digit s) i q) in
+          let stop = prefix_len_stops digit s 0 (rw at at h) in
+          absurd (false≢true (sym (rw (← at) at stop) ∙ e))
+      go false q = omega (arith, leb-false (prefix_len digit s) i q)
 
   -- what the next digit has room for
-  pub value_room : v < 10 ^ i → i < length ds → length ds ≤ 7 → v < 1000000
-  value_room h k few = lt_of_lt_of_le h (pow-le-pow_right {n = 10} (omega arith) {i = i} {j = 6} (omega arith))
+  pub digits_room : i < 8 → v < 10000000
+  digits_room n = lt_of_lt_of_le d.small (pow-le-pow_right {n = 10} (omega arith) {i = i} {j = 7} (omega arith))
 
-  pub value_small : v < 10 ^ i → {d : ℕ} → d < 10 → v * 10 + d < 10 ^ (i + 1)
-  value_small h k = rw (add-one, pow-suc) (omega arith)
+  -- no digit follows
+  pub digits_stop : i < length s → digit (get_or s i 0) ≡ false → i ≡ prefix_len digit s
+  digits_stop h e = go (leb (prefix_len digit s) i) refl
+    where
+      go : (x : Bool) → leb (prefix_len digit s) i ≡ x → i ≡ prefix_len digit s
+      go true q = omega (arith, d.within, leb-true (prefix_len digit s) i q)
+      go false q = absurd (false≢true (sym e ∙ prefix_len_passes digit s i 0 (leb-false (prefix_len digit s) i q)))
+
+  pub digits_all : length s ≤ i → i ≡ prefix_len digit s
+  digits_all h = omega (arith, d.within, prefix_len-le-length digit s)
+
+  -- all digits are passed, or more than a number has
+  module _ (ended : i < 8 → i ≡ prefix_len digit s) where
+    taken : length (take i s) ≡ i
+    taken = length-take-le i s (omega (arith, d.within, prefix_len-le-length digit s))
+
+    pub number_read : plain (take i s) ≡ true → ReadAs s (number s) v (drop i s)
+    number_read q =
+        let some_few = (and_true (leb 1 (length (take i s)) && leb (length (take i s)) 7) _ q).0 in
+        let few = leb-true (length (take i s)) 7 (and_true (leb 1 (length (take i s))) (leb (length (take i s)) 7) some_few).1 in
+        rw (d.value) at (number_stands s (ended (omega (arith, few, taken))) q)
+
+    pub number_none : plain (take i s) ≡ false → number s ≡ fails
+    number_none q = go (leb 8 i) refl
+      where
+        long : (ds : List ℕ) → 7 < length ds → plain ds ≡ false
+        long ds h = rw (le-leb 1 (length ds) (omega arith), lt-leb (length ds) 7 h)
+
+        go : (x : Bool) → leb 8 i ≡ x → number s ≡ fails
+        go true k =
+            let l = length-take-le (prefix_len digit s) s (prefix_len-le-length digit s) in
+            number_fails s {n = prefix_len digit s} refl (long (take (prefix_len digit s) s) (omega (arith, l, d.within, leb-true 8 i k)))
+        go false k = number_fails s (ended (leb-false 8 i k)) q

@@ -63,9 +63,6 @@ run test s = reads (front test s) (drop (length (front test s)) s)
 abbrev pub digit : ℕ → Bool
 digit b = leb 48 b && leb b 57
 
-abbrev pub IsDigit : ℕ → Type 0
-IsDigit b = digit b ≡ true
-
 abbrev pub letter : ℕ → Bool
 letter b = leb 97 b && leb b 122
 

@@ -3,9 +3,9 @@
 
 pub mod heads;
 
-ghost use Rattle.std.specs.Prelude.{◌≡◌, ◌<◌, ◌≤◌, length};
-ghost use Rattle.std.specs.List.{All, prefix_len};
-ghost use Rattle.text_read.specs.Reader.{digit, IsDigit, plain, value_from, short, word_byte, text, number, word, numbers, row, ReadsFront};
+ghost use Rattle.std.specs.Prelude.{◌≡◌, ◌<◌, length};
+ghost use Rattle.std.specs.List.{prefix_len};
+ghost use Rattle.text_read.specs.Reader.{plain, short, word_byte, text, number, word, numbers, row, ReadsFront};
 
 // What follows the bytes of `head`.
 pub fn read_text<'a>(rest: &'a [u8], head: &[u8]) -> Option<&'a [u8]>
@@ -21,32 +21,25 @@ fn is_plain(digits: &[u8]) -> bool
     1 <= digits.len() && digits.len() <= 7 && (digits.len() <= 1 || digits[0] != b'0')
 }
 
-fn value_of(digits: &[u8]) -> u32
-    requires few { length digits.now ≤ 7 }
-    requires all { All IsDigit digits.now }
-    ensures { result ≡ value_from 0 digits.now }
-{
-    let mut value: u32 = 0;
-    for digit in digits {
-        value = value * 10 + u32::from(*digit - b'0');
-    }
-    value
-}
-
-// How many digits stand in front.
-fn count_digits(rest: &[u8]) -> usize
-    ensures { result ≡ prefix_len digit rest.now }
-{
-    rest.iter().take_while(|b| b.is_ascii_digit()).count()
-}
-
-// A number of 1 to 7 digits without a needless leading 0.
+// A number of 1 to 7 digits without a needless leading 0. One pass reads the digits and their value: a pass for each was slower.
 fn read_number(rest: &[u8]) -> Option<(u32, &[u8])>
     ensures { ReadsFront rest.now (number rest.now) result (λ r. r.0) (λ r. r.1.now) }
 {
-    let (digits, after) = rest.split_at(count_digits(rest));
+    let mut value: u32 = 0;
+    let mut length = 0;
+    for b in rest {
+        if !b.is_ascii_digit() {
+            break;
+        }
+        if length == 8 {
+            break;
+        }
+        value = value * 10 + u32::from(*b - b'0');
+        length += 1;
+    }
+    let (digits, after) = rest.split_at(length);
     if is_plain(digits) {
-        Some((value_of(digits), after))
+        Some((value, after))
     } else {
         None
     }
