@@ -34,8 +34,8 @@ first-ways-requires c =
     let begun : Enumerates gone.book c.start.result = let p = gone in (c.start.ensures.each p.book p.holds).enumerates in
     record { book = gone.book; enumerates = begun }
 
-pub put_alone-requires-2 : goal.put_alone-requires-2
-put_alone-requires-2 c = omega (arith, c.requires, none_size)
+pub put_alone-requires-then-not-on_item : goal.put_alone-requires-then-not-on_item
+put_alone-requires-then-not-on_item c = omega (arith, c.requires, none_size)
 
 pub returns-then-not-on_item : goal.returns-then-not-on_item
 returns-then-not-on_item c =
@@ -46,7 +46,7 @@ returns-then-not-on_item c =
     let w = c.first-ways.result in
     let off = sym c.on_item.ensures ∙ c.if-not-on_item.true in
     writes_none _ _ _ _ p.ok p.book p.is
-    (sym on-first.way_is ∙ ap (map_option (way_of p.book)) (no_item_by_test w.flows.place (state_flow w.flows) off)) c.put_alone-2.ensures
+    (sym on-first.way_is ∙ ap (map_option (way_of p.book)) (no_item_by_test w.flows.place (state_flow w.flows) off)) c.put_alone-then-not-on_item.ensures
 
 pub list-requires : goal.list-requires
 list-requires c =
