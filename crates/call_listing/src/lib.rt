@@ -6,6 +6,7 @@ ghost use Rattle.way_list.specs.Room.{listing_room};
 ghost use Rattle.call_listing.specs.Listing.{Printed, BookListing, WritesListing};
 
 use call_reply::Reply;
+use text_listing::Line;
 
 // A text that is written, so many bytes, and the code and the line of the reply.
 #[derive(Clone, Copy)]
@@ -33,7 +34,7 @@ fn write_listing(book: &[u8], out: &mut [u8]) -> Written
     let number = admitted.number;
     if number != 0 {
         return Written {
-            len: text_listing::put_refused(out, 0, number as u64),
+            len: text_listing::put_alone(out, Line::Refused(number as u64)),
             code: number,
             line: admitted.line,
         };
@@ -44,7 +45,7 @@ fn write_listing(book: &[u8], out: &mut [u8]) -> Written
     let place = flows.place;
     if !call_reply::on_item(place) {
         return Written {
-            len: text_listing::put_none(out, 0),
+            len: text_listing::put_alone(out, Line::NoWay),
             code: 100,
             line: 0,
         };

@@ -1,4 +1,4 @@
-// The parts of a way.
+// The parts of a way. A way is the list that the C interface lends: the predecessor of each entry, and 0 where it opens a part.
 #![tactic(auto)]
 
 ghost use Rattle.std.specs.Prelude.{◌≡◌, ◌+◌, ◌≤◌, length};
@@ -32,7 +32,7 @@ fn put_part(way: &[u32], order: &mut [u32], at: usize, j: u32) -> usize
     k
 }
 
-// The entries of a way, part by part, each part in playing order.
+// The entries of a way, part by part, each part in playing order; 0 in the places behind the last.
 pub fn playing_order(way: &[u32]) -> [u32; 28]
     requires { Acyclic way.now }
     ensures { result ≡ padded 28 0 (playing_order way.now) }

@@ -15,13 +15,13 @@ use Rattle.call_way_bytes.proofs.Admitting.{Admitted, admitted}
 use Rattle.call_listing.proofs.Texts.{refusal_few, writes_refused, writes_none, writes_ways}
 use Rattle.call_listing.proofs.write_listing.Goals as goal
 
-pub put_refused-requires : goal.put_refused-requires
-put_refused-requires c = let k = c.admit_book-admitted.result.number in
+pub put_alone-requires : goal.put_alone-requires
+put_alone-requires c = let k = c.admit_book-admitted.result.number in
     let few : k < 100 = omega (arith, c.admit_book-admitted.ensures.number_is, refusal_few c.args.book.now) in
     omega (arith, c.requires, refused_size k few)
 
 pub returns-then-number-ne0 : goal.returns-then-number-ne0
-returns-then-number-ne0 c = writes_refused _ _ _ _ _ c.admit_book-admitted.ensures c.if-number-ne0.true c.put_refused.ensures
+returns-then-number-ne0 c = writes_refused _ _ _ _ _ c.admit_book-admitted.ensures c.if-number-ne0.true c.put_alone.ensures
 
 pub start-requires : goal.start-requires
 start-requires c =
@@ -34,8 +34,8 @@ first-ways-requires c =
     let begun : Enumerates gone.book c.start.result = let p = gone in (c.start.ensures.each p.book p.holds).enumerates in
     record { book = gone.book; enumerates = begun }
 
-pub put_none-requires : goal.put_none-requires
-put_none-requires c = omega (arith, c.requires, none_size)
+pub put_alone-requires-then-not-on_item : goal.put_alone-requires-then-not-on_item
+put_alone-requires-then-not-on_item c = omega (arith, c.requires, none_size)
 
 pub returns-then-not-on_item : goal.returns-then-not-on_item
 returns-then-not-on_item c =
@@ -46,7 +46,7 @@ returns-then-not-on_item c =
     let w = c.first-ways.result in
     let off = sym c.on_item.ensures ∙ c.if-not-on_item.true in
     writes_none _ _ _ _ p.ok p.book p.is
-    (sym on-first.way_is ∙ ap (map_option (way_of p.book)) (no_item_by_test w.flows.place (state_flow w.flows) off)) c.put_none.ensures
+    (sym on-first.way_is ∙ ap (map_option (way_of p.book)) (no_item_by_test w.flows.place (state_flow w.flows) off)) c.put_alone-then-not-on_item.ensures
 
 pub list-requires : goal.list-requires
 list-requires c =
