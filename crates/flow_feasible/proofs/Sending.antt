@@ -1,15 +1,15 @@
 -- Sending to one node, and to the first that can take some.
-use mathlib.Core.Path.{◌≡◌, refl, sym, ap, subst, ◌∙◌}
+use mathlib.Core.Path.{◌≡◌, refl, ap, subst, ◌∙◌}
 use mathlib.Core.Logic.{◌⊎◌, inl, inr}
-use mathlib.Core.List.{List, []}
+use mathlib.Core.List.{List}
 use mathlib.Core.Bool.{Bool, true, false, ◌&&◌}
 use Prim.Native.Nat.{ℕ, ◌+◌, ◌≤◌, ◌<◌, min}
 use native.Mathlib.Omega.{arith}
 use native.Mathlib.Decide.{ℕ_discrete}
 use lib.ListN.{length, get_or}
 use lib.IntN.{ℤ, pos, neg_ℤ}
-use lib.Signed.{◌≤ℤ◌, ◌<ℤ◌, le_z}
-use Rattle.laws.specs.Integers.{le_z_true, le_z_or_lt}
+use lib.Signed.{◌≤ℤ◌, ◌<ℤ◌}
+use Rattle.laws.specs.Integers.{le_z_or_lt}
 use Rattle.laws.specs.Linear.{lin, given3}
 use Rattle.laws.specs.Members.{Every, every_map}
 use Rattle.laws.specs.Tests.{and_true, and_stops_second}
@@ -27,18 +27,6 @@ use Rattle.flow_push.proofs.Pushing.{pushable_bounds}
 use Rattle.flow_feasible.specs.Sending.{Capped, SentTo, SendsTo, CutOff, Sends}
 
 -- ---- to one node
-module _ (N : Net) (f : List ℕ) (free : List Bool) (s t most : ℕ) (x : ℤ) (b : InBounds N f) where
-  pub sends_to_none : (z : ℤ) → z ≡ x → le_z (pos 0) z ≡ true → SendsTo N f f free s t most x false
-  sends_to_none z e h = record {
-    within = b;
-    done = λ q. absurd (let w : ◌≡◌ {A = ℕ} 0 1 = cc in omega arith);
-    same = λ _. refl;
-    stuck = λ _ k. absurd (given3 e (le_z_true (pos 0) z h) k (simp lin (omega arith)));
-  }
-
-  pub sends_to_blocked : Blocked N f free s t 0 → SendsTo N f f free s t most x false
-  sends_to_blocked k = record { within = b; done = λ q. absurd (let w : ◌≡◌ {A = ℕ} 0 1 = cc in omega arith); same = λ _. refl; stuck = λ _ _. k }
-
 walk_able : (N : Net) (f : List ℕ) (free : List Bool) (s t from δ : ℕ) (cs : List ℕ) → InBounds N f → FreeWalk N f free s t from cs → Every (λ c. δ ≤ residual_capacity N f c) cs → Pushable N δ f cs
 walk_able N f free s t from δ cs b p h = record {
   within = b;
@@ -110,11 +98,4 @@ sends_yes N f f' free excess s t most x y r l e d c q a = record {
   within = a.within;
   done = λ _. record { to = t; to_in = l; most = most; most_ok = rw (← d) c.at_most; sent = subst (λ (z : ℤ). SentTo N f f' s t most z) e (a.done q) };
   stuck = λ z. absurd (let w : ◌≡◌ {A = ℕ} 0 1 = cc in omega arith);
-}
-
-pub sends_no : (N : Net) (f : List ℕ) (free : List Bool) (excess : List ℤ) (s t : ℕ) → InBounds N f → length excess ≤ t → CutOff N f free excess s t → Sends N f f free excess s false
-sends_no N f free excess s t b h k = record {
-  within = b;
-  done = λ z. absurd (let w : ◌≡◌ {A = ℕ} 0 1 = cc in omega arith);
-  stuck = λ _. record { inside = k.inside; has = k.has; none = λ v l m. k.none v (omega arith) m; shut = k.shut };
 }

@@ -8,14 +8,14 @@ use native.Mathlib.Omega.{arith}
 use lib.ListN.{length, get_elem?}
 use borrow.Author.Tests.{lt-leb, le-leb}
 use Rattle.std.specs.Prelude.{None, Some}
-use Rattle.laws.specs.Members.{first_at, none_some}
+use Rattle.laws.specs.Members.{none_some}
 use Rattle.laws.specs.After.{after_at}
 use Rattle.laws.specs.Ascending.{ascending_apart}
 use Rattle.laws.specs.Count.{exactly, more, counted}
 use Rattle.laws.specs.Equality.{same_list}
 use Rattle.laws.specs.Lexicographic.{◌<lex◌, lex_irrefl, lex_trans}
 use Rattle.net_model.specs.Network.{Net, WellFormed, LeastCost}
-use Rattle.net_model.specs.FullList.{full_list, first_flow, next_flow}
+use Rattle.net_model.specs.FullList.{full_list, next_flow}
 use Rattle.net_model.proofs.FullList.{full_ascending}
 use Rattle.flow_order.specs.Following.{Next, CountsFlows}
 
@@ -40,9 +40,6 @@ within cap m h = rw (le-leb m cap h)
 
 beyond : (cap m : ℕ) → cap < m → counted cap m ≡ more
 beyond cap m h = rw (lt-leb m cap h)
-
-pub item_first : (N : Net) (f : List ℕ) → LeastCost N f → first_flow N ≡ some f → Line N 1 f
-item_first N f lf e = record { least = lf; place = 0; is = refl; stands = sym (first_at (full_list N)) ∙ e }
 
 module _ (N : Net) (n : ℕ) (cur : List ℕ) (l : Line N n cur) where
   item_in : n ≤ length (full_list N)

@@ -36,14 +36,12 @@ pub fn next(arcs: &[Arc], free: &[bool], flow: &mut [u32]) -> bool
         InBounds N flow.new × (result ≡ false → flow.new ≡ flow.old)
         × ForAll N (λ M π. FreeMarks M π free.now flow.old → Next M flow.old flow.new result) }
 {
-    match flow_closure::last_raisable(arcs, free, flow) {
-        Some(a) => {
-            flow_arc::raise(arcs, free, flow, a);
-            minimise(arcs, free, flow, a + 1);
-            true
-        }
-        None => false,
+    if let Some(a) = flow_closure::last_raisable(arcs, free, flow) {
+        flow_arc::raise(arcs, free, flow, a);
+        minimise(arcs, free, flow, a + 1);
+        return true;
     }
+    false
 }
 
 // How many least-cost flows there are, given the first, if there are no more than the cap. The flow is then the last one met.

@@ -1,4 +1,4 @@
-use Rattle.std.proofs.Common.{◌≡◌, subst, arith}
+use Rattle.std.proofs.Common.{subst, arith}
 use Rattle.net_model.specs.Struct.{net_from}
 use Rattle.net_theory.specs.Graph.{costed}
 use Rattle.net_theory.proofs.Graph.{within_with}

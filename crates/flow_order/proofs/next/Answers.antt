@@ -21,10 +21,10 @@ returns-in-Some c =
           (c.raise.ensures.1 b d π ti) (rw add-one at (c.minimise.ensures.1 b d π)),
     )
 
-pub returns-in-None : goal.returns-in-None
-returns-in-None c =
+pub returns : goal.returns
+returns c =
     let N = net_from [] c.args.arcs.now in
     let f = c.args.flow.now in
     let free = c.args.free.now in
-    let none = subst (LastRaisable N f free) c.in-None.is c.last_raisable.ensures in
+    let none = subst (LastRaisable N f free) c.in_default.is c.last_raisable.ensures in
     (c.requires.within, (λ _. refl), λ b d π ti. next_no (whole N b d) π free f ti _ (next_start (whole N b d) π free f ti 0 (none_raisable_whole N b d f free 0 none)))
