@@ -1,21 +1,27 @@
 -- The array filled, entry after entry in book order; and what it holds of an entry.
-use mathlib.Core.Path.{◌≡◌, ap, sym, ◌∙◌}
+use mathlib.Core.Path.{◌≡◌, refl, ap, ap₂, sym, ◌∙◌}
+use mathlib.Core.Option.{Option as Maybe, none, some}
 use mathlib.Core.List.{List, map, map-id}
-use Prim.Native.Nat.{ℕ, ◌+◌, ◌-◌, ◌≤◌, ◌<◌}
+use Prim.Native.Nat.{ℕ, zero, suc, ◌+◌, ◌-◌, ◌≤◌, ◌<◌}
 use native.Mathlib.Omega.{arith}
 use lib.ListN.{length, get_or, set}
+use lib.IntN.{ℤ}
+use Rattle.std.specs.Prelude.{Option}
+use Rattle.laws.specs.Optional.{optional}
 use Rattle.laws.specs.Rows.{from_length, row_at}
 use Rattle.laws.specs.Padded.{padded_at, filled, filled_more, filled_all}
+use Rattle.book_lines.specs.declared.entries.BookEntry.{BookEntry}
 use Rattle.book_form.specs.Book.{Book}
 use Rattle.book_form.specs.declared.CheckedBook.{CheckedBook}
-use Rattle.book_form.specs.Held.{Holds, Held}
-use Rattle.way_theory.specs.Follow.{size}
+use Rattle.way_theory.specs.Follow.{size, spare, ticks_in}
 use Rattle.way_theory.specs.FullWays.{numbers}
+use Rattle.way_joins.specs.Tables.{TimingOf, HasTiming}
+use Rattle.way_joins.specs.Joins.{Spares}
 use Rattle.way_joins.proofs.Lookup as joins
 use Rattle.way_parts.specs.Acyclic.{Acyclic}
 use Rattle.way_parts.proofs.Ranks.{way_acyclic}
 use Rattle.way_gaps.specs.declared.JoinTicks.{JoinTicks}
-use Rattle.way_gaps.specs.Gaps.{gap_before, spare_before, ticks_before, no_ticks, JoinTicksOf, TicksTo, HasWay, TellsTicks}
+use Rattle.way_gaps.specs.Gaps.{gap_before, spare_before, ticks_before, no_ticks, ticks_told, JoinTicksOf, TicksTo, HasWay, TellsTicks}
 
 -- what the array holds of entry j
 module _ (b : Book) (w : List ℕ) (x : List JoinTicks) (d : JoinTicksOf b w x) (j : ℕ) (h : 1 ≤ j) (k : j ≤ size b) where
@@ -32,20 +38,35 @@ module _ (b : Book) (w : List ℕ) (x : List JoinTicks) (d : JoinTicksOf b w x) 
   pub spare_at_lem : (get_or x (j - 1) no_ticks).spare ≡ spare_before b w j
   spare_at_lem = ap (λ (t : JoinTicks). t.spare) ticks_at
 
+told_in : (o : Maybe ℤ) → ticks_told (optional o) ≡ ticks_in o
+told_in none = refl
+told_in (some z) = refl
+
+-- where there is a join, the gap and the spare by what a checked book has
+module _ {c : CheckedBook} where
+  pub ticks_found : (i j : ℕ) → 1 ≤ i → i ≤ c.count → 1 ≤ j → j ≤ c.count → (g : ℕ) → g ≡ (joins.kept_at c j).start - (joins.kept_at c i).finish
+      → (z : Option ℤ) → Spares c i j z → (t : ℕ) → t ≡ ticks_told z → TicksTo c i j (record { gap = g; spare = t })
+  ticks_found zero j a b p q g e z s t f = absurd (omega arith)
+  ticks_found (suc i) j a b p q g e z s t f = record {
+    each = λ book h. ap₂ (λ g t. (let r : JoinTicks = record { gap = g; spare = t } in r))
+        (e ∙ ap₂ ◌-◌ (ap (λ (e : BookEntry). e.start) (joins.entry_is h j p q)) (ap (λ (e : BookEntry). e.finish) (joins.entry_is h (suc i) a b)))
+        (f ∙ ap ticks_told (s.each book h) ∙ told_in (spare book (suc i) j));
+  }
+
 -- those of the first k entries are written
 pub record Filled (c : CheckedBook) (w : List ℕ) (x : List JoinTicks) (k : ℕ) : Type 0 where
-  pub each : (b : Book) → Holds b c → x ≡ filled (ticks_before b w) (numbers b) 28 no_ticks k
+  pub each : (b : Book) → TimingOf b c → x ≡ filled (ticks_before b w) (numbers b) 28 no_ticks k
   pub some : k ≤ length w
 
 module _ {c : CheckedBook} {w : List ℕ} (has : HasWay c w) where
-  pub held : Held c
-  held = record { book = has.book; holds = has.holds }
+  pub has_timing : HasTiming c
+  has_timing = record { book = has.book; timing = has.timing }
 
   acyclic : Acyclic w
-  acyclic = way_acyclic has.book has.holds.limits w has.way
+  acyclic = way_acyclic has.book has.timing.limits w has.way
 
   pub count_is : c.count ≡ length w
-  count_is = joins.count_is has.holds ∙ sym has.way.all_entries
+  count_is = joins.count_is has.timing ∙ sym has.way.all_entries
 
   pub few : length w ≤ 28
   few = acyclic.few
@@ -55,14 +76,14 @@ module _ {c : CheckedBook} {w : List ℕ} (has : HasWay c w) where
       let e : k + 1 - 1 ≡ k = omega arith in
       rw e at (acyclic.inside (k + 1) (omega arith) (omega arith))
 
-  as_long : (b : Book) → Holds b c → length (numbers b) ≡ length w
+  as_long : (b : Book) → TimingOf b c → length (numbers b) ≡ length w
   as_long b h = from_length (size b) 1 ∙ sym (joins.count_is h) ∙ count_is
 
   -- one entry more
   pub fill_more : {x : List JoinTicks} (k : ℕ) → k < length w → Filled c w x k → (t : JoinTicks) → TicksTo c (get_or w k 0) (k + 1) t → Filled c w (set x k t) (k + 1)
   fill_more {x} k h d t found = record { each = more; some = omega arith }
     where
-      more : (b : Book) → Holds b c → set x k t ≡ filled (ticks_before b w) (numbers b) 28 no_ticks (k + 1)
+      more : (b : Book) → TimingOf b c → set x k t ≡ filled (ticks_before b w) (numbers b) 28 no_ticks (k + 1)
       more b H =
           let same : k + 1 - 1 ≡ k = omega arith in
           let l = as_long b H in

@@ -4,10 +4,10 @@ use Rattle.laws.specs.Parts.{plus}
 use Rattle.laws.specs.Padded.{padded}
 use Rattle.book_form.specs.Book.{Book}
 use Rattle.book_form.specs.declared.CheckedBook.{CheckedBook}
-use Rattle.book_form.specs.Held.{Holds}
 use Rattle.way_theory.specs.Follow.{entry_at, spare_ticks}
 use Rattle.way_theory.specs.Ways.{IsWay}
 use Rattle.way_theory.specs.FullWays.{numbers}
+use Rattle.way_joins.specs.Tables.{TimingOf}
 use Rattle.way_parts.specs.Parts.{predecessor}
 use Rattle.way_gaps.specs.declared.JoinTicks.{JoinTicks}
 
@@ -50,15 +50,15 @@ abbrev pub ticks_told : Option ℤ → ℕ
 ticks_told None = 0
 ticks_told (Some z) = plus z
 
--- in each book that c holds
+-- of each book that has this timing
 pub record TicksTo (c : CheckedBook) (i j : ℕ) (r : JoinTicks) : Type 0 where
-  pub each : (b : Book) → Holds b c → r ≡ ticks_to b i j
+  pub each : (b : Book) → TimingOf b c → r ≡ ticks_to b i j
 
--- w is a way of a book that c holds
+-- w is a way of a book that has this timing
 pub record HasWay (c : CheckedBook) (w : List ℕ) : Type 0 where
   pub book : Book
-  pub holds : Holds book c
+  pub timing : TimingOf book c
   pub way : IsWay book w
 
 pub record TellsTicks (c : CheckedBook) (w : List ℕ) (r : List JoinTicks) : Type 0 where
-  pub each : (b : Book) → Holds b c → JoinTicksOf b w r
+  pub each : (b : Book) → TimingOf b c → JoinTicksOf b w r

@@ -2,7 +2,7 @@
 #![tactic(auto)]
 
 ghost use Rattle.std.specs.Prelude.{◌≡◌, ◌≤◌};
-ghost use Rattle.book_form.specs.Held.{Held};
+ghost use Rattle.way_joins.specs.Tables.{HasTiming};
 ghost use Rattle.way_gaps.specs.Gaps.{ticks_told, TicksTo, HasWay, TellsTicks};
 
 use book_form::CheckedBook;
@@ -23,7 +23,7 @@ fn ticks_told(spare: Option<i32>) -> u32
 
 // The gap and the spare of the join from entry i to entry j; 0 where i is 0.
 fn ticks_to(book: &CheckedBook, i: usize, j: usize) -> JoinTicks
-    requires { Held book.now × (i ≤ book.now.count) × (1 ≤ j) × (j ≤ book.now.count) }
+    requires { HasTiming book.now × (i ≤ book.now.count) × (1 ≤ j) × (j ≤ book.now.count) }
     ensures { TicksTo book.now i j result }
 {
     if i == 0 {

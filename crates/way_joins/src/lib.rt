@@ -3,7 +3,7 @@
 
 ghost use Rattle.std.specs.Prelude.{◌≡◌, ◌≤◌};
 ghost use Rattle.way_theory.specs.Follow.{spare_with};
-ghost use Rattle.book_form.specs.Held.{Held};
+ghost use Rattle.way_joins.specs.Tables.{HasTiming, HasTables};
 ghost use Rattle.way_joins.specs.Joins.{Roads, Spares, Joins};
 
 use book_form::CheckedBook;
@@ -20,7 +20,7 @@ fn spare_with(ticks: u32, finish: u32, start: u32) -> i32
 // How a player goes from entry i to entry j, from the instrument that i ends on to the one that j begins on: as their line says, and without
 // one only by staying. No entry follows itself.
 fn road_between(book: &CheckedBook, i: usize, j: usize) -> Option<PairMove>
-    requires { Held book.now × (1 ≤ i) × (i ≤ book.now.count) × (1 ≤ j) × (j ≤ book.now.count) }
+    requires { HasTiming book.now × (1 ≤ i) × (i ≤ book.now.count) × (1 ≤ j) × (j ≤ book.now.count) }
     ensures { Roads book.now i j result }
 {
     if i == j {
@@ -37,7 +37,7 @@ fn road_between(book: &CheckedBook, i: usize, j: usize) -> Option<PairMove>
 
 // The spare of the join from entry i to entry j, 0 or more if j may follow i; none without a move.
 pub fn spare_of(book: &CheckedBook, i: usize, j: usize) -> Option<i32>
-    requires { Held book.now × (1 ≤ i) × (i ≤ book.now.count) × (1 ≤ j) × (j ≤ book.now.count) }
+    requires { HasTiming book.now × (1 ≤ i) × (i ≤ book.now.count) × (1 ≤ j) × (j ≤ book.now.count) }
     ensures { Spares book.now i j result }
 {
     let road = road_between(book, i, j)?;
@@ -50,7 +50,7 @@ pub fn spare_of(book: &CheckedBook, i: usize, j: usize) -> Option<i32>
 
 // What the join from entry i to entry j costs, if there is one; from 0, the opening of j.
 pub fn join_of(book: &CheckedBook, i: usize, j: usize) -> Option<u32>
-    requires { Held book.now × (i ≤ book.now.count) × (1 ≤ j) × (j ≤ book.now.count) }
+    requires { HasTables book.now × (i ≤ book.now.count) × (1 ≤ j) × (j ≤ book.now.count) }
     ensures { Joins book.now i j result }
 {
     if i == 0 {

@@ -25,7 +25,9 @@ use Rattle.way_theory.proofs.Nodes.{no_book_arc, count_arcs, nodes_count}
 use Rattle.way_theory.proofs.Accepted.{arc_cost_small}
 use Rattle.way_theory.proofs.Rows.{rows_length}
 use Rattle.way_theory.proofs.Size.{arcs_few}
+use Rattle.way_joins.specs.Tables.{TablesOf, HasTables}
 use Rattle.way_joins.specs.Joins.{Joins}
+use Rattle.way_joins.proofs.Tables.{tables_timing, holds_tables, holds_timing}
 use Rattle.way_joins.proofs.Lookup.{count_is}
 use Rattle.way_network.specs.Network.{arc_with, held_arc, put_arc, put_arcs, AddsJoins, end_to, last_to, rows_by, IsNetworkOf}
 
@@ -48,11 +50,11 @@ left b j i = map (join_arc b j) (keep (λ p. permits b p j) (below i))
 pub record JoinsLeft (c : CheckedBook) (j : ℕ) (s r : Network) (i : ℕ) : Type 0 where
   pub upto : i ≤ c.count + 1
   pub room : r.arcs + i ≤ s.arcs + c.count + 1
-  pub each : (b : Book) → Holds b c → put_arcs r (left b j i) ≡ put_arcs s (map (join_arc b j) (sources b j))
+  pub each : (b : Book) → TablesOf b c → put_arcs r (left b j i) ≡ put_arcs s (map (join_arc b j) (sources b j))
 
 module _ (c : CheckedBook) (j : ℕ) where
   pub joins_start : (s : Network) → JoinsLeft c j s s (c.count + 1)
-  joins_start s = record { upto = omega arith; room = omega arith; each = λ b h. rw (add-one c.count, count_is h) }
+  joins_start s = record { upto = omega arith; room = omega arith; each = λ b t. rw (add-one c.count, count_is (tables_timing t)) }
 
   keep_below : (b : Book) (i : ℕ) → keep (λ p. permits b p j) (below (suc i)) ≡ keep_if (given? (predecessor_cost b i j)) i (keep (λ p. permits b p j) (below i))
   keep_below b zero = refl
@@ -87,8 +89,8 @@ module _ (c : CheckedBook) (j : ℕ) where
   pub joins_done : (s r : Network) → JoinsLeft c j s r 0 → AddsJoins c j s r
   joins_done s r g = record { each = λ b h. g.each b h }
 
-pub cost_small : (c : CheckedBook) (i j cost : ℕ) → Held c → Joins c i j (Some cost) → cost ≤ 1000000
-cost_small c i j cost h o = go (predecessor_cost h.book i j) (o.each h.book h.holds) (arc_cost_small h.book h.holds.limits i j)
+pub cost_small : (c : CheckedBook) (i j cost : ℕ) → HasTables c → Joins c i j (Some cost) → cost ≤ 1000000
+cost_small c i j cost h o = go (predecessor_cost h.book i j) (o.each h.book h.tables) (arc_cost_small h.book h.tables.limits i j)
   where
     go : (x : Maybe ℕ) → Some cost ≡ optional x → or_none x ≤ 1000000 → cost ≤ 1000000
     go none q k = cc
@@ -176,7 +178,7 @@ module _ (c : CheckedBook) (s : Network) where
   blocks_start = record {
     low = omega arith;
     upto = omega arith;
-    each = λ b h. (let n : c.count + 1 - 1 ≡ size b = omega (arith, count_is h) in rw n);
+    each = λ b h. (let n : c.count + 1 - 1 ≡ size b = omega (arith, count_is (holds_timing h)) in rw n);
   }
 
   pub blocks_on : (r t : Network) (j : ℕ) → BlocksLeft r j → j ≤ c.count → AddsJoins c j r t → BlocksLeft t (j + 1)
@@ -186,7 +188,7 @@ module _ (c : CheckedBook) (s : Network) where
     each = λ b h.
         (let block = map (join_arc b j) (sources b j) in
         let more = join_arcs b (c.count + 1 - (j + 1)) (j + 1) ++ rows_of b in
-        ap (λ n. put_arcs n more) (w.each b h) ∙ sym (put_append r block more)
+        ap (λ n. put_arcs n more) (w.each b (holds_tables h)) ∙ sym (put_append r block more)
         ∙ ap (put_arcs r) (sym (append_assoc block (join_arcs b (c.count + 1 - (j + 1)) (j + 1)) (rows_of b)))
         ∙ ap (λ l. put_arcs r (l ++ rows_of b)) (sym (joins_next b c.count j l)) ∙ g.each b h);
   }
@@ -211,12 +213,12 @@ module _ (c : CheckedBook) (s : Network) where
         ap (λ (n : Network). n.arcs) (g.each b h.holds),
         length-append (join_arcs b (c.count + 1 - j) j) (rows_of b),
         rows_length_of b,
-        count_is h.holds,
+        count_is (holds_timing h.holds),
       )
 
   pub all_put : (r t : Network) (j : ℕ) → BlocksLeft r j → c.count < j → t ≡ put_arcs r (rows_by c.count c.players) → (b : Book) → Holds b c → t ≡ put_arcs s (book_arcs b)
   all_put r t j g l w b h =
-      w ∙ ap₂ (λ n p. put_arcs r (rows_by n p)) (count_is h) (ap (λ (c : CheckedBook). c.players) h.is)
+      w ∙ ap₂ (λ n p. put_arcs r (rows_by n p)) (count_is (holds_timing h)) (ap (λ (c : CheckedBook). c.players) h.is)
       ∙ ap (λ l. put_arcs r (l ++ rows_of b)) (sym (joins_none b c.count j l)) ∙ g.each b h
 
 -- ---- the struct of it
@@ -265,6 +267,6 @@ module _ (c : CheckedBook) (s : Network) (n : s.nodes ≡ 2 * c.count + 2) (m : 
       → ((b : Book) → Holds b c → t ≡ put_arcs s (book_arcs b)) → IsNetworkOf c t
   makes_net t w e p = record {
     each = λ b h.
-        p b h ∙ struct_made b s (n ∙ ap (λ n. 2 * n + 2) (count_is h)) m
-        (w ∙ ap₂ (λ p n. padded 64 (pos 0) (pos p ∷ (replicate (2 * n) (pos 0) ++ (neg_ℤ (pos p) ∷ [])))) (ap (λ (c : CheckedBook). c.players) h.is) (count_is h)) e (few_arcs b h);
+        p b h ∙ struct_made b s (n ∙ ap (λ n. 2 * n + 2) (count_is (holds_timing h))) m
+        (w ∙ ap₂ (λ p n. padded 64 (pos 0) (pos p ∷ (replicate (2 * n) (pos 0) ++ (neg_ℤ (pos p) ∷ [])))) (ap (λ (c : CheckedBook). c.players) h.is) (count_is (holds_timing h))) e (few_arcs b h);
   }

@@ -7,6 +7,7 @@ use Rattle.net_model.specs.declared.Network.{Network}
 use Rattle.book_form.specs.Book.{Book}
 use Rattle.book_form.specs.Held.{Holds}
 use Rattle.book_form.specs.declared.CheckedBook.{CheckedBook}
+use Rattle.way_joins.specs.Tables.{TablesOf}
 use Rattle.way_theory.specs.BookNet.{BookArc, sources, join_arc, entry_arc, book_net}
 
 -- an arc as a network holds it
@@ -24,9 +25,9 @@ abbrev pub put_arcs : Network → List BookArc → Network
 put_arcs s [] = s
 put_arcs s (a ∷ l) = put_arcs (put_arc s (held_arc a)) l
 
--- the joins and the opening arc of entry j are put, of each book that the checked book holds
+-- the joins and the opening arc of entry j are put, of each book that has these tables
 pub record AddsJoins (c : CheckedBook) (j : ℕ) (s r : Network) : Type 0 where
-  pub each : (b : Book) → Holds b c → r ≡ put_arcs s (map (join_arc b j) (sources b j))
+  pub each : (b : Book) → TablesOf b c → r ≡ put_arcs s (map (join_arc b j) (sources b j))
 
 -- the arcs behind the joins of a book of e entries
 abbrev pub end_to : ℕ → ℕ → BookArc

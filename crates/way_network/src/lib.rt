@@ -4,6 +4,7 @@
 ghost use Rattle.std.specs.Prelude.{◌≡◌, [], ◌∷◌, ◌++◌, ◌+◌, ◌*◌, ◌≤◌, ◌<◌, pos, neg_ℤ, replicate};
 ghost use Rattle.laws.specs.Padded.{padded};
 ghost use Rattle.book_form.specs.Held.{Held};
+ghost use Rattle.way_joins.specs.Tables.{HasTables};
 ghost use Rattle.way_network.specs.Network.{arc_with, put_arc, put_arcs, AddsJoins, rows_by, IsNetworkOf};
 
 use book_form::CheckedBook;
@@ -36,7 +37,7 @@ fn put_arc(net: &mut Network, arc: Arc)
 
 // The joins of entry j, highest predecessor first, and its opening arc; a book has at most 463 arcs.
 fn put_joins(book: &CheckedBook, j: usize, net: &mut Network)
-    requires { Held book.now × (1 ≤ j) × (j ≤ book.now.count) × (net.old.arcs ≤ 463) }
+    requires { HasTables book.now × (1 ≤ j) × (j ≤ book.now.count) × (net.old.arcs ≤ 463) }
     ensures { AddsJoins book.now j net.old net.new }
 {
     for i in (0..=book.count).rev() {

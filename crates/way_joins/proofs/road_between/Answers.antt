@@ -1,6 +1,5 @@
 -- By the line of the two instruments.
-use mathlib.Core.Path.{◌∙◌}
-use Rattle.way_joins.proofs.Lookup.{told_stay, told_none, told_line, road_is, pair}
+use Rattle.way_joins.proofs.Lookup.{told_stay, told_none, told_line, pair, roads}
 use Rattle.way_joins.proofs.road_between.Goals as goal
 
 pub place_of-requires : goal.place_of-requires
@@ -11,15 +10,15 @@ place_of-requires c =
 
 pub returns-in-None : goal.returns-in-None
 returns-in-None c =
-    let (_, p, q, r, s) = c.requires in
-    record { each = λ b h. told_stay _ _ _ c.in-None.is c.if-a-b.true ∙ road_is h _ _ p q r s c.if-i-j.false _ c.place_of.ensures.0 }
+    let (h, p, q, r, s) = c.requires in
+    roads h _ _ p q r s c.if-i-j.false _ c.place_of.ensures.0 _ (told_stay _ _ _ c.in-None.is c.if-a-b.true)
 
 pub returns-in_default : goal.returns-in_default
 returns-in_default c =
-    let (_, p, q, r, s) = c.requires in
-    record { each = λ b h. told_none _ _ _ c.in-None.is c.if-a-b.false ∙ road_is h _ _ p q r s c.if-i-j.false _ c.place_of.ensures.0 }
+    let (h, p, q, r, s) = c.requires in
+    roads h _ _ p q r s c.if-i-j.false _ c.place_of.ensures.0 _ (told_none _ _ _ c.in-None.is c.if-a-b.false)
 
 pub returns-in_default-2 : goal.returns-in_default-2
 returns-in_default-2 c =
-    let (_, p, q, r, s) = c.requires in
-    record { each = λ b h. told_line _ _ _ c.in_default.is ∙ road_is h _ _ p q r s c.if-i-j.false _ c.place_of.ensures.0 }
+    let (h, p, q, r, s) = c.requires in
+    roads h _ _ p q r s c.if-i-j.false _ c.place_of.ensures.0 _ (told_line _ _ _ c.in_default.is)

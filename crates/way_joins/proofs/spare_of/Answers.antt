@@ -17,4 +17,4 @@ returns c =
     let z : ℤ = c.spare_with.result in
     let same : to_z w32 (of_z w32 z) ≡ z = search rules in
     let (_, p, q, r, s) = c.requires in
-    record { each = λ b h. spare_is h _ _ p q r s _ (c.in_ok-road.ensures.each b h) _ (same ∙ c.spare_with.ensures) }
+    record { each = λ b h. spare_is h _ _ p q r s _ (c.in_ok-road.ensures.ticks b h) _ (same ∙ c.spare_with.ensures) }

@@ -1,4 +1,5 @@
 use Rattle.std.proofs.Common.{◌≡◌, ◌+◌, ◌-◌, ◌∙◌, ap, sym, arith, subst}
+use Rattle.way_joins.proofs.Tables.{tables_timing}
 use Rattle.way_joins.proofs.Lookup.{few}
 use Rattle.way_network.specs.Network.{put_arc}
 use Rattle.way_network.proofs.Put.{JoinsLeft, joins_start, joins_skip, joins_put, joins_done, cost_small}
@@ -10,7 +11,7 @@ loop-i-init c = joins_start c.args.book.now c.args.j c.args.net.now
 
 pub arc_with-requires : goal.arc_with-requires
 arc_with-requires c =
-    let n = few c.requires.0.holds in
+    let n = few (tables_timing c.requires.0.tables) in
     (omega (arith, n, c.loop-i.invariant.upto), omega (arith, n, c.requires.2), cost_small c.args.book.now c.loop-i.i c.args.j c.in-Some.cost c.requires.0 c.in-Some.ensures)
 
 pub loop-i-preserved : goal.loop-i-preserved
