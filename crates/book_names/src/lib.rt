@@ -22,6 +22,7 @@ pub fn is_entry(entries: usize, entry: u32) -> bool
 }
 
 // Where the name of an entry lies in the book. Questions 11 to 16 and 19.
+// It and `name_refusal` each put the questions: one function for both, with an error type, would be longer than the two matches.
 pub fn place(book: &[u8], entry: u32) -> Span
     ensures { BookName book.now entry result }
 {
