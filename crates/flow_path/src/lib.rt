@@ -11,7 +11,8 @@ ghost use Rattle.flow_path.specs.Reaching.{NoneReached, SearchTree, SpreadArc, R
 use net_model::Arc;
 
 // What a search has reached: how many nodes, the rank of each, and the code that led to it. A rank is 0 at a node that is not reached, 1 where the
-// search starts, and grows in the order of reaching.
+// search starts, and grows in the order of reaching. Ranks are compared as numbers, with 0 below them all, as `Tree` (net_theory) has them, over two
+// lists: an Option in its place, or one array of both, is no plainer.
 #[derive(Drop)]
 struct Search {
     count: usize,
