@@ -24,8 +24,8 @@ fn offer_if(on: bool, x: i32) -> i32
     if on { x } else { 0 }
 }
 
-// The residual arc from u to v, if it is on: a better label for v, or nothing. The node whose label fell last. No predecessors are kept: what is
-// promised holds whatever the code.
+// The residual arc from u to v, if it is on: a better label for v, or nothing. The node whose label fell last (64: none, as an Option is slower here).
+// No predecessors are kept: what is promised holds whatever the code.
 fn relax(labels: &mut [i32], on: bool, u: u8, v: u8, c: i32, last: u32) -> u32
     requires { let s = state labels.old [] last in (u < length labels.old) × (v < length labels.old) × SFits w32 (label s u +ℤ c) × (label s v ≤ℤ pos 0) }
     ensures { let s = state labels.old [] last in let x = label s u +ℤ c in
