@@ -1,7 +1,7 @@
 -- What a struct that stands for an accepted network holds: room for its arcs and nodes in every array.
 use mathlib.Core.Path.{◌≡◌}
 use mathlib.Core.List.{List}
-use Prim.Native.Nat.{ℕ, ◌≤◌}
+use Prim.Native.Nat.{◌≤◌}
 use native.Mathlib.Omega.{arith}
 use lib.ListN.{length, take, length-take}
 use Rattle.net_model.specs.Struct.{Sound}

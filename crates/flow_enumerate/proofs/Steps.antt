@@ -11,7 +11,7 @@ use lib.Signed.{◌≤ℤ◌}
 use Rattle.laws.specs.Linear.{lin, given2}
 use Rattle.laws.specs.Members.{first?, none_some}
 use Rattle.laws.specs.Count.{counted}
-use Rattle.net_model.specs.Network.{Net, WellFormed, LeastCost, cost_of}
+use Rattle.net_model.specs.Network.{Net, LeastCost, cost_of}
 use Rattle.net_model.specs.FullList.{full_list, first_flow, count_flows}
 use Rattle.net_model.specs.Struct.{net_in, Sound}
 use Rattle.net_model.specs.declared.Network.{Network}

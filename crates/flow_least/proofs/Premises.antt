@@ -1,13 +1,12 @@
 -- An accepted network meets what the functions beneath ask of the lists that they get.
-use mathlib.Core.Path.{◌≡◌, sym, ◌∙◌}
-use mathlib.Core.Bool.{Bool}
+use mathlib.Core.Path.{◌≡◌}
 use mathlib.Core.List.{List, []}
-use Prim.Native.Nat.{ℕ, ◌≤◌, ◌<◌}
+use Prim.Native.Nat.{ℕ, ◌<◌}
 use native.Mathlib.Omega.{arith}
 use lib.ListN.{length, get_or}
 use lib.IntN.{ℤ, pos}
 use Rattle.laws.specs.Range.{Bounded}
-use Rattle.net_model.specs.Network.{Net, arcs}
+use Rattle.net_model.specs.Network.{Net}
 use Rattle.net_model.specs.Accepted.{AcceptedNet}
 use Rattle.net_theory.specs.Bounds.{InBounds}
 use Rattle.net_theory.specs.Graph.{costed}

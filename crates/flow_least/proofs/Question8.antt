@@ -1,6 +1,4 @@
 -- Question 8: bounds, balances and the search for a negative cycle decide whether a list is a least-cost flow.
-use mathlib.Core.Path.{◌≡◌}
-use mathlib.Core.Bool.{true, false}
 use mathlib.Core.List.{List}
 use Prim.Native.Nat.{ℕ}
 use lib.ListN.{get_or, take}

@@ -1,6 +1,4 @@
-use native.Mathlib.Omega.{arith}
 use Rattle.net_model.specs.Struct.{net_from}
-use Rattle.net_theory.proofs.ArcReads.{arcs_lent}
 use Rattle.flow_test.proofs.Accepted.{accepted_testable}
 use Rattle.flow_least.proofs.starting_flow.Goals as goal
 

@@ -1,13 +1,11 @@
 use mathlib.Core.Path.{◌≡◌, sym, ap, ◌∙◌}
-use mathlib.Core.List.{[]}
 use Prim.Native.Nat.{ℕ, ◌+◌, ◌≤◌, ◌<◌}
 use native.Mathlib.Omega.{arith}
 use borrow.Author.Tests.{lt-leb, le-leb}
-use Rattle.laws.specs.Count.{exactly_if, exactly, more, counted}
+use Rattle.laws.specs.Count.{exactly, more, counted}
 use Rattle.flow_enumerate.specs.Enumerator.{state_net}
 use Rattle.flow_enumerate.specs.declared.Place.TheVariants.{None}
-use Rattle.flow_enumerate.proofs.Steps.{counts_item, counts_none}
-use Rattle.flow_enumerate.proofs.Places.{no_item_at}
+use Rattle.flow_enumerate.proofs.Steps.{counts_item}
 use Rattle.flow_enumerate.proofs.Enumerator.count.Goals as goal
 
 within : (cap m : ℕ) → m ≤ cap → counted cap m ≡ exactly m

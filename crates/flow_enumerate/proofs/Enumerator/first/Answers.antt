@@ -1,16 +1,12 @@
 use borrow.Author.Rules.{rules}
-use mathlib.Core.Path.{◌≡◌, refl, sym, subst, ◌∙◌}
+use mathlib.Core.Path.{sym, subst, ◌∙◌}
 use mathlib.Core.Bool.{Bool}
 use mathlib.Core.List.{List}
-use Prim.Native.Nat.{ℕ}
 use lib.ListN.{drop}
-use native.Mathlib.Omega.{arith}
 use mir.Syntax.{w64}
 use mir.Facts.{to_z-of_z}
 use Rattle.laws.specs.Padded.{part_written}
-use Rattle.net_theory.specs.Graph.{costed}
 use Rattle.net_theory.proofs.Bounds.{flow_bounds}
-use Rattle.flow_cost.specs.Costs.{Summable}
 use Rattle.flow_least.specs.Marked.{Marked}
 use Rattle.flow_least.proofs.Premises.{summable}
 use Rattle.flow_enumerate.specs.Enumerator.{state_net}
