@@ -3,7 +3,7 @@
 
 ghost use Rattle.std.specs.Prelude.{◌≡◌, min, get_or, take, pos};
 ghost use Rattle.laws.specs.Padded.{padded};
-ghost use Rattle.bytes_read.specs.Words.{unsigned, words, ints};
+ghost use Rattle.bytes_read.specs.Words.{words, ints};
 
 // Number i, and 0 where there is none.
 pub fn read_i32(b: &[u8], i: usize) -> i32

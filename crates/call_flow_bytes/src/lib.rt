@@ -6,7 +6,7 @@ ghost use Rattle.net_model.specs.Struct.{Sound};
 ghost use Rattle.flow_enumerate.specs.Enumerator.{Stands};
 ghost use Rattle.call_reply.specs.Replies.{code_alone};
 ghost use Rattle.call_reply.specs.ByteLists.{room};
-ghost use Rattle.call_flow_bytes.specs.Refusals.{number_of, Asked};
+ghost use Rattle.call_flow_bytes.specs.Refusals.{number_of};
 ghost use Rattle.call_flow_bytes.specs.FlowSteps.{AdmitsNetwork, ResumesFlow, HandsFlow, HandsPrices};
 
 use call_reply::Reply;

@@ -1,7 +1,7 @@
 // Texts and numbers, written one behind another into a lent list of bytes.
 #![tactic(auto, using(crate::proofs::Writing::room_first, crate::proofs::Writing::room_then))]
 
-ghost use Rattle.std.specs.Prelude.{◌≡◌, [], ◌∷◌, ◌++◌, ◌+◌, ◌≤◌, length};
+ghost use Rattle.std.specs.Prelude.{◌≡◌, [], ◌∷◌, ◌++◌, ◌+◌, ◌≤◌};
 ghost use Rattle.text_read.specs.Heads.{line_end};
 ghost use Rattle.text_write.specs.Decimal.{decimal};
 ghost use Rattle.text_write.specs.Fit.{fit};

@@ -2,7 +2,7 @@ use Rattle.std.proofs.Common.{◌+◌, ◌*◌, ap, ◌∙◌, arith}
 use Rattle.way_network.specs.Network.{arc_with, put_arc}
 use Rattle.way_network.proofs.Put.{entries_on, ends_on, rows_done}
 use Rattle.way_network.proofs.put_rows.Goals as goal
-use Rattle.way_network.proofs.put_rows.Goals.{else-loop-j-test, then-loop-j-test+else-j-e, else-loop-j-2-test, then-loop-j-2-test+else-j-e-2}
+use Rattle.way_network.proofs.put_rows.Goals.{else-loop-j-2-test, then-loop-j-2-test+else-j-e-2}
 
 pub loop-j-preserved : goal.loop-j-preserved
 loop-j-preserved c = entries_on c.args.e c.args.players c.args.net.now c.loop-j.net c.put_arc.new.net c.loop-j.j c.loop-j.invariant c.loop-j-test.true (c.put_arc.ensures ∙ ap (put_arc c.loop-j.net) c.arc_with.ensures)
