@@ -33,7 +33,7 @@ pub fn start(net: net_model::Network) -> Enumerator
     ensures { Stands result × (result.net ≡ net) × (result.place ≡ Place.Start) × (result.flow ≡ replicate 512 0) × (result.free ≡ replicate 512 false) }
 {
     Enumerator {
-        net: net,
+        net,
         place: Place::Start,
         cost: 0,
         flow: [0u32; 512],
@@ -53,11 +53,11 @@ pub fn resume(net: net_model::Network, flow: [u32; 512]) -> Enumerator
     }
     let cost = flow_cost::cost_of(net.arcs(), &flow[..m]);
     Enumerator {
-        net: net,
+        net,
         place: Place::Item,
-        cost: cost,
-        flow: flow,
-        free: free,
+        cost,
+        flow,
+        free,
     }
 }
 
@@ -87,15 +87,15 @@ impl Enumerator {
             return Enumerator {
                 place: Place::None,
                 cost: 0,
-                flow: flow,
+                flow,
                 ..self
             };
         }
         Enumerator {
             place: Place::Item,
             cost: flow_cost::cost_of(self.net.arcs(), &flow[..m]),
-            flow: flow,
-            free: free,
+            flow,
+            free,
             ..self
         }
     }
@@ -110,14 +110,14 @@ impl Enumerator {
         if flow_order::next(self.net.arcs(), &self.free[..m], &mut flow[..m]) {
             Enumerator {
                 place: Place::Item,
-                flow: flow,
+                flow,
                 ..self
             }
         } else {
             Enumerator {
                 place: Place::End,
                 cost: 0,
-                flow: flow,
+                flow,
                 ..self
             }
         }
