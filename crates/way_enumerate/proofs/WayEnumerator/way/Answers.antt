@@ -1,4 +1,3 @@
-use Rattle.std.proofs.Common.{rules, arith, ◌≤◌}
 use Rattle.way_enumerate.proofs.Enumerating.{few_arcs, has_flow, tells}
 use Rattle.way_enumerate.proofs.WayEnumerator.way.Goals as goal
 
