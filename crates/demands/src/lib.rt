@@ -66,7 +66,7 @@ pub fn prices_agree(
     let first = desk::desk_network_first_priced(balances, arcs, flows, prices);
     let priced = desk::desk_network_prices(balances, arcs, given, again);
     FirstAndGiven {
-        first: first,
+        first,
         given: priced,
     }
 }
@@ -132,8 +132,8 @@ pub fn write_in_room(book: &[u8], given: &[u8], text: &mut [u8]) -> RoomAndSheet
     let room = desk::desk_sheets_room(book, given);
     let sheets = desk::desk_sheets(book, given, text);
     RoomAndSheets {
-        room: room,
-        sheets: sheets,
+        room,
+        sheets,
     }
 }
 
@@ -150,8 +150,8 @@ pub fn name_of(book: &[u8], entry: u32) -> Named
     let part = desk::desk_name(book, entry);
     let number = desk::desk_name_refusal(book, entry);
     Named {
-        part: part,
-        number: number,
+        part,
+        number,
     }
 }
 
