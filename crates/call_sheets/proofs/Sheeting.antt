@@ -28,31 +28,7 @@ use Rattle.call_sheets.specs.AdmittedWay.{PassesWay}
 use Rattle.call_sheets.specs.declared.GivenWay.{GivenWay}
 
 module _ (s g : List ℕ) where
-  -- a call refused, whatever the value would be
-  module _ (e : WayRefusal) (x : Reply) (is : x ≡ refused_at (number_of e) (line_of e)) where
-    refused_with : (q v : ℕ) → Refuses s q e → x ≡ value_reply q (line_told s q) v
-    refused_with q v f =
-        is ∙ refused_value (number_of e) (line_of e) v (refuses e)
-        ∙ ap (λ l. value_reply (number_of e) l v) f.1 ∙ ap (λ k. value_reply k (line_told s q) v) (sym f.0)
-
-    pub room_refused : Refuses s (room_question s g) e → BookSheetsRoom s g x
-    room_refused f = refused_with (room_question s g) _ f
-
-    pub sheets_refused : (l l' : List ℕ) → Refuses s (sheets_question s g (length l)) e → l' ≡ l → BookSheets s g l x l'
-    sheets_refused l l' f same = record {
-      reply_is = refused_with (sheets_question s g (length l)) _ f;
-      text_is = same ∙ sym (if_not (sheets_question s g (length l)) _ l (λ z. refuses e (sym f.0 ∙ z)));
-    }
-
-  -- questions 11 to 16 and 18 refuse writing too
-  pub still_refused : (e : WayRefusal) (l : List ℕ) → Refuses s (room_question s g) e → Refuses s (sheets_question s g (length l)) e
-  still_refused e l f = go (room_question s g) refl
-    where
-      go : (q : ℕ) → room_question s g ≡ q → Refuses s (sheets_question s g (length l)) e
-      go zero z = absurd (refuses e (sym f.0 ∙ z))
-      go (suc q) z = (rw z (sym z ∙ f.0), f.1 ∙ rw z refl)
-
-  -- past them
+  -- past questions 11 to 16 and 18
   module _ (x : GivenWay) (ok : room_question s g ≡ 0) (p : PassesWay s g x) where
     abbrev w : List ℕ
     w = take x.book.count x.numbers

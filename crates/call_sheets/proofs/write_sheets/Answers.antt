@@ -18,7 +18,7 @@ put_sheets-n-requires c = let (ok, p) = c.in_ok-asked.ensures in
 pub overflow_cast-n : goal.overflow_cast-n
 overflow_cast-n c = let (ok, p) = c.in_ok-asked.ensures in
     let few : c.put_sheets-n.result ≤ 2212 =
-        written_few _ _ _ ok p _ _ (rw c.way.ensures at c.fits_in.ensures) c.if-not-fits_in.false _ _ (rw c.way-2.ensures at c.put_sheets-n.ensures) in
+    written_few _ _ _ ok p _ _ (rw c.way.ensures at c.fits_in.ensures) c.if-not-fits_in.false _ _ (rw c.way-2.ensures at c.put_sheets-n.ensures) in
     simp fits (omega (arith, few))
 
 pub returns : goal.returns
