@@ -2,7 +2,7 @@
 use mathlib.Core.Path.{◌≡◌, refl, sym, ap, ◌∙◌}
 use mathlib.Core.Bool.{Bool, true, false}
 use mathlib.Core.List.{List}
-use Prim.Native.Nat.{ℕ, zero, suc, ◌≤◌}
+use Prim.Native.Nat.{ℕ, ◌≤◌}
 use native.Mathlib.Omega.{arith}
 use lib.IntN.{pos}
 use lib.ListN.{length, take}
@@ -10,19 +10,14 @@ use lib.Dec.{leb}
 use borrow.Author.Tests.{leb-true}
 use Rattle.laws.specs.Tests.{ask}
 use Rattle.bytes_read.specs.Words.{over}
-use Rattle.book_form.specs.LineTold.{line_told}
 use Rattle.book_form.proofs.LineTold.{untold}
 use Rattle.way_sheets.specs.Sheets.{sheets}
 use Rattle.way_sheets.specs.Writing.{HasRoom, WritesSheets}
 use Rattle.way_sheets.proofs.Sizes.{sheets_size}
 use Rattle.way_sheet_sizes.specs.Sizing.{HasSize, IsSizeOf, FitsIn}
-use Rattle.call_reply.specs.declared.Reply.{Reply}
-use Rattle.call_reply.specs.Replies.{or_else, refused_at, value_alone, value_reply}
-use Rattle.call_reply.proofs.Refusing.{if_not, refused_value}
-use Rattle.call_way_bytes.specs.Refusals.{number_of, line_of, Refuses}
-use Rattle.call_way_bytes.specs.declared.WayRefusal.{WayRefusal}
+use Rattle.call_reply.specs.Replies.{or_else, value_alone, value_reply}
+use Rattle.call_way_bytes.specs.Refusals.{Refuses}
 use Rattle.call_way_bytes.specs.declared.WayRefusal.TheVariants.{Text}
-use Rattle.call_way_bytes.proofs.Admitting.{refuses}
 use Rattle.call_sheets.specs.SheetCalls.{sheets_text, room_question, BookSheetsRoom, sheets_question, BookSheets}
 use Rattle.call_sheets.specs.AdmittedWay.{PassesWay}
 use Rattle.call_sheets.specs.declared.GivenWay.{GivenWay}
