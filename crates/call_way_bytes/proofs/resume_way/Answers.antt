@@ -10,8 +10,11 @@ pub returns-then-not-on_item : goal.returns-then-not-on_item
 returns-then-not-on_item c = let g = c.args.given.now in
     let (e, same) = c.in-Some.ensures in
     record {
-      each = λ b h. (strange c.args.book.now b h g (every_at g 256 (λ i k. (c.type_inv.given i).fits)) e _ same c.resume-ways.result (c.resume-ways.ensures.each b h)
-          (sym c.on_item.ensures ∙ c.if-not-on_item.true), refl);
+      each = λ b h. (
+        strange c.args.book.now b h g (every_at g 256 (λ i k. (c.type_inv.given i).fits)) e _ same c.resume-ways.result (c.resume-ways.ensures.each b h)
+            (sym c.on_item.ensures ∙ c.if-not-on_item.true),
+        refl,
+      );
     }
 
 pub returns : goal.returns
