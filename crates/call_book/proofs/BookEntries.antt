@@ -16,7 +16,6 @@ use Rattle.laws.specs.Seen.{nothing, end, code_of, Shows}
 use Rattle.laws.specs.Run.{shown, respond, Answers}
 use Rattle.laws.specs.Count.{counted}
 use Rattle.bytes_read.specs.Words.{words, encode_words}
-use Rattle.book_form.specs.Book.{Book, parse}
 use Rattle.book_form.specs.Questions.{book_refusal, question_of, line_of as line_in}
 use Rattle.book_form.specs.Checked.{entries_of}
 use Rattle.book_form.specs.LineTold.{line_told}

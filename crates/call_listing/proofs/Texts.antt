@@ -30,7 +30,6 @@ use Rattle.book_form.specs.LineTold.{line_told}
 use Rattle.book_form.proofs.LineTold.{untold}
 use Rattle.book_form.specs.declared.BookRefusal.{BookRefusal}
 use Rattle.book_check.specs.BookCheck.{ChecksBook}
-use Rattle.book_check.proofs.Accepting.{Accepted}
 use Rattle.call_way_bytes.specs.declared.WayRefusal.TheVariants.{Book as refused_book}
 use Rattle.call_way_bytes.proofs.Admitting.{refuses}
 use Rattle.call_listing.specs.declared.Written.{Written}

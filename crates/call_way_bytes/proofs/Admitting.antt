@@ -6,7 +6,7 @@ use Prim.Native.Nat.{ℕ, zero, suc}
 use native.Mathlib.Omega.{arith}
 use lib.ListN.{length}
 use Rattle.std.specs.Prelude.{Ok, Err}
-use Rattle.book_form.specs.Questions.{book_refusal, question_of}
+use Rattle.book_form.specs.Questions.{book_refusal}
 use Rattle.book_form.specs.Checked.{entries_of}
 use Rattle.book_form.specs.declared.BookRefusal.{BookRefusal}
 use Rattle.book_form.specs.declared.BookRefusal.TheVariants.{TooLong, Malformed, BadHeader, BadMove, BadEntry, TooMany}
@@ -17,7 +17,6 @@ use Rattle.book_check.proofs.Accepting.{Accepted, accepted, accepted_holds}
 use Rattle.way_theory.specs.BookBytes.{entry_count}
 use Rattle.call_reply.specs.Replies.{or_else}
 use Rattle.call_reply.specs.ByteLists.{room}
-use Rattle.call_reply.proofs.Turns.{fails_first}
 use Rattle.call_way_bytes.specs.Refusals.{number_of, Refuses}
 use Rattle.call_way_bytes.specs.WaySteps.{admit_question, Admitted}
 use Rattle.call_way_bytes.specs.declared.WayRefusal.{WayRefusal}

@@ -1,5 +1,4 @@
 use Rattle.std.proofs.Common.{rules, ap, ◌∙◌}
-use mathlib.Core.Path.{◌≡◌}
 use Rattle.laws.specs.Rules.{next}
 use Rattle.way_enumerate.specs.WayEnumerator.{way_at, way_after}
 use Rattle.call_book.proofs.BookEntries.{admit_fails, fails_given, room_way, answers_next}

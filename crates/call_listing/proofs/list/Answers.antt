@@ -1,13 +1,9 @@
-use mathlib.Core.Path.{◌≡◌, sym}
 use Prim.Native.Nat.{◌≤◌}
-use lib.ListN.{length}
 use native.Mathlib.Omega.{arith}
-use lib.Seq.{length-take-le}
-use Rattle.laws.specs.Range.{fits}
 use mir.Syntax.{w64}
 use mir.Facts.{to_z_pos}
 use Rattle.way_list.specs.Room.{listing_room}
-use Rattle.call_listing.proofs.Texts.{in_room, few, lists, lists_nothing}
+use Rattle.call_listing.proofs.Texts.{few, lists, lists_nothing}
 use Rattle.call_listing.proofs.list.Goals as goal
 
 pub returns-in-Some : goal.returns-in-Some
