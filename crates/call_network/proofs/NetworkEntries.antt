@@ -1,5 +1,7 @@
 -- From the steps of an entry to what it ensures.
-use mathlib.Core.Path.{◌≡◌, refl, sym, subst}
+use Rattle.net_model.specs.Struct.{net_in}
+use Rattle.laws.specs.Count.{counted}
+use mathlib.Core.Path.{◌≡◌, refl, sym, subst, ap, ◌∙◌}
 use mathlib.Core.Bool.{Bool, true, false}
 use mathlib.Core.List.{List}
 use mathlib.Core.Option.{Option, none, some}
@@ -11,14 +13,14 @@ use Rattle.laws.specs.Seen.{end, code_of, Shows}
 use Rattle.laws.specs.Run.{shown, respond, Answers}
 use Rattle.bytes_read.specs.Words.{words}
 use Rattle.net_model.specs.Network.{Net, arcs, cost_of}
-use Rattle.net_model.specs.FullList.{full_list, next_flow}
+use Rattle.net_model.specs.FullList.{full_list, next_flow, count_flows}
 use Rattle.net_model.specs.declared.Network.{Network}
 use Rattle.net_questions.specs.Questions.{network_refusal}
 use Rattle.net_questions.proofs.Accepted.{accepted_net}
 use Rattle.call_flow_bytes.specs.declared.FlowRefusal.{FlowRefusal}
 use Rattle.call_flow_bytes.specs.Refusals.{number_of}
 use Rattle.call_reply.specs.declared.Reply.{Reply}
-use Rattle.call_reply.specs.Replies.{or_else, sees, HandsItem}
+use Rattle.call_reply.specs.Replies.{or_else, sees, HandsItem, count_reply, count_unless}
 use Rattle.call_reply.specs.ByteLists.{room, listed}
 use Rattle.call_network.specs.NetworkCalls.{NetCall, lends, network_lent, network_question}
 use Rattle.call_network.specs.NetworkRules.{network_rules}
@@ -62,3 +64,7 @@ module _ (bs xs : List ℕ) where
           let says : respond (network_rules bs xs) (next g fs) ≡ shown o end = rw (stands.ok, room_is bs xs s stands true (length fs) fits, e, after_is, ← item_is) refl in
           subst (λ a. Shows (network_rules bs xs) (next g fs) a (sees r (lends fs' none))) (sym says)
           (handed (next g fs) o r fs' none (subst (λ M. HandsItem (cost_of M) o 101 fs r fs') same h) (unpriced (net bs xs) o))
+
+pub counts : (bs xs : List ℕ) (s : Network) → StandsFor bs xs s → (cap n : ℕ) → counted cap n ≡ count_flows (net_in s) cap
+    → count_reply (counted cap n) ≡ count_unless (network_refusal bs xs) 0 (count_flows (net bs xs) cap)
+counts bs xs s stands cap n is = rw stands.ok (ap count_reply (is ∙ ap (λ M. count_flows M cap) stands.is))
