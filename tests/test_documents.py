@@ -91,7 +91,7 @@ class Documents(unittest.TestCase):
         nothing is wider but an index: of an arc, or of a label where it is read or written."""
         self.assertIn("sums of costs are signed 64-bit, but those of the price search signed 32-bit", (ROOT / "docs/RULE.md").read_text())
         prices, relax = [(ROOT / "crates" / crate / "src/lib.rt").read_text() for crate in ("flow_prices", "flow_relax")]
-        indices = re.compile(r"\ba: usize\b|\blabels\[[uv] as usize\]")
+        indices = re.compile(r"\ba: usize\b|\blabels\[usize::from\([uv]\)\]")
         wide = re.compile(r"[iu](?:64|128|size)\b")
         self.assertEqual(wide.findall(indices.sub("", prices)), [])
         self.assertIn("i64", wide.findall(relax))

@@ -1,2 +1,3 @@
 mod Form
 mod BookChecking
+pub mod Accepting

@@ -6,82 +6,48 @@ ghost use Rattle.book_form.specs.Book.{opening};
 ghost use Rattle.book_check.specs.Closing.{Closing};
 ghost use Rattle.book_check.specs.BookCheck.{ChecksBook};
 
-use book_form::{Answer, Checked, Opening, judge, refused};
+use book_form::{BookRefusal, CheckedBook, Opening, judge};
 use book_lines::entries::read_entries;
 use book_lines::moves::read_moves;
 use text_read::{heads, read_row, read_text};
 
 // Reads the lines `(book`, `(players P)` and `(fee C)`.
-fn read_opening(book: &[u8]) -> Opening
-    ensures { ReadsFront book.now (opening book.now) result.used (result.players, result.fee) }
+fn read_opening(book: &[u8]) -> Option<(Opening, &[u8])>
+    ensures { ReadsFront book.now (opening book.now) result (λ r. (r.0.players, r.0.fee)) (λ r. r.1.now) }
 {
-    let n1 = read_text(book, &heads::BOOK);
-    if n1 == 0 {
-        return Opening {
-            players: 0,
-            fee: 0,
-            used: 0,
-        };
-    }
-    let p = read_row(&book[n1..], &heads::PLAYERS, 1);
-    let n2 = p.used;
-    if n2 == 0 {
-        return Opening {
-            players: 0,
-            fee: 0,
-            used: 0,
-        };
-    }
-    let at = n1 + n2;
-    let c = read_row(&book[at..], &heads::FEE, 1);
-    let n3 = c.used;
-    if n3 == 0 {
-        return Opening {
-            players: 0,
-            fee: 0,
-            used: 0,
-        };
-    }
-    let ps = p.numbers;
-    let cs = c.numbers;
-    Opening {
+    let rest = read_text(book, &heads::BOOK)?;
+    let players = read_row::<1>(rest, &heads::PLAYERS)?;
+    let fee = read_row::<1>(players.1, &heads::FEE)?;
+    let (ps, cs) = (players.0, fee.0);
+    let opening = Opening {
         players: ps[0],
         fee: cs[0],
-        used: at + n3,
-    }
+    };
+    Some((opening, fee.1))
 }
 
 // Whether `rest` is the last line, with nothing after it.
 fn closes(rest: &[u8]) -> bool
     ensures { Closing rest.now result }
 {
-    let n = read_text(rest, &heads::LINE_END);
-    if n == 0 {
-        return false;
-    }
-    n == rest.len()
+    rest == &heads::LINE_END[..]
 }
 
 // Puts the questions 11 to 16 to a book.
-pub fn check(book: &[u8]) -> Checked
+pub fn check(book: &[u8]) -> Result<CheckedBook, BookRefusal>
     ensures { ChecksBook book.now result }
 {
     if 16384 < book.len() {
-        return refused(Answer::TooLong);
+        return Err(BookRefusal::TooLong);
     }
-    let o = read_opening(book);
-    let n1 = o.used;
-    if n1 == 0 {
-        return refused(Answer::Malformed);
-    }
-    let rest = &book[n1..];
+    let Some((o, rest)) = read_opening(book) else {
+        return Err(BookRefusal::Malformed);
+    };
     let m = read_moves(rest);
-    let n2 = m.used;
-    let rest = &rest[n2..];
+    let rest = &rest[m.used..];
     let e = read_entries(rest, m.line, book.len());
-    let n3 = e.used;
-    if !closes(&rest[n3..]) {
-        return refused(Answer::Malformed);
+    if !closes(&rest[e.used..]) {
+        return Err(BookRefusal::Malformed);
     }
-    judge(o, m, e)
+    judge(o, &m, &e)
 }

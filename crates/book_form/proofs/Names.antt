@@ -1,5 +1,5 @@
 -- The names of a book's entries: where they lie in its bytes, by the form of the book alone, that they are short, and that the checked book tells where they lie.
-use Prim.Native.Nat.{ℕ, ◌+◌, ◌-◌, ◌<◌, ◌≤◌}
+use Prim.Native.Nat.{ℕ, ◌+◌, ◌<◌, ◌≤◌}
 use mathlib.Core.Path.{◌≡◌, refl, ap, subst, ◌∙◌}
 use mathlib.Core.Option.{some}
 use mathlib.Core.List.{List, [], ◌∷◌}
@@ -9,12 +9,12 @@ use Rattle.laws.specs.Members.{Every, every_map, every_member, none_some, get_or
 use Rattle.text_read.specs.Reader.{Parsed, fails, reads, ◌>>◌, give, text, row, many}
 use Rattle.text_read.specs.Heads.{line_end, book_line, players_head, fee_head, move_head}
 use Rattle.book_lines.specs.Lines.{move, entry}
-use Rattle.book_lines.specs.Columns.{nobody}
+use Rattle.book_lines.specs.Columns.{blank_entry, nobody}
 use Rattle.text_read.proofs.Leaves.{reads_same, both, Leaves, suffix_more, then_leaves, text_leaves, give_leaves, row_leaves, many_read, many_leaves}
 use Rattle.book_lines.proofs.EntryNames.{Placed, Named, named_drop, entry_named}
 use Rattle.book_form.specs.Book.{Book, opening, book, whole, parse}
 use Rattle.book_form.specs.Checked.{checked_of}
-use Rattle.book_form.proofs.Judging.{column_at}
+use Rattle.book_form.proofs.Judging.{entry_in}
 
 opening_leaves : Leaves opening
 unfolding opening ◌>>◌
@@ -62,8 +62,8 @@ module _ (s : List ℕ) (b : Book) (e : parse s ≡ some b) where
 
     -- the part of s that the checked book tells of is the name
     pub checked_name :
-        let c = checked_of (length s) b in
-        (get_or c.names n 0 + get_or c.lengths n 0 ≤ length s) × (take (get_or c.lengths n 0) (drop (get_or c.names n 0) s) ≡ (get_or b.entries n nobody).name)
+        let e = get_or (checked_of (length s) b).entries n blank_entry in
+        (e.name + e.length ≤ length s) × (take e.length (drop e.name s) ≡ (get_or b.entries n nobody).name)
     checked_name =
         let p = names_placed in
-        rw (column_at (λ e. length s - e.left) b.entries n h, column_at (λ e. length e.name) b.entries n h) (omega (arith, p.begins, p.ends), p.is)
+        rw (entry_in (length s) b.entries n blank_entry h) (omega (arith, p.begins, p.ends), p.is)

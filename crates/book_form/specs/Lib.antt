@@ -4,3 +4,4 @@ pub mod LineTold
 pub mod WithinLimits
 pub mod Checked
 pub mod Steps
+pub mod Held

@@ -1,5 +1,5 @@
 -- The line that is told with a refusal.
-use Rattle.std.specs.Prelude.{Bool, cond, List, [], ℕ, ◌+◌, length, eqb}
+use Rattle.std.specs.Prelude.{Bool, cond, List, [], ℕ, ◌+◌, length, eqb, unwrap_or}
 use Rattle.std.proofs.Math.Option.{Option, none, some}
 use Rattle.book_lines.specs.Questions.{moves, entries, first_bad}
 use Rattle.book_form.specs.Book.{Book, parse}
@@ -16,7 +16,7 @@ lines_asked b question =
 
 -- 02, request 3: "Refusals 13, 14 and 15 now carry the lowest line number that fails that question." Others carry 0.
 abbrev pub first_bad_line : Book → ℕ → ℕ
-first_bad_line b question = first_bad (lines_asked b question).0 (lines_asked b question).1
+first_bad_line b question = unwrap_or (first_bad (lines_asked b question).0 (lines_asked b question).1) 0
 
 abbrev pub first_bad_in : Option Book → ℕ → ℕ
 first_bad_in none question = 0

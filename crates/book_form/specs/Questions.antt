@@ -3,8 +3,8 @@ use Rattle.std.specs.Prelude.{ℕ, Bool, ◌&&◌, List, [], ◌∷◌, length, 
 use Rattle.std.proofs.Math.Option.{Option, none, some}
 use Rattle.laws.specs.Tests.{ask}
 use Rattle.book_lines.specs.Questions.{moves, entries, all_pass}
-use Rattle.book_form.specs.declared.Answer.{Answer}
-use Rattle.book_form.specs.declared.Answer.TheVariants.{Accepted, TooLong, Malformed, BadHeader, BadMove, BadEntry, TooMany}
+use Rattle.book_form.specs.declared.BookRefusal.{BookRefusal}
+use Rattle.book_form.specs.declared.BookRefusal.TheVariants.{TooLong, Malformed, BadHeader, BadMove, BadEntry, TooMany}
 use Rattle.book_form.specs.Book.{Book, parse}
 
 -- 13, put to the lines of the players and of the fee: "Is P 1 to 8 and the fee at most 1,000,000?"
@@ -28,9 +28,8 @@ ask_form (some b) = ask_book b
 abbrev pub book_refusal : List ℕ → ℕ
 book_refusal s = ask (leb (length s) 16384) 11 (ask_form (parse s))
 
--- the number of each answer
-abbrev pub question_of : Answer → ℕ
-question_of Accepted = 0
+-- the number of each refusal
+abbrev pub question_of : BookRefusal → ℕ
 question_of TooLong = 11
 question_of Malformed = 12
 question_of (BadHeader k) = 13
@@ -38,9 +37,8 @@ question_of (BadMove k) = 14
 question_of (BadEntry k) = 15
 question_of TooMany = 16
 
--- the line that each answer carries, 0 if none
-abbrev pub line_of : Answer → ℕ
-line_of Accepted = 0
+-- the line that each refusal carries, 0 if none
+abbrev pub line_of : BookRefusal → ℕ
 line_of TooLong = 0
 line_of Malformed = 0
 line_of (BadHeader k) = k

@@ -44,10 +44,10 @@ pub named_drop : (s : List ℕ) (n : ℕ) (e : Entry) → Named (drop n s) e →
 named_drop s n e h = (placed_drop s n e h.0, h.1)
 
 -- w has 1 to 16 bytes, and s begins with them
-abbrev ShortFront : List ℕ → List ℕ → Type 0
+abbrev pub ShortFront : List ℕ → List ℕ → Type 0
 ShortFront s w = (0 < length w) × (length w ≤ 16) × (take (length w) s ≡ w)
 
-word_is : (s w t : List ℕ) → word s ≡ reads w t → ShortFront s w
+pub word_is : (s w t : List ℕ) → word s ≡ reads w t → ShortFront s w
 unfolding word ◌>>◌
 word_is s w t e =
     let r = judged_read word_byte (λ w. short w) (λ w. w) s w t e in

@@ -1,66 +1,60 @@
 -- The two forms of an entry: the count of numbers behind the name decides which it is.
-use Prim.Native.Nat.{ℕ, ◌≤◌}
+use Prim.Native.Nat.{ℕ}
 use mathlib.Core.Path.{◌≡◌, refl, sym, ap, ◌∙◌}
-use mathlib.Core.List.{List, [], ◌∷◌}
+use mathlib.Core.List.{List, [], ◌∷◌, ◌++◌}
 use native.Mathlib.Omega.{arith}
 use lib.ListN.{length, get_or}
-use Rattle.text_read.specs.declared.Row.{Row}
-use Rattle.text_read.specs.Reader.{Parsed, fails, reads, ◌<|>◌, row, ReadsFront, NumbersRead}
-use Rattle.text_read.specs.Heads.{name_end}
-use Rattle.text_read.proofs.Runs.{absent}
-use Rattle.text_read.proofs.Sequence.{mapped}
+use Rattle.text_read.specs.Reader.{Parsed, fails, reads, ◌<|>◌, text, numbers, row, ReadAs}
+use Rattle.text_read.specs.Heads.{name_end, space, line_end}
+use Rattle.text_read.proofs.Sequence.{mapped, then_fails}
 use Rattle.text_read.proofs.Leaves.{both}
-use Rattle.text_read.proofs.Alternatives.{first_reads, first_fails, first_form, second_form}
-use Rattle.text_read.proofs.Rows.{one_count, row_front, row_fails, number_at_lem}
+use Rattle.text_read.proofs.Alternatives.{first_reads, first_fails}
+use Rattle.text_read.proofs.Rows.{one_count, row_unread, row_open, row_closed, longer_unread, longer_fails, longer_read, numbers_length, row_length}
 use Rattle.book_lines.specs.Lines.{long_form, both_same, short_form}
 
--- what is read behind a name, by the count of its numbers
-module _ {s : List ℕ} {r : Row} (x : NumbersRead s name_end r) where
-  abbrev number : ℕ → ℕ
-  number k = get_or r.numbers k 0
+three : (l : List ℕ) → length l ≡ 3 → l ≡ get_or l 0 0 ∷ get_or l 1 0 ∷ get_or l 2 0 ∷ []
+three [] e = absurd (omega arith)
+three (a ∷ []) e = absurd (omega arith)
+three (a ∷ b ∷ []) e = absurd (omega arith)
+three (a ∷ b ∷ c ∷ []) e = refl
+three (a ∷ b ∷ c ∷ d ∷ l) e = absurd (omega arith)
 
-  number_is : (k : ℕ) → number k ≡ get_or x.list k 0
-  number_is = number_at_lem x.list x.numbers_are
+one : (l : List ℕ) → length l ≡ 1 → l ≡ get_or l 0 0 ∷ []
+one [] e = absurd (omega arith)
+one (a ∷ []) e = refl
+one (a ∷ b ∷ l) e = absurd (omega arith)
 
-  short_front : {used : ℕ} {l : List ℕ} → ReadsFront s (row name_end 3 s) used l → ReadsFront s (short_form s) used (both_same l)
+-- what is read behind a name: three numbers, and then the end of the line or a fourth
+module _ (s : List ℕ) where
+  no_short : row name_end 3 s ≡ fails → short_form s ≡ fails
   unfolding short_form
-  short_front f = mapped (row name_end 3) both_same s f
+  no_short e = then_fails (row name_end 3) _ s e
 
-  no_short : (r.count ≡ 3 → ⊥) → ReadsFront s (short_form s) 0 []
-  no_short z = absent ((short_front (absent {a = []} (row_fails _ _ x 3 (omega arith) (omega arith) z))).absent refl)
-
-  used_some : 1 ≤ r.count → r.used ≡ 0 → ⊥
-  used_some h z = let e = ap (λ (r : Row). r.count) (x.none z) in omega arith
-
-  pub short_read : r.count ≡ 3 → ReadsFront s ((short_form <|> long_form) s) r.used (number 0 ∷ number 0 ∷ number 1 ∷ number 2 ∷ [])
-  short_read e =
-      rw (number_is 0, number_is 1, number_is 2, ← three x.list (sym x.count_is ∙ e))
-      (first_form short_form long_form s (short_front (row_front _ _ x 3 (omega arith) (omega arith) e)) (used_some (omega arith)))
-    where
-      three : (l : List ℕ) → length l ≡ 3 → both_same l ≡ get_or l 0 0 ∷ get_or l 0 0 ∷ get_or l 1 0 ∷ get_or l 2 0 ∷ []
-      three [] e = absurd (omega arith)
-      three (a ∷ []) e = absurd (omega arith)
-      three (a ∷ b ∷ []) e = absurd (omega arith)
-      three (a ∷ b ∷ c ∷ []) e = refl
-      three (a ∷ b ∷ c ∷ d ∷ l) e = absurd (omega arith)
-
-  pub long_read : r.count ≡ 4 → ReadsFront s ((short_form <|> long_form) s) r.used (number 0 ∷ number 1 ∷ number 2 ∷ number 3 ∷ [])
+  neither : row name_end 3 s ≡ fails → row name_end 4 s ≡ fails → (short_form <|> long_form) s ≡ fails
   unfolding long_form
-  long_read e =
-      rw (number_is 0, number_is 1, number_is 2, number_is 3, ← four x.list (sym x.count_is ∙ e))
-      (second_form short_form long_form s (no_short (λ z. omega arith)) refl (row_front _ _ x 4 (omega arith) (omega arith) e))
-    where
-      four : (l : List ℕ) → length l ≡ 4 → l ≡ get_or l 0 0 ∷ get_or l 1 0 ∷ get_or l 2 0 ∷ get_or l 3 0 ∷ []
-      four [] e = absurd (omega arith)
-      four (a ∷ []) e = absurd (omega arith)
-      four (a ∷ b ∷ []) e = absurd (omega arith)
-      four (a ∷ b ∷ c ∷ []) e = absurd (omega arith)
-      four (a ∷ b ∷ c ∷ d ∷ []) e = refl
-      four (a ∷ b ∷ c ∷ d ∷ f ∷ l) e = absurd (omega arith)
+  neither e f = first_fails short_form long_form s (no_short e) ∙ f
 
-  pub neither_read : (r.count ≡ 3 → ⊥) → (r.count ≡ 4 → ⊥) → (l : List ℕ) → ReadsFront s ((short_form <|> long_form) s) 0 l
-  unfolding long_form
-  neither_read z y l = second_form short_form long_form s (no_short z) refl (absent (row_fails _ _ x 4 (omega arith) (omega arith) y))
+  pub no_three : numbers name_end 3 s ≡ fails → (short_form <|> long_form) s ≡ fails
+  no_three e = neither (row_unread name_end s 3 e) (longer_unread name_end s 2 1 e)
+
+  module _ {l t : List ℕ} (r : ReadAs s (numbers name_end 3 s) l t) where
+    pub short_read : {u : List ℕ} → ReadAs t (text line_end t) tt u → ReadAs s ((short_form <|> long_form) s) (get_or l 0 0 ∷ get_or l 0 0 ∷ get_or l 1 0 ∷ get_or l 2 0 ∷ []) u
+    unfolding short_form
+    short_read o =
+        let x = mapped (row name_end 3) both_same s (row_closed name_end s 3 r o) in
+        rw (← three l (numbers_length name_end 3 s r.stands)) (record { stands = first_reads short_form long_form s x.stands; fewer = x.fewer; ends = x.ends })
+
+    module _ (open_line : text line_end t ≡ fails) where
+      pub no_fourth : row space 1 t ≡ fails → (short_form <|> long_form) s ≡ fails
+      no_fourth e = neither (row_open name_end s 3 r open_line) (longer_fails name_end s 2 1 r e)
+
+      pub long_read : {k u : List ℕ} → ReadAs t (row space 1 t) k u → ReadAs s ((short_form <|> long_form) s) (get_or l 0 0 ∷ get_or l 1 0 ∷ get_or l 2 0 ∷ get_or k 0 0 ∷ []) u
+      unfolding long_form
+      long_read {k} o =
+          let x = longer_read name_end s 2 1 r o in
+          let values : l ++ k ≡ get_or l 0 0 ∷ get_or l 1 0 ∷ get_or l 2 0 ∷ get_or k 0 0 ∷ [] =
+          ap (λ l. l ++ k) (three l (numbers_length name_end 3 s r.stands)) ∙ ap (λ k. get_or l 0 0 ∷ get_or l 1 0 ∷ get_or l 2 0 ∷ k) (one k (row_length space 1 t o.stands)) in
+          rw (← values) (record { stands = first_fails short_form long_form s (no_short (row_open name_end s 3 r open_line)) ∙ x.stands; fewer = x.fewer; ends = x.ends })
 
 -- which form is tried first makes no difference
 one_form : (s l t : List ℕ) → short_form s ≡ reads l t → long_form s ≡ fails

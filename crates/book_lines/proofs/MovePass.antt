@@ -5,26 +5,29 @@ use mathlib.Core.Bool.{Bool, true, false, cond}
 use mathlib.Core.List.{List, [], ◌∷◌, ◌++◌, append_assoc, append-nil}
 use native.Mathlib.Omega.{arith}
 use lib.ListN.{length, length-append, replicate, set}
-use Rattle.text_read.specs.declared.Row.{Row}
-use Rattle.text_read.specs.Reader.{row, ReadsFront, RowRead}
+use Rattle.text_read.specs.Reader.{fails, row, ReadAs}
 use Rattle.text_read.specs.Heads.{move_head}
-use Rattle.text_read.proofs.Sequence.{mapped}
-use Rattle.text_read.proofs.Rows.{number_at_lem}
+use Rattle.text_read.proofs.Sequence.{then_fails, mapped}
+use Rattle.std.specs.Prelude.{Option, Some, None}
 use Rattle.book_lines.specs.declared.moves.Move.{Move}
+use Rattle.book_lines.specs.declared.moves.PairMove.{PairMove}
 use Rattle.book_lines.specs.Lines.{move, move_from}
 use Rattle.book_lines.specs.Questions.{fair_move, move_of, none?, stands, moves, all_pass, first_bad}
-use Rattle.book_lines.specs.Columns.{table}
+use Rattle.book_lines.specs.Columns.{said, table}
 use Rattle.book_lines.specs.Passes.{first_bad_after, place_of, may_stand, Put, kept}
 use Rattle.laws.specs.Tests.{and_true}
 use Rattle.book_lines.proofs.Table.{fair_parts, table_none, table_more, may_stand_stands}
 use Rattle.book_lines.proofs.FirstBad.{none_bad, first_bad_more}
 
 -- the line of a move, from its row
-pub move_read : {s : List ℕ} {r : Row} → RowRead s move_head 4 r → ReadsFront s (move s) r.used (move_from r.numbers)
-unfolding move
-move_read {s} {r} x =
-    let at = number_at_lem x.list x.numbers_are in
-    rw (at 0, at 1, at 2, at 3) (mapped (row move_head 4) move_from s x.right)
+module _ (s : List ℕ) where
+  pub move_read : {l t : List ℕ} → ReadAs s (row move_head 4 s) l t → ReadAs s (move s) (move_from l) t
+  unfolding move
+  move_read r = mapped (row move_head 4) move_from s r
+
+  pub no_move : row move_head 4 s ≡ fails → move s ≡ fails
+  unfolding move
+  no_move e = then_fails (row move_head 4) _ s e
 
 -- the answers to 14: of one more line, and how many
 moves_more : (ds ms : List Move) (m : Move) → moves ds (ms ++ (m ∷ [])) ≡ moves ds ms ++ (stands (ds ++ ms) m ∷ [])
@@ -54,38 +57,35 @@ pub kept_all : (ms : List Move) → all_pass (moves [] ms) ≡ true → kept [] 
 kept_all ms a = all_kept [] ms a
 
 -- What the loop of `read_moves` knows after the lines `done`.
-pub record KnownMoves (done : List Move) (line bad : ℕ) (ticks costs : List ℕ) : Type 0 where
+pub record KnownMoves (done : List Move) (line : ℕ) (bad : Option ℕ) (t : List (Option PairMove)) : Type 0 where
   pub line_is : line ≡ 4 + length done
   pub bad_is : bad ≡ first_bad 4 (moves [] done)
-  pub ticks_are : ticks ≡ table (λ m. m.ticks + 1) (kept [] done)
-  pub costs_are : costs ≡ table (λ m. m.cost) (kept [] done)
+  pub table_is : t ≡ table (kept [] done)
 
-pub known_moves_none : KnownMoves [] 4 0 (replicate 256 0) (replicate 256 0)
+pub known_moves_none : KnownMoves [] 4 None (replicate 256 None)
 unfolding moves kept first_bad
-known_moves_none = record { line_is = refl; bad_is = refl; ticks_are = table_none (λ m. m.ticks + 1); costs_are = table_none (λ m. m.cost) }
+known_moves_none = record { line_is = refl; bad_is = refl; table_is = table_none }
 
 -- a move is put into a table if it may stand
-put_table : (f : Move → ℕ) (ms : List Move) (m : Move) (t t' : List ℕ) (x : Bool) → stands ms m ≡ x → t ≡ table f ms → t' ≡ cond x (set t (place_of m) (f m)) t
-    → t' ≡ table f (cond x (ms ++ (m ∷ [])) ms)
-put_table f ms m t t' true s q p =
+put_table : (ms : List Move) (m : Move) (t t' : List (Option PairMove)) (x : Bool) → stands ms m ≡ x → t ≡ table ms → t' ≡ cond x (set t (place_of m) (Some (said m))) t
+    → t' ≡ table (cond x (ms ++ (m ∷ [])) ms)
+put_table ms m t t' true s q p =
     let b = and_true (fair_move m) (none? (move_of ms m.source m.target)) s in
-    p ∙ rw q (table_more m (fair_parts m b.0).pair f ms b.1)
-put_table f ms m t t' false s q p = p ∙ q
+    p ∙ rw q (table_more m (fair_parts m b.0).pair ms b.1)
+put_table ms m t t' false s q p = p ∙ q
 
-pub known_moves_more : (done : List Move) (m : Move) (line bad : ℕ) (ticks costs ticks' costs' : List ℕ) (r : Bool)
-    → KnownMoves done line bad ticks costs → Put m ticks costs ticks' costs' r → KnownMoves (done ++ (m ∷ [])) (line + 1) (first_bad_after bad r line) ticks' costs'
-known_moves_more done m line bad ticks costs ticks' costs' r k p =
+pub known_moves_more : (done : List Move) (m : Move) (line : ℕ) (bad : Option ℕ) (t t' : List (Option PairMove)) (r : Bool)
+    → KnownMoves done line bad t → Put m t t' r → KnownMoves (done ++ (m ∷ [])) (line + 1) (first_bad_after bad r line) t'
+known_moves_more done m line bad t t' r k p =
     record {
       line_is = omega (arith, k.line_is, length-append done (m ∷ []));
-      bad_is = first_bad_more 4 (moves [] done) r (stands done m) (omega arith) k.bad_is (omega (arith, k.line_is, moves_length [] done)) asked ∙ ap (first_bad 4) (sym (moves_more [] done m));
-      ticks_are = put_table (λ m. m.ticks + 1) (kept [] done) m ticks ticks' (stands (kept [] done) m) refl k.ticks_are (p.ticks_are ∙ ap (λ x. cond x (set ticks (place_of m) (m.ticks + 1)) ticks) test)
-          ∙ ap (table (λ m. m.ticks + 1)) (sym (kept_more [] done m));
-      costs_are = put_table (λ m. m.cost) (kept [] done) m costs costs' (stands (kept [] done) m) refl k.costs_are (p.costs_are ∙ ap (λ x. cond x (set costs (place_of m) m.cost) costs) test)
-          ∙ ap (table (λ m. m.cost)) (sym (kept_more [] done m));
+      bad_is = first_bad_more 4 (moves [] done) r (stands done m) k.bad_is (omega (arith, k.line_is, moves_length [] done)) asked ∙ ap (first_bad 4) (sym (moves_more [] done m));
+      table_is = put_table (kept [] done) m t t' (stands (kept [] done) m) refl k.table_is (p.table_is ∙ ap (λ x. cond x (set t (place_of m) (Some (said m))) t) test)
+          ∙ ap table (sym (kept_more [] done m));
     }
   where
-    test : may_stand ticks m ≡ stands (kept [] done) m
-    test = ap (λ (t : List ℕ). may_stand t m) k.ticks_are ∙ may_stand_stands (kept [] done) m
+    test : may_stand t m ≡ stands (kept [] done) m
+    test = ap (λ (t : List (Option PairMove)). may_stand t m) k.table_is ∙ may_stand_stands (kept [] done) m
 
-    asked : bad ≡ 0 → r ≡ stands done m
-    asked z = p.is ∙ test ∙ ap (λ l. stands l m) (kept_all done (none_bad 4 (moves [] done) (omega arith) (sym k.bad_is ∙ z)))
+    asked : bad ≡ None → r ≡ stands done m
+    asked z = p.is ∙ test ∙ ap (λ l. stands l m) (kept_all done (none_bad 4 (moves [] done) (sym k.bad_is ∙ z)))

@@ -1,19 +1,21 @@
--- The tables of the moves, line by line.
+-- The table of the moves, line by line.
 use Prim.Native.Nat.{ℕ, ◌+◌, ◌/◌, ◌%◌, ◌<◌, ◌≤◌}
 use mathlib.Core.Path.{◌≡◌, refl, sym, ap, ◌∙◌}
 use mathlib.Core.Bool.{Bool, true, false, cond, ◌&&◌, false≢true}
-use mathlib.Core.Option.{Option, none, some}
+use mathlib.Core.Option.{Option as Maybe, none, some}
+use Rattle.std.specs.Prelude.{Some, None, is_none, option_map}
+use Rattle.laws.specs.Optional.{optional}
 use mathlib.Core.List.{List, [], ◌∷◌, ◌++◌}
 use native.Mathlib.Omega.{arith}
 use lib.ListN.{length, get_or, set, length-set, replicate}
 use lib.Seq.{get_or-set_same, get_or-set_other, ext_get_or}
 use lib.Dec.{leb, eqb}
-use borrow.Author.Tests.{leb-true, eqb-true, eqb-false, eq-eqb, ne_eqb}
+use borrow.Author.Tests.{leb-true, eqb-true, eqb-false, eq-eqb}
 use Rattle.book_lines.specs.declared.moves.Move.{Move}
 use Rattle.book_lines.specs.Questions.{is_instrument, fair_move, move_of, none?, stands}
-use Rattle.laws.specs.Tabulate.{tabulate_length, tabulate_at, tabulate_zero}
-use Rattle.book_lines.specs.Columns.{place, value_of, cell, table}
-use Rattle.book_lines.specs.Passes.{place_of, may_stand, Put}
+use Rattle.laws.specs.Tabulate.{tabulate_length, tabulate_at, tabulate_same}
+use Rattle.book_lines.specs.Columns.{place, said, cell, table}
+use Rattle.book_lines.specs.Passes.{place_of, may_stand}
 use Rattle.laws.specs.Tests.{and_true}
 
 -- a and b are instruments
@@ -45,8 +47,8 @@ fair_parts m e =
     let x1 = and_true (is_instrument m.source) (is_instrument m.target) x2.0 in
     record { pair = instruments_in m.source m.target x1.0 x1.1; ticks_high = leb-true _ _ x2.1; cost_high = leb-true _ _ x3.1 }
 
-pub table_none : (f : Move → ℕ) → replicate 256 0 ≡ table f []
-table_none f = sym (tabulate_zero 256 (cell f []) (λ k. refl))
+pub table_none : replicate 256 None ≡ table []
+table_none = sym (tabulate_same 256 (cell []) None (λ k. refl))
 
 -- A move after the others.
 abbrev leads : Move → ℕ → ℕ → Bool
@@ -75,8 +77,8 @@ module _ (a b : ℕ) (r : Instruments a b) where
   place_target : place a b % 16 + 1 ≡ b
   place_target = omega (arith, r)
 
-  pub table_at : (f : Move → ℕ) (ms : List Move) → get_or (table f ms) (place a b) 0 ≡ value_of f (move_of ms a b)
-  table_at f ms = tabulate_at 256 (cell f ms) (place a b) place_small ∙ rw (place_source, place_target)
+  pub table_at : (ms : List Move) → get_or (table ms) (place a b) None ≡ option_map said (optional (move_of ms a b))
+  table_at ms = tabulate_at 256 (cell ms) None (place a b) place_small ∙ rw (place_source, place_target)
 
 -- The place of a move.
 module _ (m : Move) (r : Instruments m.source m.target) where
@@ -93,41 +95,35 @@ module _ (m : Move) (r : Instruments m.source m.target) where
           absurd (z (omega (arith, eqb-true m.source (k / 16 + 1) x.0, eqb-true m.target (k % 16 + 1) x.1)))
 
   -- a move that may stand, put into the table of those before it
-  pub table_more : (f : Move → ℕ) (ms : List Move) → none? (move_of ms m.source m.target) ≡ true → set (table f ms) (place_of m) (f m) ≡ table f (ms ++ (m ∷ []))
-  table_more f ms n =
-      ext_get_or 0 (set (table f ms) (place_of m) (f m)) (table f (ms ++ (m ∷ []))) (simp length-set (tabulate_length 256 (cell f ms) ∙ sym (tabulate_length 256 (cell f (ms ++ (m ∷ [])))))) each
+  pub table_more : (ms : List Move) → none? (move_of ms m.source m.target) ≡ true → set (table ms) (place_of m) (Some (said m)) ≡ table (ms ++ (m ∷ []))
+  table_more ms n =
+      ext_get_or None (set (table ms) (place_of m) (Some (said m))) (table (ms ++ (m ∷ []))) (simp length-set (tabulate_length 256 (cell ms) ∙ sym (tabulate_length 256 (cell (ms ++ (m ∷ [])))))) each
     where
-      size : (k : ℕ) → k < length (set (table f ms) (place_of m) (f m)) → k < 256
-      size k h = omega (arith, length-set (table f ms) (place_of m) (f m), tabulate_length 256 (cell f ms))
+      size : (k : ℕ) → k < length (set (table ms) (place_of m) (Some (said m))) → k < 256
+      size k h = omega (arith, length-set (table ms) (place_of m) (Some (said m)), tabulate_length 256 (cell ms))
 
-      go : (k : ℕ) → k < 256 → (x : Bool) → eqb k (place_of m) ≡ x → get_or (set (table f ms) (place_of m) (f m)) k 0 ≡ cell f (ms ++ (m ∷ [])) k
+      go : (k : ℕ) → k < 256 → (x : Bool) → eqb k (place_of m) ≡ x → get_or (set (table ms) (place_of m) (Some (said m))) k None ≡ cell (ms ++ (m ∷ [])) k
       go k h true q =
           let e = eqb-true k (place_of m) q in
-          rw e (get_or-set_same (table f ms) (place_of m) (f m) 0 (rw (tabulate_length 256 (cell f ms)) (place_small _ _ r))
-          ∙ sym (ap (value_of f) (move_of_last ms m (place_of m / 16 + 1) (place_of m % 16 + 1) (rw (place_source _ _ r, place_target _ _ r) n) place_leads)))
+          rw e (get_or-set_same (table ms) (place_of m) (Some (said m)) None (rw (tabulate_length 256 (cell ms)) (place_small _ _ r))
+          ∙ sym (ap (λ o. option_map said (optional o)) (move_of_last ms m (place_of m / 16 + 1) (place_of m % 16 + 1) (rw (place_source _ _ r, place_target _ _ r) n) place_leads)))
       go k h false q =
           let z = eqb-false k (place_of m) q in
-          get_or-set_other (table f ms) (place_of m) k (f m) 0 z ∙ tabulate_at 256 (cell f ms) k h ∙ sym (ap (value_of f) (move_of_other ms m (k / 16 + 1) (k % 16 + 1) (other_leads k z)))
+          get_or-set_other (table ms) (place_of m) k (Some (said m)) None z
+          ∙ tabulate_at 256 (cell ms) None k h
+          ∙ sym (ap (λ o. option_map said (optional o)) (move_of_other ms m (k / 16 + 1) (k % 16 + 1) (other_leads k z)))
 
-      each : (k : ℕ) → k < length (set (table f ms) (place_of m) (f m)) → get_or (set (table f ms) (place_of m) (f m)) k 0 ≡ get_or (table f (ms ++ (m ∷ []))) k 0
-      each k h = go k (size k h) (eqb k (place_of m)) refl ∙ sym (tabulate_at 256 (cell f (ms ++ (m ∷ []))) k (size k h))
+      each : (k : ℕ) → k < length (set (table ms) (place_of m) (Some (said m))) → get_or (set (table ms) (place_of m) (Some (said m))) k None ≡ get_or (table (ms ++ (m ∷ []))) k None
+      each k h = go k (size k h) (eqb k (place_of m)) refl ∙ sym (tabulate_at 256 (cell (ms ++ (m ∷ []))) None k (size k h))
 
 -- the test by the table is the question
-may_stand_is : (ms : List Move) (m : Move) → (x : Bool) → fair_move m ≡ x → may_stand (table (λ m. m.ticks + 1) ms) m ≡ stands ms m
+may_stand_is : (ms : List Move) (m : Move) → (x : Bool) → fair_move m ≡ x → may_stand (table ms) m ≡ stands ms m
 may_stand_is ms m false e = rw e
-may_stand_is ms m true e = rw (e, table_at _ _ (fair_parts m e).pair (λ m. m.ticks + 1) ms) (go (move_of ms m.source m.target))
+may_stand_is ms m true e = rw (e, table_at _ _ (fair_parts m e).pair ms) (go (move_of ms m.source m.target))
   where
-    go : (o : Option Move) → eqb (value_of (λ m. m.ticks + 1) o) 0 ≡ none? o
+    go : (o : Maybe Move) → is_none (option_map said (optional o)) ≡ none? o
     go none = refl
-    go (some d) = ne_eqb (d.ticks + 1) 0 (omega arith)
+    go (some d) = refl
 
-pub may_stand_stands : (ms : List Move) (m : Move) → may_stand (table (λ m. m.ticks + 1) ms) m ≡ stands ms m
+pub may_stand_stands : (ms : List Move) (m : Move) → may_stand (table ms) m ≡ stands ms m
 may_stand_stands ms m = may_stand_is ms m (fair_move m) refl
-
--- a move that is put, and one that is not
-module _ (m : Move) (ticks costs : List ℕ) where
-  pub put_yes : may_stand ticks m ≡ true → Put m ticks costs (set ticks (place_of m) (m.ticks + 1)) (set costs (place_of m) m.cost) true
-  put_yes e = record { is = sym e; ticks_are = rw e; costs_are = rw e }
-
-  pub put_no : may_stand ticks m ≡ false → Put m ticks costs ticks costs false
-  put_no e = record { is = sym e; ticks_are = rw e; costs_are = rw e }

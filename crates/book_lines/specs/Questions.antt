@@ -1,6 +1,6 @@
 -- Questions 14 and 15. A question that is put to lines has an answer of each of them, in their order.
-use Rattle.std.specs.Prelude.{ℕ, ◌+◌, ◌≤◌, ◌≡◌, Bool, true, false, cond, ◌&&◌, List, [], ◌∷◌, ◌++◌, map, get_or, leb, ltb, eqb}
-use Rattle.std.proofs.Math.Option.{Option, none, some}
+use Rattle.std.specs.Prelude.{ℕ, ◌+◌, ◌≤◌, ◌≡◌, Bool, true, false, cond, ◌&&◌, List, [], ◌∷◌, ◌++◌, map, get_or, leb, ltb, eqb, Option, Some, None}
+use Rattle.std.proofs.Math.Option.{Option as Maybe, none, some}
 use Rattle.book_lines.specs.declared.moves.Move.{Move}
 use Rattle.book_lines.specs.Lines.{Entry}
 
@@ -12,11 +12,11 @@ abbrev pub fair_move : Move → Bool
 fair_move m = is_instrument m.source && is_instrument m.target && leb m.ticks 1000000 && leb m.cost 1000000
 
 -- the move from instrument a to instrument b
-abbrev pub move_of : List Move → ℕ → ℕ → Option Move
+abbrev pub move_of : List Move → ℕ → ℕ → Maybe Move
 move_of [] a b = none
 move_of (m ∷ ms) a b = cond (eqb m.source a && eqb m.target b) (some m) (move_of ms a b)
 
-abbrev pub none? : Option Move → Bool
+abbrev pub none? : Maybe Move → Bool
 none? none = true
 none? (some m) = false
 
@@ -41,11 +41,11 @@ all_pass [] = true
 all_pass (a ∷ l) = a && all_pass l
 
 -- 02, request 3, "The first bad line": "the lowest line number that fails that question". Of the lines that gave these answers, the first of
--- which is line `line`; 0 if none fails
-unfoldable pub first_bad : ℕ → List Bool → ℕ
-first_bad line [] = 0
+-- which is line `line`; none if none fails
+unfoldable pub first_bad : ℕ → List Bool → Option ℕ
+first_bad line [] = None
 first_bad line (true ∷ answers) = first_bad (line + 1) answers
-first_bad line (false ∷ answers) = line
+first_bad line (false ∷ answers) = Some line
 
 -- line k is one of the lines from `first` on that gave these answers, and it fails
 abbrev pub FailsAt : ℕ → List Bool → ℕ → Type 0

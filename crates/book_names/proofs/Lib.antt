@@ -1,3 +1,2 @@
 pub mod Naming
-mod Places
 mod NameExample

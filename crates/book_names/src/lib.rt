@@ -22,21 +22,22 @@ pub fn is_entry(entries: usize, entry: u32) -> bool
 }
 
 // Where the name of an entry lies in the book. Questions 11 to 16 and 19.
+// It and `name_refusal` each put the questions: one function for both, with an error type, would be longer than the two matches.
 pub fn place(book: &[u8], entry: u32) -> Span
     ensures { BookName book.now entry result }
 {
-    let checked = book_check::check(book);
-    let b = checked.book;
-    if is_entry(b.count, entry) {
-        let n = entry as usize;
-        return Span {
-            start: b.names[n - 1],
-            length: b.lengths[n - 1],
-        };
-    }
-    Span {
-        start: 0,
-        length: 0,
+    match book_check::check(book) {
+        Ok(checked) if is_entry(checked.count, entry) => {
+            let e = checked.entries[entry as usize - 1];
+            Span {
+                start: e.name,
+                length: e.length,
+            }
+        }
+        _ => Span {
+            start: 0,
+            length: 0,
+        },
     }
 }
 
@@ -54,15 +55,14 @@ pub fn name(book: &[u8], entry: u32) -> &[u8]
 pub fn name_refusal(book: &[u8], entry: u32) -> u32
     ensures { BookNameRefusal book.now entry result }
 {
-    let checked = book_check::check(book);
-    let answer = checked.answer;
-    let q = book_form::question(answer);
-    if q != 0 {
-        return q;
+    match book_check::check(book) {
+        Err(refusal) => refusal.number(),
+        Ok(checked) => {
+            if is_entry(checked.count, entry) {
+                0
+            } else {
+                19
+            }
+        }
     }
-    let b = checked.book;
-    if is_entry(b.count, entry) {
-        return 0;
-    }
-    19
 }

@@ -2,17 +2,18 @@
 use mathlib.Core.Path.{◌≡◌, refl, sym, ap, ◌∙◌}
 use mathlib.Core.Bool.{Bool, true, false}
 use mathlib.Core.List.{List, [], ◌∷◌, ◌++◌, map}
-use Prim.Native.Nat.{ℕ, zero, suc, ◌+◌, ◌*◌, ◌-◌, ◌/◌, ◌%◌, ◌≤◌, ◌<◌, min}
+use Prim.Native.Nat.{ℕ, zero, suc, ◌+◌, ◌*◌, ◌-◌, ◌/◌, ◌%◌, ◌≤◌, ◌<◌}
 use native.Mathlib.Omega.{arith}
-use native.Mathlib.Nat.{min-le_right, suc-min-suc}
 use lib.Dec.{ltb}
 use lib.IntN.{ℤ, pos, negsuc}
-use lib.ListN.{length, get_or, take, length-map, get_or-map, get_or-eq_default}
+use lib.ListN.{length, get_or, length-map, get_or-map, get_or-eq_default}
 use borrow.Author.Tests.{lt-ltb, le-ltb}
 use mir.Syntax.{w32}
 use mir.Val.{SFits, to_z}
+use Rattle.std.specs.Int.{from_le_bytes}
+use Rattle.std.specs.Simd.{first_chunks}
 use Rattle.laws.specs.Members.{Every}
-use Rattle.bytes_read.specs.Words.{word_of, word_at, bytes_of, signed, unsigned, words, encode_words, ints, encode_ints}
+use Rattle.bytes_read.specs.Words.{word_of, bytes_of, signed, unsigned, words, encode_words, ints, encode_ints}
 
 -- ---- one number
 pub signed_low : (n : ℕ) → n < 2147483648 → signed n ≡ pos n
@@ -89,21 +90,25 @@ length_words (a ∷ b ∷ c ∷ d ∷ l) = let e = length_words l in omega arith
 pub length_ints : (l : List ℕ) → length (ints l) ≡ length l / 4
 length_ints l = length-map (words l) signed ∙ length_words l
 
-pub words_at : (l : List ℕ) (i : ℕ) → 4 * i + 4 ≤ length l → get_or (words l) i 0 ≡ word_at l (4 * i)
-words_at [] i h = absurd (omega arith)
-words_at (a ∷ []) i h = absurd (omega arith)
-words_at (a ∷ b ∷ []) i h = absurd (omega arith)
-words_at (a ∷ b ∷ c ∷ []) i h = absurd (omega arith)
-words_at (a ∷ b ∷ c ∷ d ∷ l) zero h = refl
-words_at (a ∷ b ∷ c ∷ d ∷ l) (suc i) h =
-    let e : 4 * suc i ≡ suc (suc (suc (suc (4 * i)))) = omega arith in
-    rw (e, suc_plus (4 * i) 1, suc_plus (4 * i) 2, suc_plus (4 * i) 3) (words_at l i (omega arith))
-  where
-    suc_plus : (n k : ℕ) → suc (suc (suc (suc n))) + k ≡ suc (suc (suc (suc (n + k))))
-    suc_plus n k = omega arith
+-- the library reads a number of four bytes so
+chunk_word : (l : List ℕ) (k i : ℕ) → i < k → k ≤ length l / 4 → from_le_bytes w32 (get_or (first_chunks 4 k l) i []) ≡ get_or (words l) i 0
+chunk_word l zero i h g = absurd (omega arith)
+chunk_word [] (suc k) i h g = absurd (omega arith)
+chunk_word (a ∷ []) (suc k) i h g = absurd (omega arith)
+chunk_word (a ∷ b ∷ []) (suc k) i h g = absurd (omega arith)
+chunk_word (a ∷ b ∷ c ∷ []) (suc k) i h g = absurd (omega arith)
+chunk_word (a ∷ b ∷ c ∷ d ∷ l) (suc k) zero h g = omega arith
+chunk_word (a ∷ b ∷ c ∷ d ∷ l) (suc k) (suc i) h g = chunk_word l k i (omega arith) (omega arith)
 
-pub ints_at : (l : List ℕ) (i : ℕ) → 4 * i + 4 ≤ length l → get_or (ints l) i (pos 0) ≡ signed (word_at l (4 * i))
-ints_at l i h = get_or-map signed (words l) i 0 ∙ ap signed (words_at l i h)
+pub word_of_chunk : (l : List ℕ) (i : ℕ) (four : List ℕ) → i < length l / 4 → four ≡ get_or (first_chunks 4 (length l / 4) l) i []
+    → from_le_bytes w32 four ≡ get_or (words l) i 0
+word_of_chunk l i four h e = ap (from_le_bytes w32) e ∙ chunk_word l (length l / 4) i h (omega arith)
+
+-- number i of a list of bytes cut into fours, where there is one and where there is none
+pub number_read : (b : List ℕ) (i : ℕ) (fours : List (List ℕ)) (four : List ℕ) → fours ≡ first_chunks 4 (length b / 4) b → i < length b / 4 → four ≡ get_or fours i []
+    → get_or (ints b) i (pos 0) ≡ to_z w32 (from_le_bytes w32 four)
+number_read b i fours four e h q =
+    get_or-map signed (words b) i 0 ∙ ap signed (sym (word_of_chunk b i four h (q ∙ ap (λ l. get_or l i []) e))) ∙ signed_to_z (from_le_bytes w32 four)
 
 pub ints_past : (l : List ℕ) (i : ℕ) → length l / 4 ≤ i → get_or (ints l) i (pos 0) ≡ pos 0
 ints_past l i h = get_or-eq_default (ints l) (pos 0) (omega (arith, length_ints l))
@@ -112,15 +117,3 @@ ints_past l i h = get_or-eq_default (ints l) (pos 0) (omega (arith, length_ints 
 pub length_encode : (l : List ℕ) → length (encode_words l) ≡ 4 * length l
 length_encode [] = refl
 length_encode (n ∷ l) = let e = length_encode l in omega arith
-
--- ---- the first numbers
-take_nil : (n : ℕ) → take {A = ℕ} n [] ≡ []
-take_nil zero = refl
-take_nil (suc n) = refl
-
-pub take_least : (xs : List ℕ) (k m : ℕ) → k ≡ min (length xs) m → take k xs ≡ take m xs
-take_least [] k m e = take_nil k ∙ sym (take_nil m)
-take_least (x ∷ xs) zero zero e = refl
-take_least (x ∷ xs) (suc k) zero e = absurd (omega (arith, min-le_right (length (x ∷ xs)) 0))
-take_least (x ∷ xs) zero (suc m) e = absurd (omega (arith, suc-min-suc (length xs) m))
-take_least (x ∷ xs) (suc k) (suc m) e = cc (take_least xs k m (omega (arith, suc-min-suc (length xs) m)))

@@ -1,13 +1,9 @@
 -- Document 01: "In a C call a list of 32-bit numbers is lent as bytes, four a number, two's complement, lowest byte first".
-use Rattle.std.specs.Prelude.{cond, List, [], ◌∷◌, ◌++◌, map, ℕ, ◌+◌, ◌*◌, ◌-◌, ◌/◌, ◌%◌, ltb, ℤ, pos, negsuc, length, get_or, drop}
+use Rattle.std.specs.Prelude.{cond, List, [], ◌∷◌, ◌++◌, map, ℕ, ◌+◌, ◌*◌, ◌-◌, ◌/◌, ◌%◌, ltb, ℤ, pos, negsuc, length, drop}
 
 -- "four a number, ... lowest byte first"
 abbrev pub word_of : ℕ → ℕ → ℕ → ℕ → ℕ
 word_of a b c d = a + 256 * b + 65536 * c + 16777216 * d
-
--- the number of the four bytes from place k on
-abbrev pub word_at : List ℕ → ℕ → ℕ
-word_at l k = word_of (get_or l k 0) (get_or l (k + 1) 0) (get_or l (k + 2) 0) (get_or l (k + 3) 0)
 
 abbrev pub bytes_of : ℕ → List ℕ
 bytes_of n = n % 256 ∷ n / 256 % 256 ∷ n / 256 / 256 % 256 ∷ n / 256 / 256 / 256 % 256 ∷ []

@@ -22,7 +22,7 @@ module _ (s : List ℕ) where
   accepts c e = first_passed (book_refusal s) _ e
 
   pub full : book_refusal s ≡ 0 → FullOf (entry_count s) (ways s)
-  full ok = let (b, p, h) = held s ok in rw p (full_ways_lem b h.limits)
+  full ok = let (b, c, p, e, h) = held s ok in rw p (full_ways_lem b h.limits)
 
   pub ways_apart : book_refusal s ≡ 0 → Apart encode_words (ways s)
   ways_apart ok = items_apart (entry_count s) (ways s) (full ok)

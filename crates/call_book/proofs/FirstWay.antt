@@ -45,7 +45,7 @@ module _ (b : Book) where
 
 -- of every call of `first` that passes the questions, by what its entry ensures
 pub first_finds_way : (s l : List ℕ) (t : Seen (List ℕ)) → book_question s (first l) ≡ 0 → Answers (book_rules s) (first l) t → FindsWay s l t ⊎ FindsNoWay s l t
-first_finds_way s l t e h = let (b, p, k) = held s (accepts s (first l) e) in go b p (first_way b) refl
+first_finds_way s l t e h = let (b, c, p, k, m) = held s (accepts s (first l) e) in go b p (first_way b) refl
   where
     shown_is : Shows (book_rules s) (first l) (shown (first? (ways s)) nothing) t
     shown_is = rw e at h

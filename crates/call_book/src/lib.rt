@@ -1,53 +1,48 @@
 // The calls of a book, as `desk` hands them to C: each ensures what a caller sees of it, refused calls included.
 #![tactic(auto)]
 
-ghost use Rattle.call_book.specs.BookEntries.{BookFirst, BookNext, BookCount};
+ghost use Rattle.laws.specs.Rules.{first, next};
+ghost use Rattle.call_book.specs.BookEntries.{BookFirst, BookNext, BookCount, Answered};
 
-use call_reply::Reply;
+use call_reply::{Code, Reply};
+use call_way_bytes::WayRefusal;
 
 // The first least-cost way, or "none". Questions 11 to 17.
 pub fn first(book: &[u8], way: &mut [u8]) -> Reply
     ensures { BookFirst book.now way.old result way.new }
 {
-    let admitted = call_way_bytes::admit_with_room(book, way.len());
-    let number = admitted.number;
-    if number != 0 {
-        return call_reply::refused_at(number, admitted.line);
-    }
-    let b = admitted.book;
-    let ways = way_enumerate::start(b).first();
-    call_way_bytes::hand_way(ways, way, 100)
+    call_way_bytes::reply_of(first_way(book, way))
+}
+
+fn first_way(book: &[u8], way: &mut [u8]) -> Result<Reply, WayRefusal>
+    ensures { Answered book.now (first way.old) way.new result }
+{
+    let checked = call_way_bytes::admit_with_room(book, way.len())?;
+    let ways = way_enumerate::start(&checked).first();
+    Ok(call_way_bytes::hand_way(&ways, way, Code::None.number()))
 }
 
 // The least-cost way after the one given, or "end". Questions 11 to 18.
 pub fn next(book: &[u8], given: &[u8], way: &mut [u8]) -> Reply
     ensures { BookNext book.now given.now way.old result way.new }
 {
-    let admitted = call_way_bytes::admit_with_room(book, way.len());
-    let number = admitted.number;
-    if number != 0 {
-        return call_reply::refused_at(number, admitted.line);
-    }
-    let b = admitted.book;
-    let ways = call_way_bytes::resume_way(b, given);
-    let flows = ways.flows;
-    let place = flows.place;
-    if !call_reply::on_item(place) {
-        return call_reply::code_alone(18);
-    }
-    call_way_bytes::hand_way(ways.next(), way, 101)
+    call_way_bytes::reply_of(next_way(book, given, way))
+}
+
+fn next_way(book: &[u8], given: &[u8], way: &mut [u8]) -> Result<Reply, WayRefusal>
+    ensures { Answered book.now (next given.now way.old) way.new result }
+{
+    let checked = call_way_bytes::admit_with_room(book, way.len())?;
+    let ways = call_way_bytes::resume_way(&checked, given)?;
+    Ok(call_way_bytes::hand_way(&ways.next(), way, Code::End.number()))
 }
 
 // How many least-cost ways there are, up to the cap. Questions 11 to 16.
 pub fn count(book: &[u8], cap: u16) -> Reply
     ensures { BookCount book.now cap result }
 {
-    let admitted = call_way_bytes::admit_book(book);
-    let number = admitted.number;
-    if number != 0 {
-        return call_reply::refused_at(number, admitted.line);
+    match book_check::check(book) {
+        Ok(checked) => call_reply::count_reply(way_enumerate::start(&checked).count(cap), cap),
+        Err(refusal) => call_reply::refused_at(refusal.number(), refusal.line()),
     }
-    let b = admitted.book;
-    let count = way_enumerate::start(b).count(cap);
-    call_reply::count_reply(count, cap)
 }

@@ -1,3 +1,4 @@
 pub mod NetworkBytes
 pub mod Prices
+pub mod Refusals
 pub mod FlowSteps

@@ -1,104 +1,119 @@
 // The flows of a network as the bytes of a call: questions 7 and 8, and a flow and its prices written.
 #![tactic(auto)]
 
-ghost use Rattle.std.specs.Prelude.{◌≡◌, true, length};
+ghost use Rattle.std.specs.Prelude.{◌≡◌, true, false, length, MatchResult};
 ghost use Rattle.net_model.specs.Struct.{Sound};
-ghost use Rattle.net_questions.specs.Questions.{number_of};
 ghost use Rattle.flow_enumerate.specs.Enumerator.{Stands};
+ghost use Rattle.call_reply.specs.Replies.{code_alone};
 ghost use Rattle.call_reply.specs.ByteLists.{room};
+ghost use Rattle.call_flow_bytes.specs.Refusals.{number_of};
 ghost use Rattle.call_flow_bytes.specs.FlowSteps.{AdmitsNetwork, ResumesFlow, HandsFlow, HandsPrices};
 
 use call_reply::Reply;
 use flow_enumerate::Enumerator;
 use net_model::Network;
-use net_questions::Verdict;
+use net_questions::NetworkRefusal;
 
-pub fn number_of(verdict: Verdict) -> u32
-    ensures { result ≡ number_of verdict }
-{
-    match verdict {
-        Verdict::Accepted => 0,
-        Verdict::NodeCount => 1,
-        Verdict::ArcCount => 2,
-        Verdict::BadEnd => 3,
-        Verdict::BadBounds => 4,
-        Verdict::BadCost => 5,
-        Verdict::BadBalance => 6,
+// The question that a call of a network fails: one of 1 to 6, 7 of a list lent, or 8 of the flow given.
+#[derive(Clone, Copy, Debug, PartialEq, Eq)]
+pub enum FlowRefusal {
+    Network(NetworkRefusal),
+    Room,
+    StrangeFlow,
+}
+
+impl FlowRefusal {
+    // The number of the question.
+    pub fn number(self) -> u32
+        ensures { result ≡ number_of self }
+    {
+        match self {
+            FlowRefusal::Network(refusal) => refusal.number(),
+            FlowRefusal::Room => 7,
+            FlowRefusal::StrangeFlow => 8,
+        }
+    }
+
+    pub fn reply(self) -> Reply
+        ensures { result ≡ code_alone (number_of self) }
+    {
+        call_reply::code_alone(self.number())
     }
 }
 
-// The network of a call, and the number of the first of questions 1 to 7 that fails, or 0.
-#[derive(Clone, Copy)]
-pub struct AdmittedNetwork {
-    pub number: u32,
-    pub net: Network,
+impl From<NetworkRefusal> for FlowRefusal {
+    ghost use Rattle.call_flow_bytes.specs.declared.FlowRefusal.TheVariants.{Network};
+
+    ghost from_gives = { λ refusal r. r ≡ Network refusal };
+
+    fn from(refusal: NetworkRefusal) -> FlowRefusal {
+        FlowRefusal::Network(refusal)
+    }
+}
+
+// The reply of a call, answered or refused.
+pub fn reply_of(answer: Result<Reply, FlowRefusal>) -> Reply
+    ensures { MatchResult answer (λ reply. result ≡ reply) (λ refusal. result ≡ code_alone (number_of refusal)) }
+{
+    answer.unwrap_or_else(FlowRefusal::reply)
+}
+
+// Question 7 of one list, of so many bytes: whether it has room for k numbers.
+pub fn ask_room(k: usize, bytes: usize) -> Result<(), FlowRefusal>
+    ensures { MatchResult result (λ _. room k bytes ≡ true) (λ refusal. (room k bytes ≡ false) × (refusal ≡ FlowRefusal.Room)) }
+{
+    if call_reply::has_room(k, bytes) {
+        Ok(())
+    } else {
+        Err(FlowRefusal::Room)
+    }
 }
 
 // Puts questions 1 to 7, where a list of so many bytes is lent for the flows.
-pub fn admit_network(balances: &[u8], arcs: &[u8], bytes: usize) -> AdmittedNetwork
+pub fn admit_network(balances: &[u8], arcs: &[u8], bytes: usize) -> Result<Network, FlowRefusal>
     ensures { AdmitsNetwork balances.now arcs.now bytes result }
 {
-    let checked = net_check::check(balances, arcs);
-    let verdict = checked.verdict;
-    let number = number_of(verdict);
-    let net = checked.net;
-    if number != 0 {
-        return AdmittedNetwork {
-            number: number,
-            net: net,
-        };
-    }
-    if call_reply::has_room(net.arcs, bytes) {
-        AdmittedNetwork {
-            number: 0,
-            net: net,
-        }
-    } else {
-        AdmittedNetwork {
-            number: 7,
-            net: net,
-        }
-    }
+    let net = net_check::check(balances, arcs)?;
+    ask_room(net.arcs, bytes)?;
+    Ok(net)
 }
 
-// Question 8: the enumerator that stands on the flow given, if it is on the full list; else one that has not begun.
-pub fn resume_flow(net: Network, given: &[u8]) -> Enumerator
+// Question 8: the enumerator that stands on the flow given.
+pub fn resume_flow(net: Network, given: &[u8]) -> Result<Enumerator, FlowRefusal>
     requires { Sound net }
     ensures { ResumesFlow net given.now result }
 {
-    let m = net.arcs;
-    if given.len() != 4 * m {
-        return flow_enumerate::start(net);
+    if given.len() != 4 * net.arcs {
+        return Err(FlowRefusal::StrangeFlow);
     }
-    let flow = bytes_read::read_words(given);
-    flow_enumerate::resume(net, flow)
+    let enumerator = flow_enumerate::resume(net, bytes_read::read_words(given));
+    if !call_reply::on_item(enumerator.place) {
+        return Err(FlowRefusal::StrangeFlow);
+    }
+    Ok(enumerator)
 }
 
 // Writes the flow that the enumerator stands on; without one the reply is `code`.
-pub fn hand_flow(enumerator: Enumerator, flows: &mut [u8], code: u32) -> Reply
-    requires { Stands enumerator × (room enumerator.net.arcs (length flows.old) ≡ true) }
-    ensures { HandsFlow enumerator code flows.old result flows.new }
+pub fn hand_flow(enumerator: &Enumerator, flows: &mut [u8], code: u32) -> Reply
+    requires { Stands enumerator.now × (room enumerator.now.net.arcs (length flows.old) ≡ true) }
+    ensures { HandsFlow enumerator.now code flows.old result flows.new }
 {
-    let place = enumerator.place;
-    if !call_reply::on_item(place) {
+    if !call_reply::on_item(enumerator.place) {
         return call_reply::code_alone(code);
     }
-    let net = enumerator.net;
-    let flow = enumerator.flow;
-    let cost = enumerator.cost;
-    call_reply::hand_item(&flow, net.arcs, cost, flows)
+    call_reply::hand_numbers(
+        &enumerator.flow[..enumerator.net.arcs],
+        enumerator.cost,
+        flows,
+    )
 }
 
 // Writes the prices of the flow that the enumerator stands on.
-pub fn hand_prices(enumerator: Enumerator, prices: &mut [u8])
-    requires { Stands enumerator × (room enumerator.net.nodes (length prices.old) ≡ true) }
-    ensures { HandsPrices enumerator prices.old prices.new }
+pub fn hand_prices(enumerator: &Enumerator, prices: &mut [u8])
+    requires { Stands enumerator.now × (room enumerator.now.net.nodes (length prices.old) ≡ true) }
+    ensures { HandsPrices enumerator.now prices.old prices.new }
 {
-    let place = enumerator.place;
-    if !call_reply::on_item(place) {
-        return;
+    if call_reply::on_item(enumerator.place) {
+        bytes_write::write_ints(prices, &enumerator.prices(), enumerator.net.nodes);
     }
-    let net = enumerator.net;
-    let ps = enumerator.prices();
-    bytes_write::write_ints(prices, &ps, net.nodes);
 }

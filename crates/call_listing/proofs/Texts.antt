@@ -9,6 +9,7 @@ use lib.IntN.{pos}
 use lib.Dec.{leb}
 use lib.ListN.{length, take, drop}
 use lib.Seq.{take_at}
+use Rattle.std.specs.Prelude.{Some, None, Err}
 use Rattle.laws.specs.Members.{first?, none_some}
 use Rattle.laws.specs.Tests.{ask}
 use Rattle.laws.specs.Appended.{Appended, appended_long}
@@ -16,19 +17,21 @@ use Rattle.text_write.specs.Fit.{fit}
 use Rattle.text_listing.specs.Lines.{none_line, refused_line}
 use Rattle.book_lines.specs.Questions.{moves, entries, all_pass}
 use Rattle.book_form.specs.Book.{Book, parse}
-use Rattle.book_form.specs.Questions.{header, ask_form, book_refusal}
+use Rattle.book_form.specs.Questions.{header, ask_form, book_refusal, question_of, line_of}
 use Rattle.way_theory.specs.Ways.{way_cost}
 use Rattle.way_theory.specs.FullWays.{full_ways, first_way}
 use Rattle.way_list.specs.Room.{listing_room}
 use Rattle.way_list.specs.WayListing.{list_ways, ways_text}
 use Rattle.call_reply.specs.declared.Reply.{Reply}
-use Rattle.call_reply.specs.Replies.{refused_at, value_reply}
+use Rattle.call_reply.specs.Replies.{refused_at, value_alone, value_reply}
 use Rattle.call_reply.proofs.Turns.{first_passed}
 use Rattle.call_reply.proofs.Refusing.{if_not, refused_value}
 use Rattle.book_form.specs.LineTold.{line_told}
 use Rattle.book_form.proofs.LineTold.{untold}
-use Rattle.call_way_bytes.specs.WaySteps.{AdmitsBook}
-use Rattle.call_way_bytes.specs.declared.AdmittedBook.{AdmittedBook}
+use Rattle.book_form.specs.declared.BookRefusal.{BookRefusal}
+use Rattle.book_check.specs.BookCheck.{ChecksBook}
+use Rattle.call_way_bytes.specs.declared.WayRefusal.TheVariants.{Book as refused_book}
+use Rattle.call_way_bytes.proofs.Admitting.{refuses}
 use Rattle.call_listing.specs.declared.Written.{Written}
 use Rattle.call_listing.specs.Listing.{listing, none_code, listing_code, Printed, BookListing, WritesListing}
 
@@ -61,22 +64,32 @@ accepted_untold s ok = rw ok (sym (untold s 0 (λ b. refl)))
 
 -- what is written
 module _ (s before after : List ℕ) (n : ℕ) where
-  pub writes_refused : (r : AdmittedBook) → AdmitsBook s r → ¬ (r.number ≡ 0) → Appended before 0 (refused_line r.number) after n
-      → WritesListing s before (record { len = n; code = r.number; line = r.line }) after
-  writes_refused r h f a = go r.number refl
+  pub writes_refused : (e : BookRefusal) → ChecksBook s (Err e) → (x : Reply) → x ≡ refused_at (question_of e) (line_of e) → Appended before 0 (refused_line (question_of e)) after n
+      → WritesListing s before (record { len = n; refused = Some x }) after
+  writes_refused e h x r a = go (question_of e) refl
     where
-      go : (k : ℕ) → r.number ≡ k → WritesListing s before (record { len = n; code = r.number; line = r.line }) after
-      go zero e = absurd (f e)
-      go (suc k) e =
-          let q : book_refusal s ≡ suc k = sym h.number_is ∙ e in
-          record { text = rw q (rw e at a); code_is = rw q e; line_is = h.line_is ∙ ap (line_told s) h.number_is }
+      go : (k : ℕ) → question_of e ≡ k → WritesListing s before (record { len = n; refused = Some x }) after
+      go zero z = absurd (refuses (refused_book e) z)
+      go (suc k) z =
+          let q : book_refusal s ≡ suc k = sym h.question ∙ z in
+          let code : listing_code s ≡ suc k = rw q refl in
+          record {
+            text = rw q (rw z at a);
+            refused_is = (λ o. omega (arith, code, o), r ∙ ap (λ i. refused_at i (line_of e)) (z ∙ sym code) ∙ ap (refused_at (listing_code s)) h.line);
+          }
 
   module _ (ok : book_refusal s ≡ 0) (b : Book) (is : parse s ≡ some b) where
-    pub writes_none : first_way b ≡ none → Appended before 0 none_line after n → WritesListing s before (record { len = n; code = 100; line = 0 }) after
-    writes_none e a = let (k, t) = no_text (way_cost b) (full_ways b) e in record { text = rw (ok, is, t) a; code_is = rw (ok, is, k); line_is = accepted_untold s ok }
+    pub writes_none : first_way b ≡ none → (x : Reply) → x ≡ refused_at 100 0 → Appended before 0 none_line after n → WritesListing s before (record { len = n; refused = Some x }) after
+    writes_none e x r a =
+        let (k, t) = no_text (way_cost b) (full_ways b) e in
+        let code : listing_code s ≡ 100 = rw (ok, is, k) refl in
+        record {
+          text = rw (ok, is, t) a;
+          refused_is = (λ o. omega (arith, code, o), r ∙ ap (λ i. refused_at i 0) (sym code) ∙ ap (refused_at (listing_code s)) (accepted_untold s ok));
+        }
 
-    pub writes_ways : (w : List ℕ) → first_way b ≡ some w → Appended before 0 (ways_text b) after n → WritesListing s before (record { len = n; code = 0; line = 0 }) after
-    writes_ways w e a = record { text = rw (ok, is) a; code_is = rw (ok, is, some_code (full_ways b) w e); line_is = accepted_untold s ok }
+    pub writes_ways : (w : List ℕ) → first_way b ≡ some w → Appended before 0 (ways_text b) after n → WritesListing s before (record { len = n; refused = None }) after
+    writes_ways w e a = record { text = rw (ok, is) a; refused_is = rw (ok, is, some_code (full_ways b) w e) refl }
 
 -- what is handed over of it
 module _ (s room room' : List ℕ) (large : listing_room ≡ length room) (w : Written) (h : WritesListing s room w room') where
@@ -96,18 +109,18 @@ module _ (s room room' : List ℕ) (large : listing_room ≡ length room) (w : W
     pub prints : (after : List ℕ) → after ≡ fit (take w.len room') before → Printed s before after w.len
     prints after e = record { long = long; few = few; text = e ∙ ap (λ v. fit v before) taken }
 
-    pub lists_nothing : (r : Reply) → ¬ (w.code ≡ 0) → r ≡ refused_at w.code w.line → BookListing s before r before
-    lists_nothing r f q =
-        let k : ¬ (listing_code s ≡ 0) = λ e. f (h.code_is ∙ e) in
+    pub lists_nothing : (r : Reply) → w.refused ≡ Some r → BookListing s before r before
+    lists_nothing r f =
+        let (k, q) = rw f at h.refused_is in
         record {
-          reply_is = q ∙ rw (h.code_is, h.line_is) (refused_value (listing_code s) _ (length (listing s)) k);
+          reply_is = q ∙ refused_value (listing_code s) _ (length (listing s)) k;
           text_is = sym (if_not (listing_code s) _ before k);
           few = omega (arith, few, long);
         }
 
-    pub lists : (after : List ℕ) → w.code ≡ 0 → after ≡ fit (take w.len room') before → BookListing s before (record { code = 0; line = 0; value = pos w.len }) after
-    lists after z e =
-        let o : listing_code s ≡ 0 = sym h.code_is ∙ z in
+    pub lists : (after : List ℕ) → w.refused ≡ None → after ≡ fit (take w.len room') before → BookListing s before (value_alone (pos w.len)) after
+    lists after f e =
+        let o : listing_code s ≡ 0 = rw f at h.refused_is in
         record {
           reply_is = rw (o, ← accepted_untold s (first_passed (book_refusal s) _ o)) (ap (value_reply 0 0) long);
           text_is = rw o (e ∙ ap (λ v. fit v before) taken);

@@ -1,5 +1,5 @@
 -- Document 01, "The listing": the text that `ways` prints of a book, and what a call of the listing answers.
-use Rattle.std.specs.Prelude.{◌≡◌, List, [], ◌∷◌, ℕ, zero, suc, ◌≤◌, length}
+use Rattle.std.specs.Prelude.{◌≡◌, List, [], ◌∷◌, ℕ, zero, suc, ◌≤◌, length, MatchOption}
 use Rattle.book_form.specs.Book.{parse}
 use Rattle.book_form.specs.Questions.{book_refusal}
 use Rattle.laws.specs.Appended.{Appended}
@@ -9,7 +9,7 @@ use Rattle.way_list.specs.Room.{listing_room}
 use Rattle.way_list.specs.WayListing.{list_ways}
 use Rattle.way_theory.specs.BookBytes.{ways, way_cost_or_zero}
 use Rattle.call_reply.specs.declared.Reply.{Reply}
-use Rattle.call_reply.specs.Replies.{or_else, if_ok, value_reply}
+use Rattle.call_reply.specs.Replies.{or_else, if_ok, refused_at, value_reply}
 use Rattle.book_form.specs.LineTold.{line_told}
 use Rattle.call_listing.specs.declared.Written.{Written}
 
@@ -42,8 +42,7 @@ pub record BookListing (s before : List ℕ) (r : Reply) (after : List ℕ) : Ty
   pub text_is : after ≡ if_ok (listing_code s) (fit (listing s) before) before
   pub few : length (listing s) ≤ listing_room
 
--- what both take: the text that `ways` prints at the front of a list, and the code and the line of the reply
+-- what both take: the text that `ways` prints at the front of a list, and the reply where it is no listing of ways
 pub record WritesListing (s before : List ℕ) (w : Written) (after : List ℕ) : Type 0 where
   pub text : Appended before 0 (listing s) after w.len
-  pub code_is : w.code ≡ listing_code s
-  pub line_is : w.line ≡ line_told s (book_refusal s)
+  pub refused_is : MatchOption w.refused (listing_code s ≡ 0) (λ reply. ¬ (listing_code s ≡ 0) × (reply ≡ refused_at (listing_code s) (line_told s (book_refusal s))))

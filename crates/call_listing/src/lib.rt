@@ -5,14 +5,14 @@ ghost use Rattle.std.specs.Prelude.{◌≡◌, ◌≤◌, length};
 ghost use Rattle.way_list.specs.Room.{listing_room};
 ghost use Rattle.call_listing.specs.Listing.{Printed, BookListing, WritesListing};
 
-use call_reply::Reply;
+use call_reply::{Code, Reply};
+use text_listing::Line;
 
-// A text that is written, so many bytes, and the code and the line of the reply.
+// A text that is written, so many bytes, and the reply where it is no listing of ways: a refusal, or "none".
 #[derive(Clone, Copy)]
 struct Written {
     len: usize,
-    code: u32,
-    line: u32,
+    refused: Option<Reply>,
 }
 
 // Room for the longest listing, in bytes.
@@ -29,30 +29,26 @@ fn write_listing(book: &[u8], out: &mut [u8]) -> Written
     requires { listing_room ≤ length out.old }
     ensures { WritesListing book.now out.old result out.new }
 {
-    let admitted = call_way_bytes::admit_book(book);
-    let number = admitted.number;
-    if number != 0 {
+    let checked = match book_check::check(book) {
+        Ok(checked) => checked,
+        Err(refusal) => {
+            let number = refusal.number();
+            return Written {
+                len: text_listing::put_alone(out, Line::Refused(u64::from(number))),
+                refused: Some(call_reply::refused_at(number, refusal.line())),
+            };
+        }
+    };
+    let ways = way_enumerate::start(&checked).first();
+    if !call_reply::on_item(ways.flows.place) {
         return Written {
-            len: text_listing::put_refused(out, 0, number as u64),
-            code: number,
-            line: admitted.line,
-        };
-    }
-    let b = admitted.book;
-    let ways = way_enumerate::start(b).first();
-    let flows = ways.flows;
-    let place = flows.place;
-    if !call_reply::on_item(place) {
-        return Written {
-            len: text_listing::put_none(out, 0),
-            code: 100,
-            line: 0,
+            len: text_listing::put_alone(out, Line::NoWay),
+            refused: Some(call_reply::code_alone(Code::None.number())),
         };
     }
     Written {
         len: way_list::list(ways, out),
-        code: 0,
-        line: 0,
+        refused: None,
     }
 }
 
@@ -73,15 +69,10 @@ pub fn list(book: &[u8], text: &mut [u8]) -> Reply
 {
     let mut room = blank();
     let written = write_listing(book, &mut room);
-    let code = written.code;
-    if code != 0 {
-        return call_reply::refused_at(code, written.line);
+    if let Some(reply) = written.refused {
+        return reply;
     }
     let n = written.len;
     text_write::copy_if_room(&room[..n], text);
-    Reply {
-        code: 0,
-        line: 0,
-        value: n as i64,
-    }
+    call_reply::value_alone(n as i64)
 }

@@ -23,6 +23,10 @@ if_ok (suc n) x y = y
 abbrev pub sees : {Lent : Type 0} → Reply → Lent → Seen Lent
 sees r l = record { number = r.code; told = r.line; cost = r.value; lists = l }
 
+-- the reply with a value
+abbrev pub value_alone : ℤ → Reply
+value_alone z = record { code = 0; line = 0; value = z }
+
 -- "The rest of the result is then zero"
 abbrev pub code_alone : ℕ → Reply
 code_alone k = record { code = k; line = 0; value = pos 0 }
@@ -34,7 +38,7 @@ refused_at k l = record { code = k; line = l; value = pos 0 }
 -- the reply with an item is its cost; without one it is the code k
 abbrev pub item_reply : (List ℕ → ℤ) → Option (List ℕ) → ℕ → Reply
 item_reply cost none k = code_alone k
-item_reply cost (some v) k = record { code = 0; line = 0; value = cost v }
+item_reply cost (some v) k = value_alone (cost v)
 
 -- an item is written to the first places of a list
 abbrev pub item_written : Option (List ℕ) → List ℕ → List ℕ
@@ -54,7 +58,7 @@ on_item End = false
 
 -- "the length of the list if that is at most the cap, else 'more'"
 abbrev pub count_reply : Count → Reply
-count_reply (exactly n) = record { code = 0; line = 0; value = pos n }
+count_reply (exactly n) = value_alone (pos n)
 count_reply more = code_alone 102
 
 -- x unless a question fails: k is its number, or 0, and l the line told with it

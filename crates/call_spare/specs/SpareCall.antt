@@ -1,18 +1,14 @@
 -- Document 02, request 7: the call of the spare of a join. s is the book, i the earlier entry and j the later one, r the reply.
-use Rattle.std.specs.Prelude.{◌≡◌, ◌&&◌, List, ℕ, ℤ}
-use Rattle.std.proofs.Math.Option.{Option, none, some}
+use Rattle.std.specs.Prelude.{◌≡◌, ◌&&◌, List, ℕ, ℤ, Option, Some, None}
+use Rattle.std.proofs.Math.Option.{Option as Maybe, none, some}
+use Rattle.laws.specs.Optional.{optional}
 use Rattle.laws.specs.Tests.{ask}
 use Rattle.book_form.specs.Book.{Book, parse}
 use Rattle.book_form.specs.Questions.{book_refusal}
 use Rattle.book_form.specs.LineTold.{line_told}
-use Rattle.book_form.specs.declared.CheckedBook.{CheckedBook}
 use Rattle.book_names.specs.Name.{is_entry}
 use Rattle.way_theory.specs.Follow.{spare}
 use Rattle.way_theory.specs.BookBytes.{entry_count}
-use Rattle.way_joins.specs.declared.Spare.{Spare}
-use Rattle.way_joins.specs.declared.Spare.TheVariants.{NoMove, Ticks}
-use Rattle.way_joins.specs.Joins.{spare_of}
-use Rattle.way_network.specs.Held.{Holds}
 use Rattle.call_reply.specs.declared.Reply.{Reply}
 use Rattle.call_reply.specs.Replies.{or_else, code_alone, reply_unless}
 
@@ -24,18 +20,14 @@ spare_question s i j =
     0)
 
 -- the number and the value of each answer: "that test now gives the signed spare .. A missing move has an answer of its own"
-abbrev pub spare_reply : Spare → Reply
-spare_reply NoMove = code_alone 103
-spare_reply (Ticks z) = record { code = 0; line = 0; value = z }
+abbrev pub spare_reply : Option ℤ → Reply
+spare_reply None = code_alone 103
+spare_reply (Some z) = record { code = 0; line = 0; value = z }
 
 -- the spare in a book that keeps the form
-abbrev pub spare_at : Option Book → ℕ → ℕ → Option ℤ
+abbrev pub spare_at : Maybe Book → ℕ → ℕ → Maybe ℤ
 spare_at none i j = none
 spare_at (some b) i j = spare b i j
 
 abbrev pub BookSpare : List ℕ → ℕ → ℕ → Reply → Type 0
-BookSpare s i j r = r ≡ (let q = spare_question s i j in reply_unless q (line_told s q) (spare_reply (spare_of (spare_at (parse s) i j))))
-
--- the spare of each book that the checked book holds
-pub record SparesIn (c : CheckedBook) (i j : ℕ) (r : Spare) : Type 0 where
-  pub each : (b : Book) → Holds b c → r ≡ spare_of (spare b i j)
+BookSpare s i j r = r ≡ (let q = spare_question s i j in reply_unless q (line_told s q) (spare_reply (optional (spare_at (parse s) i j))))

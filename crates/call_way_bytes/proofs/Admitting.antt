@@ -1,61 +1,64 @@
--- An admitted book: the book that it holds, and from the steps of `admit_with_room` to what it ensures.
-use mathlib.Core.Path.{◌≡◌, refl, sym, ap, subst, ◌∙◌}
-use mathlib.Core.Bool.{true, false}
+-- From the steps of `admit_with_room` to what it ensures; what a refused book is told.
+use mathlib.Core.Path.{◌≡◌, refl, sym, ap, ◌∙◌}
+use mathlib.Core.Bool.{Bool, true, false}
 use mathlib.Core.List.{List}
-use mathlib.Core.Option.{some}
-use Prim.Native.Nat.{ℕ}
+use Prim.Native.Nat.{ℕ, zero, suc}
+use native.Mathlib.Omega.{arith}
 use lib.ListN.{length}
-use Rattle.book_form.specs.Book.{Book, parse}
+use Rattle.std.specs.Prelude.{Ok, Err}
 use Rattle.book_form.specs.Questions.{book_refusal}
 use Rattle.book_form.specs.Checked.{entries_of}
+use Rattle.book_form.specs.declared.BookRefusal.{BookRefusal}
+use Rattle.book_form.specs.declared.BookRefusal.TheVariants.{TooLong, Malformed, BadHeader, BadMove, BadEntry, TooMany}
 use Rattle.book_form.specs.declared.CheckedBook.{CheckedBook}
 use Rattle.book_form.proofs.LineTold.{untold}
+use Rattle.book_check.specs.BookCheck.{ChecksBook}
+use Rattle.book_check.proofs.Accepting.{Accepted, accepted, accepted_holds}
 use Rattle.way_theory.specs.BookBytes.{entry_count}
-use Rattle.way_network.specs.Held.{Holds, Held}
-use Rattle.way_network.proofs.Made.{held}
+use Rattle.call_reply.specs.Replies.{or_else}
 use Rattle.call_reply.specs.ByteLists.{room}
-use Rattle.call_reply.proofs.Turns.{fails_first}
-use Rattle.call_way_bytes.specs.WaySteps.{AdmitsBook, AdmitsWithRoom}
-use Rattle.call_way_bytes.specs.declared.AdmittedBook.{AdmittedBook}
+use Rattle.call_way_bytes.specs.Refusals.{number_of, Refuses}
+use Rattle.call_way_bytes.specs.WaySteps.{admit_question, Admitted}
+use Rattle.call_way_bytes.specs.declared.WayRefusal.{WayRefusal}
+use Rattle.call_way_bytes.specs.declared.WayRefusal.TheVariants.{Book, Room, StrangeWay, Text}
 
--- past questions 11 to 16: the book, which the checked book holds
-pub record Admitted (s : List ℕ) (c : CheckedBook) : Type 0 where
-  pub ok : book_refusal s ≡ 0
-  pub book : Book
-  pub is : parse s ≡ some book
-  pub holds : Holds book c
+-- no refusal has the number 0
+pub refuses : (r : WayRefusal) → ¬ (number_of r ≡ 0)
+refuses (Book TooLong) e = omega arith
+refuses (Book Malformed) e = omega arith
+refuses (Book (BadHeader k)) e = omega arith
+refuses (Book (BadMove k)) e = omega arith
+refuses (Book (BadEntry k)) e = omega arith
+refuses (Book TooMany) e = omega arith
+refuses Room e = omega arith
+refuses StrangeWay e = omega arith
+refuses Text e = omega arith
 
-module _ {s : List ℕ} {c : CheckedBook} (a : Admitted s c) where
-  pub admitted_held : Held c
-  admitted_held = record { book = a.book; holds = a.holds }
+-- further questions change nothing for a refused book
+pub refused_or_else : (s : List ℕ) (k : ℕ) (e : BookRefusal) → ChecksBook s (Err e) → Refuses s (or_else (book_refusal s) k) (Book e)
+refused_or_else s k e h = go (book_refusal s) refl
+  where
+    go : (q : ℕ) → book_refusal s ≡ q → Refuses s (or_else (book_refusal s) k) (Book e)
+    go zero z = absurd (refuses (Book e) (h.question ∙ z))
+    go (suc q) z = (rw z (sym (h.question ∙ z)), h.line ∙ rw z refl)
 
-  pub admitted_count : c.count ≡ entry_count s
-  admitted_count = ap (λ (c : CheckedBook). c.count) a.holds.is ∙ sym (ap (λ o. length (entries_of o)) a.is)
+module _ (s : List ℕ) (c : CheckedBook) (h : ChecksBook s (Ok c)) where
+  past : Accepted s c
+  past = accepted h
 
-module _ (s : List ℕ) (r : AdmittedBook) (h : AdmitsBook s r) where
-  pub admitted : r.number ≡ 0 → Admitted s r.book
-  admitted z =
-      let ok = sym h.number_is ∙ z in
-      let (b, p, k) = held s ok in
-      record { ok = ok; book = b; is = p; holds = subst (Holds b) (sym h.book_is) k }
+  pub count_is : c.count ≡ entry_count s
+  count_is = ap (λ (c : CheckedBook). c.count) past.is ∙ sym (ap (λ o. length (entries_of o)) past.parsed)
 
-  -- questions 11 to 17 with a list of so many bytes for the way: what `admit_with_room` hands back
+  -- questions 11 to 17 with a list of so many bytes for the way, where none fails, and where 17 does
   module _ (bytes : ℕ) where
-    pub still_refused : ¬ (r.number ≡ 0) → AdmitsWithRoom s bytes r
-    still_refused n = record { number_is = fails_first (book_refusal s) _ r.number h.number_is n; line_is = h.line_is; book_is = h.book_is }
+    room_is : (b : Bool) → room c.count bytes ≡ b → room (entry_count s) bytes ≡ b
+    room_is b e = ap (λ n. room n bytes) (sym count_is) ∙ e
 
-    module _ (z : r.number ≡ 0) where
-      fits_same : room r.book.count bytes ≡ room (entry_count s) bytes
-      fits_same = ap (λ n. room n bytes) (admitted_count (admitted z))
+    pub admitted : room c.count bytes ≡ true → (admit_question s bytes ≡ 0) × Admitted s bytes c
+    admitted e = (
+      rw (past.ok, room_is true e) refl,
+      record { checked = h.book; ok = past.ok; book = past.book; parsed = past.parsed; holds = accepted_holds past; fits = e },
+    )
 
-      pub has_room_too : room r.book.count bytes ≡ true → AdmitsWithRoom s bytes r
-      has_room_too e =
-          let fits = sym fits_same ∙ e in
-          let ok = (admitted z).ok in
-          record { number_is = z ∙ sym (rw (ok, fits) refl); line_is = h.line_is; book_is = h.book_is }
-
-      pub too_short : room r.book.count bytes ≡ false → AdmitsWithRoom s bytes (record { number = 17; line = 0; book = r.book })
-      too_short e =
-          let fits = sym fits_same ∙ e in
-          let ok = (admitted z).ok in
-          record { number_is = sym (rw (ok, fits) refl); line_is = sym (untold s 17 (λ b. refl)); book_is = h.book_is }
+    pub no_room : room c.count bytes ≡ false → Refuses s (admit_question s bytes) Room
+    no_room e = (rw (past.ok, room_is false e) refl, rw (past.ok, room_is false e) (sym (untold s 17 (λ b. refl))))

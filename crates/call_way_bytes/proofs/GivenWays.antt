@@ -1,8 +1,8 @@
 -- The bytes given for a way of a checked book, and what question 18 says of them.
 use mathlib.Core.Path.{◌≡◌, refl, sym, ap, ◌∙◌}
-use mathlib.Core.Bool.{Bool, true, false, cond, false≢true}
+use mathlib.Core.Bool.{Bool, true, false, false≢true}
 use mathlib.Core.List.{List}
-use mathlib.Core.Option.{none, some}
+use mathlib.Core.Option.{some}
 use Prim.Native.Nat.{ℕ, ◌*◌, ◌≤◌, ◌<◌}
 use native.Mathlib.Omega.{arith}
 use lib.ListN.{length, take}
@@ -10,17 +10,17 @@ use Rattle.laws.specs.Members.{Every}
 use Rattle.laws.specs.Padded.{padded}
 use Rattle.bytes_read.specs.Words.{words}
 use Rattle.book_form.specs.Book.{Book}
+use Rattle.book_form.specs.Held.{Held, Holds}
 use Rattle.book_form.specs.declared.CheckedBook.{CheckedBook}
 use Rattle.flow_enumerate.specs.declared.Place.TheVariants.{Start}
 use Rattle.way_theory.specs.Follow.{size}
 use Rattle.way_theory.specs.FullWays.{full_ways}
-use Rattle.way_network.specs.Held.{Held, Holds}
 use Rattle.way_enumerate.specs.WayEnumerator.{At, ResumesIn, LeastWayIf}
 use Rattle.way_enumerate.specs.declared.WayEnumerator.{WayEnumerator}
 use Rattle.call_reply.specs.ByteLists.{listed}
+use Rattle.call_reply.specs.Replies.{on_item}
 use Rattle.call_reply.proofs.Items.{other_length}
 use Rattle.call_reply.proofs.Given.{read_all}
-use Rattle.call_way_bytes.specs.WaySteps.{given_way}
 use Rattle.call_way_bytes.proofs.WayItems.{full_ways_lem, listed_way, way_listed}
 
 module _ (c : CheckedBook) where
@@ -43,12 +43,22 @@ module _ (c : CheckedBook) where
       right_length = e ∙ ap (λ k. 4 * k) (count_is b h)
 
       -- an enumerator resumed on the numbers stands on them if the bytes are an item
-      pub resumed : (r : WayEnumerator) → ResumesIn b w r → At b Start (given_way b g) r
-      resumed r k = go (listed g (full_ways b)) refl
+      pub resumed : (r : WayEnumerator) → ResumesIn b w r → on_item r.flows.place ≡ true → (listed g (full_ways b) ≡ true) × At b Start (some (words g)) r
+      resumed r k on = go (listed g (full_ways b)) refl
         where
-          go : (t : Bool) → listed g (full_ways b) ≡ t → At b Start (cond t (some (words g)) none) r
-          go true q = rw same at (k.on (rw same (listed_way b h.limits g q).1))
-          go false q = k.off (λ l. false≢true (sym q ∙ (way_listed b h.limits g bytes).1 (right_length, rw same at l)))
+          go : (t : Bool) → listed g (full_ways b) ≡ t → (listed g (full_ways b) ≡ true) × At b Start (some (words g)) r
+          go true q = (q, rw same at (k.on (rw same (listed_way b h.limits g q).1)))
+          go false q =
+              let off = k.off (λ l. false≢true (sym q ∙ (way_listed b h.limits g bytes).1 (right_length, rw same at l))) in
+              absurd (false≢true (ap on_item (sym off.place_is) ∙ on))
+
+      -- and where it stands on none, they are none
+      pub strange : (r : WayEnumerator) → ResumesIn b w r → on_item r.flows.place ≡ false → listed g (full_ways b) ≡ false
+      strange r k off = go (listed g (full_ways b)) refl
+        where
+          go : (t : Bool) → listed g (full_ways b) ≡ t → listed g (full_ways b) ≡ false
+          go true q = absurd (false≢true (sym off ∙ ap on_item (k.on (rw same (listed_way b h.limits g q).1)).place_is))
+          go false q = q
 
       -- the numbers are a least-cost way if the bytes are an item
       pub tested : (r : Bool) → LeastWayIf b w r → r ≡ listed g (full_ways b)

@@ -1,98 +1,130 @@
 // The ways of a book as the bytes of a call: questions 17 and 18, and a way written.
 #![tactic(auto)]
 
-ghost use Rattle.std.specs.Prelude.{◌≡◌, true, length};
-ghost use Rattle.way_network.specs.Held.{Held};
+ghost use Rattle.std.specs.Prelude.{◌≡◌, true, length, MatchResult};
+ghost use Rattle.book_form.specs.Held.{Held};
 ghost use Rattle.way_enumerate.specs.WayEnumerator.{EnumeratesSome};
+ghost use Rattle.call_reply.specs.Replies.{refused_at};
 ghost use Rattle.call_reply.specs.ByteLists.{room};
-ghost use Rattle.call_way_bytes.specs.WaySteps.{AdmitsBook, AdmitsWithRoom, ResumesWay, IsGiven, HandsWay};
+ghost use Rattle.call_way_bytes.specs.Refusals.{number_of, line_of};
+ghost use Rattle.call_way_bytes.specs.WaySteps.{AdmitsWithRoom, ReadsGiven, ResumesWay, IsGiven, HandsWay};
 
-use book_form::CheckedBook;
+use book_form::{BookRefusal, CheckedBook};
 use call_reply::Reply;
 use way_enumerate::WayEnumerator;
 
-// The book of a call, and the number of the first question that it fails, or 0, with the line that is told.
+// The question that a call of a book fails: one of 11 to 16, 17 of the list lent for a way, 18 of the way given, or 21 of the list lent for a text.
 #[derive(Clone, Copy)]
-pub struct AdmittedBook {
-    pub number: u32,
-    pub line: u32,
-    pub book: CheckedBook,
+pub enum WayRefusal {
+    Book(BookRefusal),
+    Room,
+    StrangeWay,
+    Text,
 }
 
-// Puts questions 11 to 16.
-pub fn admit_book(book: &[u8]) -> AdmittedBook
-    ensures { AdmitsBook book.now result }
-{
-    let checked = book_check::check(book);
-    let answer = checked.answer;
-    let number = book_form::question(answer);
-    let line = book_form::line(answer);
-    let b = checked.book;
-    AdmittedBook {
-        number: number,
-        line: line,
-        book: b,
+impl WayRefusal {
+    // The number of the question.
+    pub fn number(self) -> u32
+        ensures { result ≡ number_of self }
+    {
+        match self {
+            WayRefusal::Book(refusal) => refusal.number(),
+            WayRefusal::Room => 17,
+            WayRefusal::StrangeWay => 18,
+            WayRefusal::Text => 21,
+        }
     }
+
+    // The line that is told with it.
+    pub fn line(self) -> u32
+        ensures { result ≡ line_of self }
+    {
+        match self {
+            WayRefusal::Book(refusal) => refusal.line(),
+            WayRefusal::Room | WayRefusal::StrangeWay | WayRefusal::Text => 0,
+        }
+    }
+
+    pub fn reply(self) -> Reply
+        ensures { result ≡ refused_at (number_of self) (line_of self) }
+    {
+        call_reply::refused_at(self.number(), self.line())
+    }
+}
+
+impl From<BookRefusal> for WayRefusal {
+    ghost use Rattle.call_way_bytes.specs.declared.WayRefusal.TheVariants.{Book};
+
+    ghost from_gives = { λ refusal r. r ≡ Book refusal };
+
+    fn from(refusal: BookRefusal) -> WayRefusal {
+        WayRefusal::Book(refusal)
+    }
+}
+
+// The reply of a call, answered or refused.
+pub fn reply_of(answer: Result<Reply, WayRefusal>) -> Reply
+    ensures { MatchResult answer (λ reply. result ≡ reply) (λ refusal. result ≡ refused_at (number_of refusal) (line_of refusal)) }
+{
+    answer.unwrap_or_else(WayRefusal::reply)
 }
 
 // Puts questions 11 to 17, where a list of so many bytes is lent for the way.
-pub fn admit_with_room(book: &[u8], bytes: usize) -> AdmittedBook
+pub fn admit_with_room(book: &[u8], bytes: usize) -> Result<CheckedBook, WayRefusal>
     ensures { AdmitsWithRoom book.now bytes result }
 {
-    let admitted = admit_book(book);
-    let number = admitted.number;
-    if number != 0 {
-        return admitted;
+    let checked = book_check::check(book)?;
+    if !call_reply::has_room(checked.count, bytes) {
+        return Err(WayRefusal::Room);
     }
-    let b = admitted.book;
-    if call_reply::has_room(b.count, bytes) {
-        return admitted;
-    }
-    AdmittedBook {
-        number: 17,
-        line: 0,
-        book: b,
-    }
+    Ok(checked)
 }
 
-// Question 18: the enumerator that stands on the way given, if it is on the full list; else one that has not begun.
-pub fn resume_way(book: CheckedBook, given: &[u8]) -> WayEnumerator
-    requires { Held book }
-    ensures { ResumesWay book given.now result }
+// The numbers of a list given, the first as many as there are entries, if it has that many.
+fn read_given(book: &CheckedBook, given: &[u8]) -> Option<[u32; 512]>
+    requires { Held book.now }
+    ensures { ReadsGiven book.now given.now result }
 {
-    let e = book.count;
-    if given.len() != 4 * e {
-        return way_enumerate::start(book);
+    if given.len() != 4 * book.count {
+        return None;
     }
-    let numbers = bytes_read::read_words(given);
-    way_enumerate::resume(book, &numbers[..e])
+    Some(bytes_read::read_words(given))
+}
+
+// Question 18: the enumerator that stands on the way given.
+pub fn resume_way(book: &CheckedBook, given: &[u8]) -> Result<WayEnumerator, WayRefusal>
+    requires { Held book.now }
+    ensures { ResumesWay book.now given.now result }
+{
+    let Some(numbers) = read_given(book, given) else {
+        return Err(WayRefusal::StrangeWay);
+    };
+    let ways = way_enumerate::resume(book, &numbers[..book.count]);
+    if !call_reply::on_item(ways.flows.place) {
+        return Err(WayRefusal::StrangeWay);
+    }
+    Ok(ways)
 }
 
 // Question 18 as a test: whether the way given is on the full list.
-pub fn is_given(book: CheckedBook, given: &[u8]) -> bool
-    requires { Held book }
-    ensures { IsGiven book given.now result }
+pub fn is_given(book: &CheckedBook, given: &[u8]) -> bool
+    requires { Held book.now }
+    ensures { IsGiven book.now given.now result }
 {
-    let entries = book.count;
-    if given.len() != 4 * entries {
-        return false;
+    match read_given(book, given) {
+        Some(numbers) => way_enumerate::is_item(book, &numbers[..book.count]),
+        None => false,
     }
-    let numbers = bytes_read::read_words(given);
-    way_enumerate::is_item(book, &numbers[..entries])
 }
 
 // Writes the way that the enumerator stands on; without one the reply is `code`.
-pub fn hand_way(ways: WayEnumerator, way: &mut [u8], code: u32) -> Reply
-    requires { EnumeratesSome ways × (room ways.entries (length way.old) ≡ true) }
-    ensures { HandsWay ways code way.old result way.new }
+pub fn hand_way(ways: &WayEnumerator, way: &mut [u8], code: u32) -> Reply
+    requires { EnumeratesSome ways.now × (room ways.now.entries (length way.old) ≡ true) }
+    ensures { HandsWay ways.now code way.old result way.new }
 {
-    let flows = ways.flows;
-    let place = flows.place;
-    if !call_reply::on_item(place) {
+    if !call_reply::on_item(ways.flows.place) {
         return call_reply::code_alone(code);
     }
-    let entries = ways.entries;
-    let cost = flows.cost;
     let numbers = ways.way();
-    call_reply::hand_item(&numbers, entries, cost, way)
+    call_reply::hand_numbers(&numbers[..ways.entries], ways.flows.cost, way)
 }

@@ -19,7 +19,7 @@ use Rattle.demands.specs.Demands.{MatchedItems}
 
 pub book_matched : (s : List ℕ) → book_refusal s ≡ 0 → MatchedItems s
 book_matched s ok =
-    let (b, p, h) = held s ok in
+    let (b, _, p, _, h) = held s ok in
     record {
       book = b;
       holds = p;

@@ -45,7 +45,7 @@ record Given (s g : List ℕ) : Type 0 where
 
 given : (s g : List ℕ) → room_question s g ≡ 0 → Given s g
 given s g q =
-    let (b, p, k) = held s (first_passed (book_refusal s) _ q) in
+    let (b, _, p, _, k) = held s (first_passed (book_refusal s) _ q) in
     let on = all_passed (book_refusal s) 17 (listed g (ways s)) q in
     record {
       book = b;

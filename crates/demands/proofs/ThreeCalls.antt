@@ -14,7 +14,7 @@ use Rattle.laws.specs.Seen.{nothing, item, Seen, Shows}
 use Rattle.laws.specs.Run.{shown, written, respond, respond_unless, Answers, Strange, AsRead, Readable, run_is_read}
 use Rattle.bytes_read.specs.Words.{encode_words, over, ints}
 use Rattle.bytes_read.proofs.Words.{length_ints, length_encode}
-use Rattle.net_model.specs.declared.Arc.{Arc}
+use Rattle.net_model.specs.declared.Row.{Row}
 use Rattle.net_model.specs.Network.{arcs}
 use Rattle.net_model.specs.Input.{rows}
 use Rattle.call_flow_bytes.specs.NetworkBytes.{net}
@@ -72,7 +72,7 @@ rows_many (a ∷ b ∷ c ∷ d ∷ e ∷ l) = let q = rows_many l in omega arith
 
 -- the bytes of a flow: four for each arc, of twenty bytes
 flow_bytes : (bs xs : List ℕ) → 4 * arcs (net bs xs) ≡ length xs / 20 * 4
-flow_bytes bs xs = omega (arith, length-map (rows (ints xs)) (λ (r : Arc). nat_abs r.tail), rows_many (ints xs), length_ints xs)
+flow_bytes bs xs = omega (arith, length-map (rows (ints xs)) (λ (r : Row). nat_abs r.tail), rows_many (ints xs), length_ints xs)
 
 module _ (bs xs : List ℕ) (l : Lent) (s : Seen Lent) (h : Answers (network_rules bs xs) (first l) s) where
   -- first, where it writes nothing

@@ -66,7 +66,7 @@ pub fn prices_agree(
     let first = desk::desk_network_first_priced(balances, arcs, flows, prices);
     let priced = desk::desk_network_prices(balances, arcs, given, again);
     FirstAndGiven {
-        first: first,
+        first,
         given: priced,
     }
 }
@@ -131,10 +131,7 @@ pub fn write_in_room(book: &[u8], given: &[u8], text: &mut [u8]) -> RoomAndSheet
 {
     let room = desk::desk_sheets_room(book, given);
     let sheets = desk::desk_sheets(book, given, text);
-    RoomAndSheets {
-        room: room,
-        sheets: sheets,
-    }
+    RoomAndSheets { room, sheets }
 }
 
 // The part of the book that holds the name of an entry, and the number of the question that refuses it, or 0.
@@ -149,10 +146,7 @@ pub fn name_of(book: &[u8], entry: u32) -> Named
 {
     let part = desk::desk_name(book, entry);
     let number = desk::desk_name_refusal(book, entry);
-    Named {
-        part: part,
-        number: number,
-    }
+    Named { part, number }
 }
 
 // The replies of the calls of a run; where the first one writes nothing, it is the only call, and its reply stands three times.
@@ -182,7 +176,7 @@ pub fn run_flows(
     let code = one.code;
     if code != 0 {
         return RunReplies {
-            one: one,
+            one,
             two: one,
             three: one,
         };
@@ -190,11 +184,7 @@ pub fn run_flows(
     let n = arcs.len() / 20 * 4;
     let two = desk::desk_network_next(balances, arcs, &flows[..n], after);
     let three = desk::desk_network_next(balances, arcs, strange, last);
-    RunReplies {
-        one: one,
-        two: two,
-        three: three,
-    }
+    RunReplies { one, two, three }
 }
 
 // First; then next, given the list that it wrote to; then next with a list of the caller's.
@@ -214,16 +204,12 @@ pub fn run_ways(
     let code = one.code;
     if code != 0 {
         return RunReplies {
-            one: one,
+            one,
             two: one,
             three: one,
         };
     }
     let two = desk::desk_next(book, way, after);
     let three = desk::desk_next(book, strange, last);
-    RunReplies {
-        one: one,
-        two: two,
-        three: three,
-    }
+    RunReplies { one, two, three }
 }

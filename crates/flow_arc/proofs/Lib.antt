@@ -1,4 +1,5 @@
-mod Lists
+pub mod Lists
+mod Found
 mod WalksAbove
 pub mod Certified
 pub mod Candidates

@@ -1,6 +1,6 @@
 -- The turns of `lower`: cur is f with less on arc k.
-use mathlib.Core.Path.{◌≡◌, refl, sym, ap, ◌∙◌}
-use mathlib.Core.List.{List, []}
+use mathlib.Core.Path.{◌≡◌, ◌∙◌}
+use mathlib.Core.List.{List}
 use mathlib.Core.Bool.{Bool, true, false}
 use Prim.Native.Nat.{ℕ, suc, ◌-◌, ◌<◌}
 use native.Mathlib.Omega.{arith}
@@ -9,10 +9,8 @@ use lib.IntN.{ℤ}
 use Rattle.net_model.specs.Network.{Net, arcs, tail, head, low}
 use Rattle.net_theory.specs.Order.{Agree, NoLess}
 use Rattle.net_theory.specs.FreeArcs.{FreeWalk}
-use Rattle.net_theory.specs.Graph.{net_with}
 use Rattle.net_theory.specs.Push.{push_all}
 use Rattle.flow_push.proofs.LeastCapacity.{capacity_cap, capacity_each}
-use Rattle.flow_push.proofs.Lists.{capacity_with}
 use Rattle.flow_arc.specs.FreeMarks.{FreeMarks}
 use Rattle.flow_arc.specs.WalksAbove.{takes}
 use Rattle.flow_arc.specs.Changes.{Lowered}
@@ -26,9 +24,6 @@ pub record LowTurn (N : Net) (π : ℕ → ℤ) (free : List Bool) (f : List ℕ
   pub same : Agree k f cur
 
 module _ (N : Net) (π : ℕ → ℤ) (free : List Bool) (f : List ℕ) (k : ℕ) (l : k < arcs N) where
-  pub low_start : FreeMarks N π free f → LowTurn N π free f k f
-  low_start ti = record { free_still = ti; same = λ a h. refl }
-
   pub low_step : (cur next : List ℕ) (cs : List ℕ) → LowTurn N π free f k cur → get_or free k false ≡ true → low N k < get_or cur k 0 → FreeWalk N cur free (tail N k) (head N k) (suc k) cs
       → next ≡ push_all (takes N cur k cs) cs (set cur k (get_or cur k 0 - takes N cur k cs)) → LowTurn N π free f k next
   low_step cur next cs t m h p e =
@@ -40,9 +35,3 @@ module _ (N : Net) (π : ℕ → ℤ) (free : List Bool) (f : List ℕ) (k : ℕ
 
   pub low_done : (cur : List ℕ) → LowTurn N π free f k cur → NoLess N cur k → Lowered N f cur k
   low_done cur t n = record { least = t.free_still.least; same = t.same; no_less = n }
-
--- what `take_off` says of the lists that it reads, of the network
-pub exact_whole : (N : Net) (f f' : List ℕ) (k : ℕ) (cs : List ℕ)
-    → let M = net_with [] N.tails [] N.lows N.ups [] in f' ≡ push_all (takes M f k cs) cs (set f k (get_or f k 0 - takes M f k cs))
-    → f' ≡ push_all (takes N f k cs) cs (set f k (get_or f k 0 - takes N f k cs))
-exact_whole N f f' k cs e = e ∙ ap (λ d. push_all d cs (set f k (get_or f k 0 - d))) (sym (capacity_with N [] [] [] f (get_or f k 0 - low N k) cs))

@@ -1,7 +1,7 @@
 -- Arc k lowered or raised, with what it loses or gains sent along a walk over arcs above k: bounds.
 use mathlib.Core.Path.{◌≡◌, ap, subst, ◌∙◌}
 use mathlib.Core.Logic.{◌≢◌}
-use mathlib.Core.List.{List, []}
+use mathlib.Core.List.{List}
 use mathlib.Core.Bool.{Bool, true}
 use Prim.Native.Nat.{ℕ, suc, ◌+◌, ◌-◌, ◌/◌, ◌≤◌, ◌<◌}
 use native.Mathlib.Omega.{arith}
@@ -16,7 +16,6 @@ use Rattle.net_theory.specs.ResidualCapacity.{has_capacity, residual_capacity}
 use Rattle.net_theory.specs.Bounds.{InBounds}
 use Rattle.net_theory.specs.Push.{push_one, push_all}
 use Rattle.net_theory.specs.FreeArcs.{goes, FreeWalk}
-use Rattle.net_theory.specs.Graph.{net_with}
 use Rattle.net_theory.proofs.Codes.{even_code, odd_code, even_arc, odd_arc}
 use Rattle.net_theory.proofs.ResidualCapacity.{all_has_capacity}
 use Rattle.net_theory.proofs.PushOne.{one_bounds, one_capacity}
@@ -24,7 +23,7 @@ use Rattle.net_theory.proofs.PushAll.{all_other}
 use Rattle.flow_push.specs.Pushing.{Pushable}
 use Rattle.flow_push.proofs.LeastCapacity.{capacity_cap, capacity_each, capacity_pos, goes_capacity}
 use Rattle.flow_push.proofs.Pushing.{pushable_bounds}
-use Rattle.flow_arc.specs.WalksAbove.{CapacityAbove, takes, TakenOff, PutOn}
+use Rattle.flow_arc.specs.WalksAbove.{CapacityAbove, takes, TakenOff}
 
 pub walk_capacity_above : (N : Net) (f : List ℕ) (free : List Bool) (s t k : ℕ) (cs : List ℕ) → FreeWalk N f free s t (suc k) cs → CapacityAbove N f k cs
 walk_capacity_above N f free s t k cs p = record {
@@ -76,9 +75,5 @@ module _ (N : Net) (f : List ℕ) (k : ℕ) (cs : List ℕ) (p : CapacityAbove N
     less = omega (arith, ap (λ g. get_or g k 0) e, pushed_k d (set f k (get_or f k 0 - d)), get_or-set_same f k (get_or f k 0 - d) 0 (omega (arith, b.all_arcs)), takes_pos h);
   }
 
-  pub put_on : (f' : List ℕ) → InBounds N f → k < arcs N → get_or f k 0 < up N k → f' ≡ push_all 1 cs (set f k (get_or f k 0 + 1)) → PutOn N f f' k cs
-  put_on f' b l h e = record { exact = e; within = rw e (pushable_bounds N 1 cs (set f k (get_or f k 0 + 1)) (put_able b l h)) }
-
--- whatever the heads
-pub capacity_above_with : (N : Net) (h : List ℕ) (f : List ℕ) (k : ℕ) (cs : List ℕ) → CapacityAbove N f k cs → CapacityAbove (net_with [] N.tails h N.lows N.ups []) f k cs
-capacity_above_with N h f k cs p = record { codes_in = p.codes_in; distinct = p.distinct; above = p.above; capacity = p.capacity }
+  pub put_within : (f' : List ℕ) → InBounds N f → k < arcs N → get_or f k 0 < up N k → f' ≡ push_all 1 cs (set f k (get_or f k 0 + 1)) → InBounds N f'
+  put_within f' b l h e = rw e (pushable_bounds N 1 cs (set f k (get_or f k 0 + 1)) (put_able b l h))

@@ -1,5 +1,5 @@
--- Arc k lowered or raised, with what it loses or gains sent along a walk over arcs above k.
-use Rattle.std.specs.Prelude.{◌≡◌, List, ℕ, ◌+◌, ◌-◌, ◌/◌, ◌<◌, get_or, set}
+-- Arc k lowered, with what it loses sent along a walk over arcs above k.
+use Rattle.std.specs.Prelude.{◌≡◌, List, ℕ, ◌-◌, ◌/◌, ◌<◌, get_or, set}
 use Rattle.laws.specs.Members.{Every}
 use Rattle.laws.specs.Ascending.{Distinct}
 use Rattle.net_model.specs.Network.{Net, low}
@@ -24,7 +24,3 @@ pub record TakenOff (N : Net) (f f' : List ℕ) (k : ℕ) (cs : List ℕ) : Type
   pub exact : f' ≡ push_all (takes N f k cs) cs (set f k (get_or f k 0 - takes N f k cs))
   pub within : InBounds N f'
   pub less : get_or f' k 0 < get_or f k 0
-
-pub record PutOn (N : Net) (f f' : List ℕ) (k : ℕ) (cs : List ℕ) : Type 0 where
-  pub exact : f' ≡ push_all 1 cs (set f k (get_or f k 0 + 1))
-  pub within : InBounds N f'

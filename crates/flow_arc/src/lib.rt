@@ -2,130 +2,67 @@
 // `free` marks arcs of reduced cost 0: no least-cost flow differs from another on the rest.
 #![tactic(auto)]
 
-ghost use Rattle.std.specs.Prelude.{[], suc, ◌≤◌, ◌<◌, length, get_or, take};
-ghost use Rattle.net_model.specs.Network.{arcs, low, up};
-ghost use Rattle.net_theory.specs.Graph.{net_with};
+ghost use Rattle.std.specs.Prelude.{[], suc, ◌<◌, length, get_or};
+ghost use Rattle.net_model.specs.Network.{low};
+ghost use Rattle.net_model.specs.Struct.{net_from};
 ghost use Rattle.net_theory.specs.Bounds.{InBounds};
 ghost use Rattle.net_theory.specs.FreeArcs.{Raisable};
 ghost use Rattle.net_theory.specs.Limits.{SmallBounds};
 ghost use Rattle.net_theory.specs.Ready.{Ready};
 ghost use Rattle.flow_arc.specs.FreeMarks.{FreeMarks, ForAll};
-ghost use Rattle.flow_arc.specs.WalksAbove.{CapacityAbove, TakenOff, PutOn};
+ghost use Rattle.flow_arc.specs.WalksAbove.{CapacityAbove, TakenOff};
 ghost use Rattle.flow_arc.specs.Changes.{Lowered, RaisedByOne};
 
-// As much as the capacities allow is taken off arc a and sent along the codes instead.
-fn take_off(
-    tails: &[u8],
-    lows: &[u32],
-    ups: &[u32],
-    flow: &mut [u32],
-    codes: &[usize],
-    len: usize,
-    a: usize,
-)
-    requires { let N = net_with [] tails.now [] lows.now ups.now [] in
-        (len ≤ length codes.now) × SmallBounds N × InBounds N flow.old × (a < arcs N) × (low N a < get_or flow.old a 0)
-        × CapacityAbove N flow.old a (take len codes.now) }
-    ensures { let N = net_with [] tails.now [] lows.now ups.now [] in
-        TakenOff N flow.old flow.new a (take len codes.now) }
-{
-    let f = flow[a];
-    let l = lows[a];
-    let d = flow_push::bottleneck(tails, lows, ups, flow, codes, len, f - l);
-    flow[a] = f - d;
-    flow_push::push(tails, lows, ups, flow, codes, len, d);
-}
+use net_model::Arc;
 
-// One more on arc a, and along the codes.
-fn put_on(
-    tails: &[u8],
-    lows: &[u32],
-    ups: &[u32],
-    flow: &mut [u32],
-    codes: &[usize],
-    len: usize,
-    a: usize,
-)
-    requires { let N = net_with [] tails.now [] lows.now ups.now [] in
-        (len ≤ length codes.now) × SmallBounds N × InBounds N flow.old × (a < arcs N) × (get_or flow.old a 0 < up N a)
-        × CapacityAbove N flow.old a (take len codes.now) }
-    ensures { let N = net_with [] tails.now [] lows.now ups.now [] in
-        PutOn N flow.old flow.new a (take len codes.now) }
+// As much as the capacities allow is taken off arc a and sent along the codes instead.
+fn take_off(arcs: &[Arc], flow: &mut [u32], codes: &[usize], a: usize)
+    requires { let N = net_from [] arcs.now in
+        SmallBounds N × InBounds N flow.old × (a < length arcs.now) × (low N a < get_or flow.old a 0) × CapacityAbove N flow.old a codes.now }
+    ensures { TakenOff (net_from [] arcs.now) flow.old flow.new a codes.now }
 {
-    let f = flow[a];
-    flow[a] = f + 1;
-    flow_push::push(tails, lows, ups, flow, codes, len, 1);
+    let most = flow[a] - arcs[a].low;
+    let d = flow_push::bottleneck(arcs, flow, codes, most);
+    flow[a] -= d;
+    flow_push::push(flow, codes, d);
 }
 
 // Arc a as low as it can be while the arcs before it stay.
-pub fn lower(
-    tails: &[u8],
-    heads: &[u8],
-    lows: &[u32],
-    ups: &[u32],
-    free: &[bool],
-    flow: &mut [u32],
-    a: usize,
-)
-    requires { let N = net_with [] tails.now heads.now lows.now ups.now [] in
-        Ready N flow.old free.now × (a < arcs N) }
-    ensures { let N = net_with [] tails.now heads.now lows.now ups.now [] in
+pub fn lower(arcs: &[Arc], free: &[bool], flow: &mut [u32], a: usize)
+    requires { Ready (net_from [] arcs.now) flow.old free.now × (a < length arcs.now) }
+    ensures { let N = net_from [] arcs.now in
         InBounds N flow.new
         × ForAll N (λ M π. FreeMarks M π free.now flow.old → Lowered M flow.old flow.new a) }
 {
     if !free[a] {
         return;
     }
-    let s = tails[a] as usize;
-    let t = heads[a] as usize;
-    let l = lows[a];
-    loop {
-        let f = flow[a];
-        if f <= l {
-            return;
-        }
-        let mut codes = [0usize; 64];
-        let route = flow_path::find_walk(
-            tails,
-            heads,
-            lows,
-            ups,
-            free,
-            flow,
-            s,
-            t,
-            a + 1,
-            &mut codes,
-        );
-        match route {
-            flow_path::Route::Codes(len) => take_off(tails, lows, ups, flow, &codes, len, a),
-            flow_path::Route::Cut => return,
+    let arc = arcs[a];
+    let from = usize::from(arc.tail);
+    let to = usize::from(arc.head);
+    let mut codes = [0usize; 64];
+    while arc.low < flow[a] {
+        match flow_path::find_walk(arcs, free, flow, from, to, a + 1, &mut codes) {
+            Some(len) => take_off(arcs, flow, &codes[..len], a),
+            None => return,
         }
     }
 }
 
 // Arc a, which can be raised, raised by 1 while the arcs before it stay.
-pub fn raise(
-    tails: &[u8],
-    heads: &[u8],
-    lows: &[u32],
-    ups: &[u32],
-    free: &[bool],
-    flow: &mut [u32],
-    a: usize,
-)
-    requires { let N = net_with [] tails.now heads.now lows.now ups.now [] in
-        Ready N flow.old free.now × (a < arcs N) × Raisable N flow.old free.now (suc a) a }
-    ensures { let N = net_with [] tails.now heads.now lows.now ups.now [] in
+pub fn raise(arcs: &[Arc], free: &[bool], flow: &mut [u32], a: usize)
+    requires { let N = net_from [] arcs.now in
+        Ready N flow.old free.now × (a < length arcs.now) × Raisable N flow.old free.now (suc a) a }
+    ensures { let N = net_from [] arcs.now in
         InBounds N flow.new
         × ForAll N (λ M π. FreeMarks M π free.now flow.old → RaisedByOne M flow.old flow.new a) }
 {
-    let s = tails[a] as usize;
-    let t = heads[a] as usize;
+    let arc = arcs[a];
+    let from = usize::from(arc.head);
+    let to = usize::from(arc.tail);
     let mut codes = [0usize; 64];
-    let route = flow_path::find_walk(tails, heads, lows, ups, free, flow, t, s, a + 1, &mut codes);
-    match route {
-        flow_path::Route::Codes(len) => put_on(tails, lows, ups, flow, &codes, len, a),
-        flow_path::Route::Cut => return,
+    if let Some(len) = flow_path::find_walk(arcs, free, flow, from, to, a + 1, &mut codes) {
+        flow[a] += 1;
+        flow_push::push(flow, &codes[..len], 1);
     }
 }

@@ -1,13 +1,13 @@
 -- Cancelling a negative cycle: how much can go along it, that the flow costs less after, and why this ends.
 use mathlib.Core.Path.{◌≡◌, refl, sym, subst, ◌∙◌}
-use mathlib.Core.Logic.{◌≢◌}
 use mathlib.Core.Bool.{Bool, true, false}
 use mathlib.Core.List.{List, [], ◌∷◌}
 use Prim.Native.Nat.{ℕ, ◌≤◌, ◌<◌}
 use native.Mathlib.Omega.{arith}
-use lib.ListN.{length, take}
+use lib.ListN.{take}
 use lib.IntN.{ℤ, pos, neg_ℤ, ◌+ℤ◌, ◌-ℤ◌, ◌*ℤ◌}
 use lib.Signed.{◌<ℤ◌}
+use Rattle.std.proofs.Common.{Some, None}
 use Rattle.laws.specs.Ascending.{Distinct, distinct_of}
 use Rattle.laws.specs.Divergence.{at}
 use Rattle.laws.specs.Integers.{*_nonneg, plus_lt}
@@ -67,13 +67,13 @@ module _ (N : Net) (f : List ℕ) (b : InBounds N f) (δ : ℕ) (cs : List ℕ) 
       less (cost_of N (push_all d cs f)) (cost_of N f) (walk_cost N cs) (pos d) (all_cost N d cs f C.cycle.node C.cycle.node b walk differ) C.negative (simp lin (omega arith))
 
 -- ---- what the search found
-pub labels_of : (N : Net) (f : List ℕ) (δ : ℕ) (d : List ℤ) (out out' : List ℕ) (r : ℕ) → FindsCycle N f δ d out out' r → r ≡ 0 → PotentialLabels N f δ d
-labels_of N f δ d out out' r (none _ _ q _) e = q
-labels_of N f δ d out out' r (found _ C _) e = absurd (let h : 0 < length (take 0 out') = subst (λ (k : ℕ). 0 < length (take k out')) e C.cycle.some in omega arith)
+pub labels_of : (N : Net) (f : List ℕ) (δ : ℕ) (d : List ℤ) (out out' : List ℕ) → FindsCycle N f δ d out out' None → PotentialLabels N f δ d
+labels_of N f δ d out out' (none _ _ q _) = q
+labels_of N f δ d out out' (found n e _ _ _) = absurd (cc)
 
-pub cycle_of : (N : Net) (f : List ℕ) (δ : ℕ) (d : List ℤ) (out out' : List ℕ) (r : ℕ) → FindsCycle N f δ d out out' r → r ≢ 0 → (r ≤ 64) × NegativeCycle N f δ (take r out')
-cycle_of N f δ d out out' r (none e _ _ _) ne = absurd (ne e)
-cycle_of N f δ d out out' r (found h C _) ne = (h, C)
+pub cycle_of : (N : Net) (f : List ℕ) (δ : ℕ) (d : List ℤ) (out out' : List ℕ) (r : ℕ) → FindsCycle N f δ d out out' (Some r) → (r ≤ 64) × NegativeCycle N f δ (take r out')
+cycle_of N f δ d out out' r (none e _ _ _) = absurd (cc)
+cycle_of N f δ d out out' r (found n e h C _) = let q : n ≡ r = cc in (rw q at h, subst (λ (k : ℕ). NegativeCycle N f δ (take k out')) q C)
 
 -- ---- as much as the capacity allows along a negative cycle
 module _ (N : Net) (f : List ℕ) (ok : Relaxable N f) (δ : ℕ) (cs : List ℕ) (C : NegativeCycle N f δ cs) (d : ℕ) (e : d ≡ bottleneck N f 1000000 cs) where

@@ -1,10 +1,9 @@
 -- Document 01: "A flow is least-cost exactly when no residual cycle has negative cost."
-use mathlib.Core.Path.{◌≡◌, refl, sym, subst}
+use mathlib.Core.Path.{refl, sym, subst}
 use mathlib.Core.Logic.{◌⊎◌, inl, inr, ◌↔◌}
 use mathlib.Core.List.{List}
 use Prim.Native.Nat.{ℕ}
 use native.Mathlib.Omega.{arith}
-use native.Mathlib.Decide.{ℕ_discrete}
 use lib.ListN.{get_or, take, replicate}
 use lib.IntN.{ℤ, pos}
 use lib.Signed.{◌≤ℤ◌, ◌<ℤ◌}
@@ -25,6 +24,7 @@ use Rattle.flow_relax.specs.Labels.{Relaxable}
 use Rattle.flow_relax.specs.Potentials.{HasPotential}
 use Rattle.flow_relax.proofs.Accepted.{accepted_relaxable}
 use Rattle.flow_relax.proofs.Balances.{cost_whole}
+use Rattle.std.proofs.Common.{Option, Some, None}
 use Rattle.flow_negative_cycle.specs.Search.{NegativeCycle, FindsCycle}
 use Rattle.flow_negative_cycle.proofs.Ending.{search_ends}
 use Rattle.flow_cancel.proofs.Cancelling.{labels_of, cycle_of, cancelled}
@@ -48,11 +48,11 @@ module _ (N : Net) (f : List ℕ) where
   searched : AcceptedNet N → IsFlow N f → HasPotential (costed N) f 1 ⊎ ((cs : List ℕ) × NegativeCycle (costed N) f 1 cs)
   searched ok F =
       let (d, out, r, S) = search_ends (costed N) f (accepted_relaxable N ok f (flow_bounds N f F)) 1 (omega arith) in
-      ended d out r S (ℕ_discrete r 0)
+      ended d out r S
     where
-      ended : (d : List ℤ) (out : List ℕ) (r : ℕ) → FindsCycle (costed N) f 1 d (replicate 64 0) out r → Dec (r ≡ 0) → HasPotential (costed N) f 1 ⊎ ((cs : List ℕ) × NegativeCycle (costed N) f 1 cs)
-      ended d out r S (yes e) = inl (record { potential = λ v. get_or d v (pos 0); feasible = (labels_of (costed N) f 1 d (replicate 64 0) out r S e).feasible })
-      ended d out r S (no e) = inr (take r out, (cycle_of (costed N) f 1 d (replicate 64 0) out r S e).1)
+      ended : (d : List ℤ) (out : List ℕ) (r : Option ℕ) → FindsCycle (costed N) f 1 d (replicate 64 0) out r → HasPotential (costed N) f 1 ⊎ ((cs : List ℕ) × NegativeCycle (costed N) f 1 cs)
+      ended d out None S = inl (record { potential = λ v. get_or d v (pos 0); feasible = (labels_of (costed N) f 1 d (replicate 64 0) out S).feasible })
+      ended d out (Some r) S = inr (take r out, (cycle_of (costed N) f 1 d (replicate 64 0) out r S).1)
 
 module _ (N : Net) (f : List ℕ) (ok : AcceptedNet N) where
   pub least_iff : IsFlow N f → LeastCost N f ↔ ((cs : List ℕ) → Cycle N f cs → pos 0 ≤ℤ walk_cost N cs)

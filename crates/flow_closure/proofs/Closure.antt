@@ -13,15 +13,12 @@ use Rattle.net_model.specs.Network.{Net, arcs, tail, head, low, up}
 use Rattle.net_model.specs.Residual.{codes, src, dst}
 use Rattle.net_theory.specs.FreeArcs.{goes, Reaches, Blocked}
 use Rattle.net_theory.proofs.Codes.{even_code, odd_code, even_arc, odd_arc}
-use Rattle.flow_preorder.specs.Preorder.{leads, Alone, Extended}
+use Rattle.flow_preorder.specs.Preorder.{leads, Extended}
 use Rattle.flow_closure.specs.Closure.{Closure}
-use Rattle.flow_closure.proofs.Reaching.{reaches_itself, reaches_by, reaches_over, reaches_earlier}
+use Rattle.flow_closure.proofs.Reaching.{reaches_by, reaches_over, reaches_earlier}
 
 -- ---- an arc added
 module _ (N : Net) (f : List ℕ) (free : List Bool) where
-  pub closure_start : (rows : List ℕ) → Alone rows → Closure N f free (arcs N) rows
-  closure_start rows al = record { preorder = al.preorder; steps = λ c h l. absurd (omega arith); sound = λ u v h e. reaches_itself N f free (arcs N) u v (al.itself u v e) }
-
   module _ (a : ℕ) (rows : List ℕ) (cl : Closure N f free (suc a) rows) where
     earlier : (u v : ℕ) → u < 64 → leads rows u v ≡ true → Reaches N f free u v a
     earlier u v h e = reaches_earlier N f free a u v (cl.sound u v h e)

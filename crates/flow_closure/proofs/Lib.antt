@@ -1,4 +1,4 @@
-mod Reaching
 mod Closure
+mod Reaching
 mod Candidates
 mod Narrowing

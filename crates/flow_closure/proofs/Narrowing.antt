@@ -1,23 +1,21 @@
 -- The pass that takes marks away: the arcs passed are narrowed, and the others are as they were.
-use mathlib.Core.Path.{◌≡◌, refl, ◌∙◌}
+use mathlib.Core.Path.{◌≡◌, refl, sym, ◌∙◌}
 use mathlib.Core.Logic.{◌⊎◌, inl, inr}
 use mathlib.Core.List.{List}
-use mathlib.Core.Bool.{Bool, true, false}
+use mathlib.Core.Bool.{Bool, true, false, true≢false, ◌||◌}
 use Prim.Native.Nat.{ℕ, ◌+◌, ◌≤◌, ◌<◌}
 use native.Mathlib.Omega.{arith}
-use lib.ListN.{length, get_or, set, length-set}
+use lib.ListN.{length, get_or, set}
 use lib.Seq.{get_or-set_other}
 use Rattle.laws.specs.Padded.{set_more}
 use Rattle.net_model.specs.Network.{Net, arcs}
+use Rattle.net_model.specs.declared.Arc.{Arc}
 use Rattle.net_theory.specs.Ready.{Searchable}
 use Rattle.net_theory.specs.FreeArcs.{Raisable, Lowerable, NotRaisable, NotLowerable}
+use Rattle.net_theory.proofs.ArcReads.{ArcAt}
 use Rattle.flow_closure.specs.Closure.{Closure}
-use Rattle.flow_closure.specs.Candidates.{Closes, ClosesNone, OnCycle, UnmarkFixed}
+use Rattle.flow_closure.specs.Candidates.{raises, lowers, UnmarkFixed}
 use Rattle.flow_closure.proofs.Candidates.{raisable, lowerable, not_raisable, not_lowerable}
-
--- other marks, as many
-pub other_marks : (N : Net) (f : List ℕ) (free cur : List Bool) → length cur ≡ length free → Searchable N f free → Searchable N f cur
-other_marks N f free cur e k = record { ends = k.ends; bounds = k.bounds; flow_len = k.flow_len; free_len = e ∙ k.free_len }
 
 module _ (N : Net) (f : List ℕ) (free : List Bool) where
   -- mark b of arc a
@@ -26,30 +24,28 @@ module _ (N : Net) (f : List ℕ) (free : List Bool) where
 
   -- the arcs before a
   pub record Narrowing (cur : List Bool) (a : ℕ) : Type 0 where
-    pub same_len : length cur ≡ length free
     pub passed : (i : ℕ) → i < a → Right i (get_or cur i false)
     pub rest : (i : ℕ) → a ≤ i → get_or cur i false ≡ get_or free i false
 
-  pub narrowing_start : Narrowing free 0
-  narrowing_start = record { same_len = refl; passed = λ i h. absurd (omega arith); rest = λ i h. refl }
+  -- an arc that is not marked gets no mark
+  pub right_unmarked : (a : ℕ) (b : Bool) → get_or free a false ≡ false → b ≡ false → Right a b
+  right_unmarked a b e q = ((λ z. absurd (true≢false (sym z ∙ q))), λ _. (inl e, inl e))
+
+  module _ (ok : Searchable N f free) (a : ℕ) (x : Arc) (at : ArcAt N a x) (rows : List ℕ) (cl : Closure N f free 0 rows) where
+    -- a marked one keeps it if one of its steps closes a cycle
+    pub right_marked : get_or free a false ≡ true → (b : Bool) → b ≡ (raises rows x (get_or f a 0) || lowers rows x (get_or f a 0)) → Right a b
+    right_marked e b q = go (raises rows x (get_or f a 0)) (lowers rows x (get_or f a 0)) refl refl q
+      where
+        go : (r l : Bool) → raises rows x (get_or f a 0) ≡ r → lowers rows x (get_or f a 0) ≡ l → b ≡ (r || l) → Right a b
+        go true l p o z = ((λ _. inl (raisable N f free ok a x at rows e 0 cl p)), λ y. absurd (true≢false (sym z ∙ y)))
+        go false true p o z = ((λ _. inr (lowerable N f free ok a x at rows e 0 cl o)), λ y. absurd (true≢false (sym z ∙ y)))
+        go false false p o z = ((λ y. absurd (true≢false (sym y ∙ z))), λ _. (not_raisable N f free ok a x at rows e 0 cl p, not_lowerable N f free ok a x at rows e 0 cl o))
+
+  pub narrowing_step : (cur : List Bool) (a : ℕ) (b : Bool) → a < length cur → Narrowing cur a → Right a b → Narrowing (set cur a b) (a + 1)
+  narrowing_step cur a b l n r = record {
+    passed = set_more Right cur a b false l n.passed r;
+    rest = λ i h. get_or-set_other cur a i b false (λ q. omega arith) ∙ n.rest i (omega arith);
+  }
 
   pub narrowing_done : (cur : List Bool) (a : ℕ) → arcs N ≤ a → Narrowing cur a → UnmarkFixed N f free cur
   narrowing_done cur a h n = record { left = λ i l. (n.passed i (omega arith)).0; others = λ i l. (n.passed i (omega arith)).1 }
-
-  module _ (ok : Searchable N f free) (rows : List ℕ) (cl : Closure N f free 0 rows) where
-    pub narrowing_step : (cur : List Bool) (a : ℕ) (b : Bool) → a < arcs N → Narrowing cur a → OnCycle N f cur rows a b → Narrowing (set cur a b) (a + 1)
-    narrowing_step cur a b l n o = record {
-      same_len = length-set cur a b ∙ n.same_len;
-      passed = set_more Right cur a b false (omega (arith, n.same_len, ok.free_len)) n.passed (λ e. moves (rw same at (o.closes e)), λ e. fixed (rw same at (o.none e)));
-      rest = λ i h. get_or-set_other cur a i b false (λ q. omega arith) ∙ n.rest i (omega arith);
-    }
-      where
-        same : get_or cur a false ≡ get_or free a false
-        same = n.rest a (omega arith)
-
-        moves : Closes N.tails N.heads f N.ups free rows a ⊎ Closes N.heads N.tails N.lows f free rows a → Raisable N f free 0 a ⊎ Lowerable N f free 0 a
-        moves (inl r) = inl (raisable N f free ok a rows l 0 cl r)
-        moves (inr s) = inr (lowerable N f free ok a rows l 0 cl s)
-
-        fixed : ClosesNone N.tails N.heads f N.ups free rows a × ClosesNone N.heads N.tails N.lows f free rows a → NotRaisable N f free 0 a × NotLowerable N f free 0 a
-        fixed (r, s) = (not_raisable N f free ok a rows l 0 cl r, not_lowerable N f free ok a rows l 0 cl s)

@@ -1,4 +1,4 @@
--- What reaches what over free arcs: a node itself, by one code, by two walks one after the other, and over arcs from an earlier one on.
+-- What reaches what over free arcs: by one code, by two walks one after the other, and over arcs from an earlier one on.
 use mathlib.Core.Path.{◌≡◌, refl}
 use mathlib.Core.List.{List, [], ◌∷◌, ◌++◌}
 use mathlib.Core.Bool.{Bool, true}
@@ -11,9 +11,6 @@ use Rattle.net_model.proofs.Walks.{walk_append}
 use Rattle.net_theory.specs.FreeArcs.{goes, Reaches}
 
 module _ (N : Net) (f : List ℕ) (free : List Bool) where
-  pub reaches_itself : (from u v : ℕ) → u ≡ v → Reaches N f free u v from
-  reaches_itself from u v e = record { codes = []; walk = e; low = tt }
-
   pub reaches_by : (from c : ℕ) → from + from ≤ c → c < codes N → goes N f free c ≡ true → Reaches N f free (src N c) (dst N c) from
   reaches_by from c h l g = record { codes = c ∷ []; walk = (l, g, refl, refl); low = (h, tt) }
 

@@ -3,199 +3,119 @@
 // step closes a cycle. The closure of all of them shows which arcs can be neither.
 #![tactic(auto)]
 
-ghost use Rattle.std.specs.Prelude.{◌≡◌, [], suc, ◌≤◌, ◌<◌, length};
-ghost use Rattle.net_model.specs.Network.{arcs};
-ghost use Rattle.net_theory.specs.Graph.{net_with};
+ghost use Rattle.std.specs.Prelude.{◌≡◌, [], ◌||◌, ◌<◌, ◌≤◌, length};
+ghost use Rattle.net_model.specs.Struct.{net_from};
 ghost use Rattle.net_theory.specs.Ready.{Searchable};
-ghost use Rattle.flow_preorder.specs.Preorder.{Alone};
-ghost use Rattle.flow_closure.specs.Closure.{Closure};
-ghost use Rattle.flow_closure.specs.Candidates.{HasStep, ClosesCycle, OnCycle, AfterLastRaisable, FirstLowerable, UnmarkFixed};
+ghost use Rattle.flow_preorder.specs.Preorder.{Preorder, Alone};
+ghost use Rattle.flow_closure.specs.Closure.{StepsAdded, Closure};
+ghost use Rattle.flow_closure.specs.Candidates.{closes, raises, lowers, LastRaisable, FirstLowerable, UnmarkFixed};
 
-// The steps of arc a.
-fn add_arc(
-    tails: &[u8],
-    heads: &[u8],
-    lows: &[u32],
-    ups: &[u32],
-    free: &[bool],
-    flow: &[u32],
-    rows: &mut [u64],
-    a: usize,
-)
-    requires { let N = net_with [] tails.now heads.now lows.now ups.now [] in
-        Searchable N flow.now free.now × (a < arcs N) × Closure N flow.now free.now (suc a) rows.old }
-    ensures { let N = net_with [] tails.now heads.now lows.now ups.now [] in
-        Closure N flow.now free.now a rows.new }
+use net_model::Arc;
+
+// The steps of an arc that carries `units`.
+fn add_arc(rows: &mut [u64], arc: Arc, units: u32)
+    requires { Preorder rows.old × (arc.tail < 64) × (arc.head < 64) }
+    ensures { StepsAdded rows.old rows.new arc units }
 {
-    if !free[a] {
-        return;
-    }
-    let p = tails[a] as usize;
-    let q = heads[a] as usize;
-    let f = flow[a];
-    let u = ups[a];
-    let l = lows[a];
-    flow_preorder::add(rows, f < u, p, q);
-    flow_preorder::add(rows, l < f, q, p);
+    let p = usize::from(arc.tail);
+    let q = usize::from(arc.head);
+    flow_preorder::add(rows, units < arc.up, p, q);
+    flow_preorder::add(rows, arc.low < units, q, p);
 }
 
-// Whether the step of arc a from its near end to its far end closes a cycle.
-fn closes_cycle(
-    near: &[u8],
-    far: &[u8],
-    lowers: &[u32],
-    uppers: &[u32],
-    free: &[bool],
-    rows: &[u64],
-    a: usize,
-) -> bool
-    requires { HasStep near.now far.now lowers.now uppers.now free.now rows.now a }
-    ensures { ClosesCycle near.now far.now lowers.now uppers.now free.now
-        rows.now a result }
+// Whether the step from p to q, if `on`, closes a cycle.
+fn closes_cycle(rows: &[u64], on: bool, p: u8, q: u8) -> bool
+    requires { (length rows.now ≡ 65) × (p < 64) × (q < 64) }
+    ensures { result ≡ closes rows.now on p q }
 {
-    if !free[a] {
-        return false;
-    }
-    let u = uppers[a];
-    let l = lowers[a];
-    if u <= l {
-        return false;
-    }
-    let p = near[a] as usize;
-    let q = far[a] as usize;
-    let row = rows[q];
-    flow_preorder::has(row, p)
+    on && flow_preorder::has(rows[usize::from(q)], usize::from(p))
 }
 
-// One more than the last arc that can be raised by way of the free arcs after it; 0 if there is none.
-pub fn after_last_raisable(
-    tails: &[u8],
-    heads: &[u8],
-    lows: &[u32],
-    ups: &[u32],
-    free: &[bool],
-    flow: &[u32],
-) -> usize
-    requires { let N = net_with [] tails.now heads.now lows.now ups.now [] in
-        Searchable N flow.now free.now }
-    ensures { let N = net_with [] tails.now heads.now lows.now ups.now [] in
-        AfterLastRaisable N flow.now free.now result }
+// Whether the step that raises the arc closes a cycle.
+fn closes_raised(rows: &[u64], arc: Arc, units: u32) -> bool
+    requires { (length rows.now ≡ 65) × (arc.tail < 64) × (arc.head < 64) }
+    ensures { result ≡ raises rows.now arc units }
+{
+    closes_cycle(rows, units < arc.up, arc.tail, arc.head)
+}
+
+// Whether the step that lowers the arc closes a cycle.
+fn closes_lowered(rows: &[u64], arc: Arc, units: u32) -> bool
+    requires { (length rows.now ≡ 65) × (arc.tail < 64) × (arc.head < 64) }
+    ensures { result ≡ lowers rows.now arc units }
+{
+    closes_cycle(rows, arc.low < units, arc.head, arc.tail)
+}
+
+// The last arc that can be raised by way of the free arcs after it.
+pub fn last_raisable(arcs: &[Arc], free: &[bool], flow: &[u32]) -> Option<usize>
+    requires { Searchable (net_from [] arcs.now) flow.now free.now }
+    ensures { LastRaisable (net_from [] arcs.now) flow.now free.now result }
 {
     let mut rows = [0u64; 65];
     flow_preorder::alone(&mut rows);
-    let mut a = tails.len();
-    while 0 < a {
-        if !free[a - 1] {
-            a -= 1;
-            continue;
+    for a in (0..arcs.len()).rev() {
+        if free[a] {
+            let arc = arcs[a];
+            if closes_raised(&rows, arc, flow[a]) {
+                return Some(a);
+            }
+            add_arc(&mut rows, arc, flow[a]);
         }
-        if closes_cycle(tails, heads, flow, ups, free, &rows, a - 1) {
-            return a;
-        }
-        a -= 1;
-        add_arc(tails, heads, lows, ups, free, flow, &mut rows, a);
     }
-    a
+    None
 }
 
-// The first arc from `from` on that can be lowered by way of the free arcs after it; the number of arcs if there is none.
-pub fn first_lowerable(
-    tails: &[u8],
-    heads: &[u8],
-    lows: &[u32],
-    ups: &[u32],
-    free: &[bool],
-    flow: &[u32],
-    from: usize,
-) -> usize
-    requires { let N = net_with [] tails.now heads.now lows.now ups.now [] in
-        Searchable N flow.now free.now × (from ≤ arcs N) }
-    ensures { let N = net_with [] tails.now heads.now lows.now ups.now [] in
-        FirstLowerable N flow.now free.now from result }
+// The first arc from `from` on that can be lowered by way of the free arcs after it.
+pub fn first_lowerable(arcs: &[Arc], free: &[bool], flow: &[u32], from: usize) -> Option<usize>
+    requires { Searchable (net_from [] arcs.now) flow.now free.now × (from ≤ length arcs.now) }
+    ensures { FirstLowerable (net_from [] arcs.now) flow.now free.now from result }
 {
     let mut rows = [0u64; 65];
     flow_preorder::alone(&mut rows);
-    let mut a = tails.len();
-    let mut first = a;
-    while from < a {
-        a -= 1;
-        if !free[a] {
-            continue;
+    let mut first = None;
+    for a in (from..arcs.len()).rev() {
+        if free[a] {
+            let arc = arcs[a];
+            if closes_lowered(&rows, arc, flow[a]) {
+                first = Some(a);
+            }
+            add_arc(&mut rows, arc, flow[a]);
         }
-        if closes_cycle(heads, tails, lows, flow, free, &rows, a) {
-            first = a;
-        }
-        add_arc(tails, heads, lows, ups, free, flow, &mut rows, a);
     }
     first
 }
 
 // The steps of all free arcs.
-fn add_arcs(
-    tails: &[u8],
-    heads: &[u8],
-    lows: &[u32],
-    ups: &[u32],
-    free: &[bool],
-    flow: &[u32],
-    rows: &mut [u64],
-)
-    requires { let N = net_with [] tails.now heads.now lows.now ups.now [] in
-        Searchable N flow.now free.now × Alone rows.old }
-    ensures { let N = net_with [] tails.now heads.now lows.now ups.now [] in
-        Closure N flow.now free.now 0 rows.new }
+fn add_arcs(rows: &mut [u64], arcs: &[Arc], free: &[bool], flow: &[u32])
+    requires { Searchable (net_from [] arcs.now) flow.now free.now × Alone rows.old }
+    ensures { Closure (net_from [] arcs.now) flow.now free.now 0 rows.new }
 {
-    let mut a = tails.len();
-    while 0 < a {
-        a -= 1;
-        add_arc(tails, heads, lows, ups, free, flow, rows, a);
+    for a in (0..arcs.len()).rev() {
+        if free[a] {
+            add_arc(rows, arcs[a], flow[a]);
+        }
     }
 }
 
-// Whether a step of arc a closes a cycle of the closure.
-fn on_cycle(
-    tails: &[u8],
-    heads: &[u8],
-    lows: &[u32],
-    ups: &[u32],
-    free: &[bool],
-    flow: &[u32],
-    rows: &[u64],
-    a: usize,
-) -> bool
-    requires { let N = net_with [] tails.now heads.now lows.now ups.now [] in
-        Searchable N flow.now free.now × (length rows.now ≡ 65) × (a < arcs N) }
-    ensures { let N = net_with [] tails.now heads.now lows.now ups.now [] in
-        OnCycle N flow.now free.now rows.now a result }
+// Whether a step of the arc closes a cycle.
+fn on_cycle(rows: &[u64], arc: Arc, units: u32) -> bool
+    requires { (length rows.now ≡ 65) × (arc.tail < 64) × (arc.head < 64) }
+    ensures { result ≡ (raises rows.now arc units || lowers rows.now arc units) }
 {
-    if closes_cycle(tails, heads, flow, ups, free, rows, a) {
-        return true;
-    }
-    closes_cycle(heads, tails, lows, flow, free, rows, a)
+    closes_raised(rows, arc, units) || closes_lowered(rows, arc, units)
 }
 
 // A free arc stays free if one of its steps closes a cycle with residual steps of free arcs. The two steps of one arc close one, so that an arc
 // strictly between its bounds stays free even where no other flow changes it.
-pub fn unmark_fixed(
-    tails: &[u8],
-    heads: &[u8],
-    lows: &[u32],
-    ups: &[u32],
-    free: &mut [bool],
-    flow: &[u32],
-)
-    requires { let N = net_with [] tails.now heads.now lows.now ups.now [] in
-        Searchable N flow.now free.old }
-    ensures { let N = net_with [] tails.now heads.now lows.now ups.now [] in
-        UnmarkFixed N flow.now free.old free.new }
+pub fn unmark_fixed(arcs: &[Arc], free: &mut [bool], flow: &[u32])
+    requires { Searchable (net_from [] arcs.now) flow.now free.old }
+    ensures { UnmarkFixed (net_from [] arcs.now) flow.now free.old free.new }
 {
     let mut rows = [0u64; 65];
     flow_preorder::alone(&mut rows);
-    add_arcs(tails, heads, lows, ups, free, flow, &mut rows);
-    let mut a = 0;
-    while a < tails.len() {
-        let stays = on_cycle(tails, heads, lows, ups, free, flow, &rows, a);
-        free[a] = stays;
-        a += 1;
+    add_arcs(&mut rows, arcs, free, flow);
+    for (a, mark) in free.iter_mut().enumerate() {
+        *mark = *mark && on_cycle(&rows, arcs[a], flow[a]);
     }
 }

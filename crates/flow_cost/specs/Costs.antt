@@ -1,26 +1,19 @@
 -- What a flow costs, and the arcs of reduced cost 0 under labels of the nodes.
-use Rattle.std.specs.Prelude.{◌≡◌, ◌≢◌, Bool, true, false, List, ℕ, ◌≤◌, ◌<◌, length, get_or, ℤ, pos, ◌*ℤ◌}
+use Rattle.std.specs.Prelude.{◌≡◌, ◌≢◌, Bool, true, false, List, ℕ, ◌≤◌, ◌<◌, length, get_or, ℤ, pos}
 use Rattle.laws.specs.Range.{Bounded}
 use Rattle.net_model.specs.Network.{Net, arcs}
 use Rattle.net_theory.specs.ReducedCost.{reduced}
-use Rattle.net_theory.specs.Limits.{SmallEnds, SmallCosts}
+use Rattle.net_theory.specs.Limits.{SmallCosts}
 
 -- cost and number of each arc, small enough for their sum
-pub record Summable (c : List ℤ) (f : List ℕ) : Type 0 where
-  pub few : length c ≤ 512
-  pub flow_len : length f ≡ length c
-  pub cost_small : (a : ℕ) → a < length c → Bounded 1000000 (get_or c a (pos 0))
-  pub flow_small : (a : ℕ) → a < length c → get_or f a 0 ≤ 1000000
-
--- what one arc adds to the cost
-abbrev pub term : List ℤ → List ℕ → ℕ → ℤ
-term c f a = get_or c a (pos 0) *ℤ pos (get_or f a 0)
-
--- small ends and costs, a mark for each arc, and a small label for each node
-pub record SmallLabels (N : Net) (d : List ℤ) (marks : List Bool) : Type 0 where
-  pub ends : SmallEnds N
+pub record Summable (N : Net) (f : List ℕ) : Type 0 where
+  pub few : arcs N ≤ 512
   pub costs : SmallCosts N
-  pub marks_len : length marks ≡ arcs N
+  pub flow_len : length f ≡ arcs N
+  pub flow_small : (a : ℕ) → a < arcs N → get_or f a 0 ≤ 1000000
+
+-- a small label for each node
+pub record SmallLabels (d : List ℤ) : Type 0 where
   pub labels_len : length d ≡ 64
   pub label_small : (v : ℕ) → v < 64 → Bounded 1000000000000 (get_or d v (pos 0))
 

@@ -4,7 +4,7 @@ use mathlib.Core.List.{List}
 use lib.ListN.{take}
 use lib.IntN.{ℤ}
 use Rattle.net_theory.specs.Bounds.{InBounds}
-use Rattle.net_theory.specs.Graph.{bare, costed}
+use Rattle.net_theory.specs.Graph.{costed}
 use Rattle.net_theory.specs.Ready.{Ready}
 use Rattle.net_theory.proofs.Bounds.{flow_bounds}
 use Rattle.net_theory.proofs.Ready.{accepted_ready}
@@ -24,7 +24,7 @@ module _ (s : Enumerator) (h : Stands s) where
     bounds : InBounds (state_net s) (state_flow s)
     bounds = flow_bounds (state_net s) (state_flow s) (h.marked on).marks.least.flow
 
-    pub ready_on : Ready (bare (state_net s)) (state_flow s) (take s.net.arcs s.free)
+    pub ready_on : Ready (costed (state_net s)) (state_flow s) (take s.net.arcs s.free)
     ready_on = accepted_ready (state_net s) h.sound.accepted (state_flow s) (take s.net.arcs s.free) (h.marked on).marks_len bounds
 
     pub relaxable_on : Relaxable (costed (state_net s)) (state_flow s)

@@ -9,14 +9,12 @@ use lib.ListN.{length, take}
 use lib.IntN.{ℤ, pos}
 use lib.Signed.{◌≤ℤ◌}
 use Rattle.laws.specs.Linear.{lin, given2}
-use Rattle.laws.specs.Sum.{sum}
 use Rattle.laws.specs.Members.{first?, none_some}
 use Rattle.laws.specs.Count.{counted}
-use Rattle.net_model.specs.Network.{Net, WellFormed, LeastCost, cost_of}
+use Rattle.net_model.specs.Network.{Net, LeastCost, cost_of}
 use Rattle.net_model.specs.FullList.{full_list, first_flow, count_flows}
 use Rattle.net_model.specs.Struct.{net_in, Sound}
 use Rattle.net_model.specs.declared.Network.{Network}
-use Rattle.flow_cost.specs.Costs.{term}
 use Rattle.flow_least.specs.Marked.{Marked}
 use Rattle.flow_least.specs.Answers.{FirstFlow, MarkedIfLeast}
 use Rattle.flow_enumerate.specs.Enumerator.{state_net, state_flow, item_at, item_of, place_after, word_after, item_after, item_cost, Stands, Steps}
@@ -72,10 +70,6 @@ not_found N f t t' r h e = let k : FirstFlow N f t t' false = subst (FirstFlow N
 
 pub first_found : (N : Net) (f : List ℕ) (t t' : List Bool) (r : Bool) → FirstFlow N f t t' r → r ≡ true → (first_flow N ≡ some f) × Marked N t' f
 first_found N f t t' r h e = subst (FirstFlow N f t t') e h
-
--- the sum that the code computes is the cost
-pub cost_summed : (N : Net) → WellFormed N → (x f : List ℕ) → x ≡ f → (c d : ℤ) → c ≡ d → d ≡ sum (length N.costs) (term N.costs x) → c ≡ cost_of N f
-cost_summed N ok x f e c d p q = p ∙ q ∙ ap (λ y. sum (length N.costs) (term N.costs y)) e ∙ ap (λ k. sum k (term N.costs f)) ok.costs_len
 
 -- two least-cost flows cost the same
 pub same_cost : (N : Net) (f g : List ℕ) → LeastCost N f → LeastCost N g → cost_of N f ≡ cost_of N g

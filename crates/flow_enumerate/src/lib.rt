@@ -33,7 +33,7 @@ pub fn start(net: net_model::Network) -> Enumerator
     ensures { Stands result × (result.net ≡ net) × (result.place ≡ Place.Start) × (result.flow ≡ replicate 512 0) × (result.free ≡ replicate 512 false) }
 {
     Enumerator {
-        net: net,
+        net,
         place: Place::Start,
         cost: 0,
         flow: [0u32; 512],
@@ -47,33 +47,17 @@ pub fn resume(net: net_model::Network, flow: [u32; 512]) -> Enumerator
     ensures { Stands result × (result.net ≡ net) × Resumes (net_in net) (take net.arcs flow) result }
 {
     let m = net.arcs;
-    let n = net.nodes;
-    let tails = net.tails;
-    let heads = net.heads;
-    let lows = net.lows;
-    let ups = net.ups;
-    let costs = net.costs;
-    let balances = net.balances;
     let mut free = [false; 512];
-    if !flow_least::mark_if_least(
-        &tails[..m],
-        &heads[..m],
-        &lows[..m],
-        &ups[..m],
-        &costs[..m],
-        &balances[..n],
-        &flow[..m],
-        &mut free[..m],
-    ) {
+    if !flow_least::mark_if_least(net.arcs(), net.balances(), &flow[..m], &mut free[..m]) {
         return start(net);
     }
-    let cost = flow_cost::cost_of(&costs[..m], &flow[..m]);
+    let cost = flow_cost::cost_of(net.arcs(), &flow[..m]);
     Enumerator {
-        net: net,
+        net,
         place: Place::Item,
-        cost: cost,
-        flow: flow,
-        free: free,
+        cost,
+        flow,
+        free,
     }
 }
 
@@ -82,23 +66,7 @@ pub fn is_item(net: net_model::Network, flow: [u32; 512]) -> bool
     requires { Sound net }
     ensures { LeastIf (net_in net) (take net.arcs flow) result }
 {
-    let m = net.arcs;
-    let n = net.nodes;
-    let tails = net.tails;
-    let heads = net.heads;
-    let lows = net.lows;
-    let ups = net.ups;
-    let costs = net.costs;
-    let balances = net.balances;
-    flow_least::is_least(
-        &tails[..m],
-        &heads[..m],
-        &lows[..m],
-        &ups[..m],
-        &costs[..m],
-        &balances[..n],
-        &flow[..m],
-    )
+    flow_least::is_least(net.arcs(), net.balances(), &flow[..net.arcs])
 }
 
 impl Enumerator {
@@ -107,42 +75,28 @@ impl Enumerator {
         requires { Stands self }
         ensures { Steps self Place.None (first_flow (state_net self)) result }
     {
-        let net = self.net;
-        let m = net.arcs;
-        let n = net.nodes;
-        let tails = net.tails;
-        let heads = net.heads;
-        let lows = net.lows;
-        let ups = net.ups;
-        let costs = net.costs;
-        let balances = net.balances;
+        let m = self.net.arcs;
         let mut flow = self.flow;
         let mut free = self.free;
         if !flow_least::first_flow(
-            &tails[..m],
-            &heads[..m],
-            &lows[..m],
-            &ups[..m],
-            &costs[..m],
-            &balances[..n],
+            self.net.arcs(),
+            self.net.balances(),
             &mut flow[..m],
             &mut free[..m],
         ) {
             return Enumerator {
-                net: net,
                 place: Place::None,
                 cost: 0,
-                flow: flow,
-                free: free,
+                flow,
+                ..self
             };
         }
-        let cost = flow_cost::cost_of(&costs[..m], &flow[..m]);
         Enumerator {
-            net: net,
             place: Place::Item,
-            cost: cost,
-            flow: flow,
-            free: free,
+            cost: flow_cost::cost_of(self.net.arcs(), &flow[..m]),
+            flow,
+            free,
+            ..self
         }
     }
 
@@ -151,37 +105,21 @@ impl Enumerator {
         requires { Stands self × (self.place ≡ Place.Item) }
         ensures { Steps self Place.End (next_flow (state_net self) (state_flow self)) result }
     {
-        let net = self.net;
-        let m = net.arcs;
-        let tails = net.tails;
-        let heads = net.heads;
-        let lows = net.lows;
-        let ups = net.ups;
-        let free = self.free;
+        let m = self.net.arcs;
         let mut flow = self.flow;
-        if !flow_order::next(
-            &tails[..m],
-            &heads[..m],
-            &lows[..m],
-            &ups[..m],
-            &free[..m],
-            &mut flow[..m],
-        ) {
-            return Enumerator {
-                net: net,
+        if flow_order::next(self.net.arcs(), &self.free[..m], &mut flow[..m]) {
+            Enumerator {
+                place: Place::Item,
+                flow,
+                ..self
+            }
+        } else {
+            Enumerator {
                 place: Place::End,
                 cost: 0,
-                flow: flow,
-                free: free,
-            };
-        }
-        let cost = self.cost;
-        Enumerator {
-            net: net,
-            place: Place::Item,
-            cost: cost,
-            flow: flow,
-            free: free,
+                flow,
+                ..self
+            }
         }
     }
 
@@ -190,8 +128,7 @@ impl Enumerator {
         requires { Stands self }
         ensures { Steps self (word_after self.place) (item_after (state_net self) (item_of self)) result }
     {
-        let place = self.place;
-        match place {
+        match self.place {
             Place::Item => self.follow(),
             _ => self,
         }
@@ -202,22 +139,7 @@ impl Enumerator {
         requires { Stands self × (self.place ≡ Place.Item) }
         ensures { PriceArray (state_net self) (state_flow self) result }
     {
-        let net = self.net;
-        let m = net.arcs;
-        let tails = net.tails;
-        let heads = net.heads;
-        let lows = net.lows;
-        let ups = net.ups;
-        let costs = net.costs;
-        let flow = self.flow;
-        flow_prices::prices(
-            &tails[..m],
-            &heads[..m],
-            &lows[..m],
-            &ups[..m],
-            &costs[..m],
-            &flow[..m],
-        )
+        flow_prices::prices(self.net.arcs(), &self.flow[..self.net.arcs])
     }
 
     // How many items there are; one more than the cap if there are more than the cap.
@@ -226,26 +148,14 @@ impl Enumerator {
         ensures { (result ≤ cap + 1) × (counted cap result ≡ count_flows (state_net self) cap) }
     {
         let first = self.first();
-        let place = first.place;
-        match place {
+        match first.place {
             Place::Item => {
-                let net = first.net;
-                let m = net.arcs;
-                let tails = net.tails;
-                let heads = net.heads;
-                let lows = net.lows;
-                let ups = net.ups;
-                let free = first.free;
+                let m = first.net.arcs;
                 let mut flow = first.flow;
-                flow_order::count(
-                    &tails[..m],
-                    &heads[..m],
-                    &lows[..m],
-                    &ups[..m],
-                    &free[..m],
-                    &mut flow[..m],
-                    cap,
-                )
+                match flow_order::count(first.net.arcs(), &first.free[..m], &mut flow[..m], cap) {
+                    Some(n) => usize::from(n),
+                    None => usize::from(cap) + 1,
+                }
             }
             _ => 0,
         }

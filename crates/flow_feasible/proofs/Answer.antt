@@ -1,5 +1,8 @@
 -- What the search answers, and why it ends.
-use mathlib.Core.Path.{◌≡◌, ap, ◌∙◌}
+use mathlib.Core.Path.{◌≡◌, sym, ap, ◌∙◌}
+use Rattle.std.proofs.lemmas.List.{length-map}
+use Rattle.net_model.specs.Struct.{net_from}
+use Rattle.net_model.specs.declared.Arc.{Arc}
 use mathlib.Core.Logic.{◌⊎◌, inl, inr}
 use mathlib.Core.List.{List, []}
 use mathlib.Core.Bool.{Bool, true, false}
@@ -16,7 +19,8 @@ use Rattle.laws.specs.Sum.{sum}
 use Rattle.net_model.specs.Network.{Net, nodes, arcs, WellFormed, net_out, balance}
 use Rattle.net_theory.specs.Bounds.{InBounds}
 use Rattle.net_theory.specs.Excess.{total_excess}
-use Rattle.net_theory.specs.Graph.{net_with, bare}
+use Rattle.net_theory.specs.Graph.{costed}
+use Rattle.std.specs.Prelude.{None}
 use Rattle.net_theory.specs.Ready.{Ready}
 use Rattle.net_theory.proofs.Cuts.{stuck, closed_steps}
 use Rattle.net_theory.proofs.Circulation.{balances_sum}
@@ -25,35 +29,27 @@ use Rattle.net_theory.proofs.Excess.{relieved, all_met}
 use Rattle.net_theory.proofs.Graph.{ends_with, bounds_with, within_with}
 use Rattle.flow_test.specs.Excess.{Excesses}
 use Rattle.flow_test.specs.FlowTest.{Testable}
-use Rattle.flow_test.proofs.IsFlow.{flow_with}
 use Rattle.flow_feasible.specs.Sending.{FirstExcess, SentFrom, CutOff}
 use Rattle.flow_feasible.specs.Answer.{AllFree, Feasible}
 
-module _ (N : Net) (f₀ : List ℕ) (T : Testable N f₀) where
-  pub ready_of : (free : List Bool) → AllFree N free → (f : List ℕ) → InBounds N f → Ready (bare N) f free
+module _ (N : Net) (f₀ : List ℕ) (T : Testable N f₀) (costs_len : length N.costs ≡ arcs N) where
+  pub ready_of : (free : List Bool) → AllFree N free → (f : List ℕ) → InBounds N f → Ready (costed N) f free
   ready_of free F f k = record {
     searchable = record {
-      ends = ends_with N [] N.lows N.ups [] T.ends;
-      bounds = bounds_with N [] N.heads [] T.bounds;
+      ends = ends_with N [] N.lows N.ups N.costs T.ends;
+      bounds = bounds_with N [] N.heads N.costs T.bounds;
       flow_len = k.all_arcs;
       free_len = F.free_len;
     };
-    within = within_with N [] N.heads [] f k;
+    within = within_with N [] N.heads N.costs f k;
   }
 
-  -- costs play no part in it: let each be 0
-  abbrev zeros : List ℤ
-  zeros = replicate (arcs N) (pos 0)
-
-  abbrev costless : Net
-  costless = net_with N.balances N.tails N.heads N.lows N.ups zeros
-
-  formed : WellFormed costless
+  formed : WellFormed N
   formed = record {
     heads_len = T.ends.heads_len;
     lows_len = T.bounds.lows_len;
     ups_len = T.bounds.ups_len;
-    costs_len = length-replicate (arcs N) (pos 0);
+    costs_len = costs_len;
     tail_in = T.balances.tail_node;
     head_in = T.balances.head_node;
   }
@@ -62,26 +58,26 @@ module _ (N : Net) (f₀ : List ℕ) (T : Testable N f₀) where
   no_balance g k ne = record {
     within = k;
     found = λ q. absurd (let w : ◌≡◌ {A = ℕ} 0 1 = cc in omega arith);
-    none = λ _ x F. ne (balances_sum costless formed x (flow_with N zeros x F));
+    none = λ _ x F. ne (balances_sum N formed x F);
   }
 
-  module _ (f : List ℕ) (k : InBounds N f) (ex : List ℤ) (L : Excesses (net_with N.balances N.tails N.heads [] [] []) f ex) where
-    pub all_sent : sum (nodes N) (balance N) ≡ pos 0 → (r : ℕ) → FirstExcess ex r → length ex ≤ r → Feasible N f true
-    all_sent e r F z = record {
+  module _ (f : List ℕ) (k : InBounds N f) (ex : List ℤ) (L : Excesses N f ex) where
+    pub all_sent : sum (nodes N) (balance N) ≡ pos 0 → FirstExcess ex None → Feasible N f true
+    all_sent e F = record {
       within = k;
-      found = λ _. flow_with costless N.costs f (all_met costless formed f (within_with N N.balances N.heads zeros f k) e (λ v i. rw (← (L.is v i)) (F.none z v (omega (arith, L.len)))));
+      found = λ _. all_met N formed f k e (λ v i. rw (← (L.is v i)) (F v (omega (arith, L.len))));
       none = λ q. absurd (let w : ◌≡◌ {A = ℕ} 0 1 = cc in omega arith);
     }
 
-    pub no_flow_left : (free : List Bool) → AllFree N free → (s : ℕ) → s < length ex → pos 0 <ℤ get_or ex s (pos 0) → CutOff (bare N) f free ex s (length ex) → (g : List ℕ) → InBounds N g → Feasible N g false
+    pub no_flow_left : (free : List Bool) → AllFree N free → (s : ℕ) → s < length ex → pos 0 <ℤ get_or ex s (pos 0) → CutOff (costed N) f free ex s (length ex) → (g : List ℕ) → InBounds N g → Feasible N g false
     no_flow_left free F s i p C g m = record {
       within = m;
       found = λ q. absurd (let w : ◌≡◌ {A = ℕ} 0 1 = cc in omega arith);
-      none = λ _ x X. stuck costless formed f C.inside
-          (closed_steps costless f (λ a. Unit {0}) C.inside (λ x y _ v w. C.shut x y (rw (F.marked (x / 2) (omega arith)) v) w))
+      none = λ _ x X. stuck N formed f C.inside
+          (closed_steps N f (λ a. Unit {0}) C.inside (λ x y _ v w. C.shut x y (rw (F.marked (x / 2) (omega arith)) v) w))
           s (omega (arith, L.len)) C.has (too_little_out (balance N s) (net_out N f s) (get_or ex s (pos 0)) (L.is s (omega (arith, L.len))) p)
           (λ v j m. no_deficit v m (L.is v j) (le_z_or_lt (pos 0) (get_or ex v (pos 0))) (λ n. C.none v (omega (arith, L.len)) n))
-          x (flow_with N zeros x X);
+          x X;
     }
       where
         too_little_out : (b o x : ℤ) → x ≡ b -ℤ o → pos 0 <ℤ x → o <ℤ b
@@ -95,18 +91,22 @@ module _ (N : Net) (f₀ : List ℕ) (T : Testable N f₀) where
         no_deficit v m e (inr p) n = absurd (let w : ◌≡◌ {A = ℕ} 0 1 = cc (m, n p) in omega arith)
 
     -- the sum of the excesses above 0 falls
-    pub falls : (g : List ℕ) (s : ℕ) → s < length ex → SentFrom (bare N) f g ex s → plus (total_excess N g) < plus (total_excess N f)
+    pub falls : (g : List ℕ) (s : ℕ) → s < length ex → SentFrom (costed N) f g ex s → plus (total_excess N g) < plus (total_excess N f)
     falls g s i S =
         let R = S.sent in
         relieved N f g s S.to R.amount
-        (λ w. ap (λ x. net_out N x w) R.exact ∙ all_net_out (bare N) R.amount R.codes f s S.to w (within_with N [] N.heads [] f k) R.walk R.able.distinct)
+        (λ w. ap (λ x. net_out N x w) R.exact ∙ all_net_out (costed N) R.amount R.codes f s S.to w (within_with N [] N.heads N.costs f k) R.walk R.able.distinct)
         (omega (arith, L.len)) R.some
         (rw (← (L.is s (omega (arith, L.len)))) (≤ℤ_trans {a = pos R.amount} {b = pos S.most} {c = get_or ex s (pos 0)} (simp lin (omega (arith, R.at_most))) S.most_ok))
         (rw (← (L.is S.to (omega (arith, L.len, S.to_in)))) R.at_t)
 
 -- the first m of 512 marks
-pub all_free : (N : Net) → arcs N ≤ 512 → AllFree N (take (arcs N) (replicate 512 true))
-all_free N h = record {
-  free_len = length-take-le (arcs N) (replicate 512 true) (omega (arith, length-replicate 512 true));
-  marked = λ a k. get_or-take (arcs N) (replicate 512 true) a false k ∙ get_or-replicate 512 a true false (omega arith);
+pub all_free : (N : Net) (m : ℕ) → m ≡ arcs N → m ≤ 512 → AllFree N (take m (replicate 512 true))
+all_free N m e h = record {
+  free_len = length-take-le m (replicate 512 true) (omega (arith, length-replicate 512 true)) ∙ e;
+  marked = λ a k. get_or-take m (replicate 512 true) a false (omega arith) ∙ get_or-replicate 512 a true false (omega arith);
 }
+
+-- the lists of a network that a function is lent have one cost for each arc
+pub costs_lent : (b : List ℤ) (l : List Arc) → let N = net_from b l in length N.costs ≡ arcs N
+costs_lent b l = length-map l (λ (a : Arc). a.cost) ∙ sym (length-map l (λ (a : Arc). a.tail))

@@ -1,4 +1,3 @@
 mod Widths
-mod FirstExcess
 mod Sending
 mod Answer

@@ -1,15 +1,15 @@
 -- Sending to one node, and to the first that can take some.
-use mathlib.Core.Path.{◌≡◌, refl, sym, ap, subst, ◌∙◌}
+use mathlib.Core.Path.{◌≡◌, refl, ap, subst, ◌∙◌}
 use mathlib.Core.Logic.{◌⊎◌, inl, inr}
-use mathlib.Core.List.{List, []}
+use mathlib.Core.List.{List}
 use mathlib.Core.Bool.{Bool, true, false, ◌&&◌}
 use Prim.Native.Nat.{ℕ, ◌+◌, ◌≤◌, ◌<◌, min}
 use native.Mathlib.Omega.{arith}
 use native.Mathlib.Decide.{ℕ_discrete}
 use lib.ListN.{length, get_or}
 use lib.IntN.{ℤ, pos, neg_ℤ}
-use lib.Signed.{◌≤ℤ◌, ◌<ℤ◌, le_z}
-use Rattle.laws.specs.Integers.{le_z_true, le_z_or_lt}
+use lib.Signed.{◌≤ℤ◌, ◌<ℤ◌}
+use Rattle.laws.specs.Integers.{le_z_or_lt}
 use Rattle.laws.specs.Linear.{lin, given3}
 use Rattle.laws.specs.Members.{Every, every_map}
 use Rattle.laws.specs.Tests.{and_true, and_stops_second}
@@ -19,28 +19,14 @@ use Rattle.net_model.proofs.Walks.{walk_below, walk_holds, walk_with}
 use Rattle.net_theory.specs.ResidualCapacity.{residual_capacity, has_capacity}
 use Rattle.net_theory.specs.Bounds.{InBounds}
 use Rattle.net_theory.specs.Push.{push_all}
-use Rattle.net_theory.specs.Graph.{net_with}
 use Rattle.net_theory.specs.FreeArcs.{goes, FreeWalk, Blocked}
 use Rattle.net_theory.proofs.ResidualCapacity.{all_has_capacity}
 use Rattle.flow_push.specs.Pushing.{bottleneck, Pushable}
 use Rattle.flow_push.proofs.LeastCapacity.{capacity_cap, capacity_each, capacity_pos, goes_capacity}
 use Rattle.flow_push.proofs.Pushing.{pushable_bounds}
-use Rattle.flow_push.proofs.Lists.{pushable_with, capacity_with}
 use Rattle.flow_feasible.specs.Sending.{Capped, SentTo, SendsTo, CutOff, Sends}
 
 -- ---- to one node
-module _ (N : Net) (f : List ℕ) (free : List Bool) (s t most : ℕ) (x : ℤ) (b : InBounds N f) where
-  pub sends_to_none : (z : ℤ) → z ≡ x → le_z (pos 0) z ≡ true → SendsTo N f f free s t most x false
-  sends_to_none z e h = record {
-    within = b;
-    done = λ q. absurd (let w : ◌≡◌ {A = ℕ} 0 1 = cc in omega arith);
-    same = λ _. refl;
-    stuck = λ _ k. absurd (given3 e (le_z_true (pos 0) z h) k (simp lin (omega arith)));
-  }
-
-  pub sends_to_blocked : Blocked N f free s t 0 → SendsTo N f f free s t most x false
-  sends_to_blocked k = record { within = b; done = λ q. absurd (let w : ◌≡◌ {A = ℕ} 0 1 = cc in omega arith); same = λ _. refl; stuck = λ _ _. k }
-
 walk_able : (N : Net) (f : List ℕ) (free : List Bool) (s t from δ : ℕ) (cs : List ℕ) → InBounds N f → FreeWalk N f free s t from cs → Every (λ c. δ ≤ residual_capacity N f c) cs → Pushable N δ f cs
 walk_able N f free s t from δ cs b p h = record {
   within = b;
@@ -50,15 +36,9 @@ walk_able N f free s t from δ cs b p h = record {
 }
 
 module _ (N : Net) (f : List ℕ) (free : List Bool) (x y most : ℕ) (b : InBounds N f) (cs : List ℕ) (p : FreeWalk N f free x y 0 cs)
-    (cap d : ℕ) (d-is : d ≡ bottleneck (net_with [] N.tails [] N.lows N.ups []) f cap cs) where
-  capacity_is : d ≡ bottleneck N f cap cs
-  capacity_is = d-is ∙ sym (capacity_with N [] [] [] f cap cs)
-
-  able : Pushable N d f cs
-  able = walk_able N f free x y 0 d cs b p (rw capacity_is (capacity_each N f cap cs))
-
-  pub able_here : Pushable (net_with [] N.tails [] N.lows N.ups []) d f cs
-  able_here = pushable_with N [] [] [] f d cs able
+    (cap d : ℕ) (d-is : d ≡ bottleneck N f cap cs) where
+  pub able : Pushable N d f cs
+  able = walk_able N f free x y 0 d cs b p (rw d-is (capacity_each N f cap cs))
 
   pub sends_to_yes : (f' : List ℕ) (k : ℕ) (z : ℤ) (v : ℤ) → f' ≡ push_all d cs f → cap ≡ min most k → Capped z k → z ≡ neg_ℤ v → 0 < most → SendsTo N f f' free x y most v true
   sends_to_yes f' k z v e c q r m = record {
@@ -69,9 +49,9 @@ module _ (N : Net) (f : List ℕ) (free : List Bool) (x y most : ℕ) (b : InBou
       walk = walk_with (codes N) (src N) (dst N) (goes N f free) (has_capacity N f d) x y cs able.capacity p.walk;
       able = able;
       exact = e;
-      some = rw capacity_is (capacity_pos N f cap cs (rw c (omega (arith, q.some))) (every_map (λ c. goes N f free c ≡ true) (λ c. 0 < residual_capacity N f c) cs (goes_capacity N f free) (walk_holds (codes N) (src N) (dst N) (goes N f free) x y cs p.walk)));
-      at_most = omega (arith, capacity_is, capacity_cap N f cap cs, c);
-      at_t = last d k z v (omega (arith, capacity_is, capacity_cap N f cap cs, c)) q.at_most r;
+      some = rw d-is (capacity_pos N f cap cs (rw c (omega (arith, q.some))) (every_map (λ c. goes N f free c ≡ true) (λ c. 0 < residual_capacity N f c) cs (goes_capacity N f free) (walk_holds (codes N) (src N) (dst N) (goes N f free) x y cs p.walk)));
+      at_most = omega (arith, d-is, capacity_cap N f cap cs, c);
+      at_t = last d k z v (omega (arith, d-is, capacity_cap N f cap cs, c)) q.at_most r;
     };
     same = λ q. absurd (let w : ◌≡◌ {A = ℕ} 0 1 = cc in omega arith);
     stuck = λ q _. absurd (let w : ◌≡◌ {A = ℕ} 0 1 = cc in omega arith);
@@ -118,11 +98,4 @@ sends_yes N f f' free excess s t most x y r l e d c q a = record {
   within = a.within;
   done = λ _. record { to = t; to_in = l; most = most; most_ok = rw (← d) c.at_most; sent = subst (λ (z : ℤ). SentTo N f f' s t most z) e (a.done q) };
   stuck = λ z. absurd (let w : ◌≡◌ {A = ℕ} 0 1 = cc in omega arith);
-}
-
-pub sends_no : (N : Net) (f : List ℕ) (free : List Bool) (excess : List ℤ) (s t : ℕ) → InBounds N f → length excess ≤ t → CutOff N f free excess s t → Sends N f f free excess s false
-sends_no N f free excess s t b h k = record {
-  within = b;
-  done = λ z. absurd (let w : ◌≡◌ {A = ℕ} 0 1 = cc in omega arith);
-  stuck = λ _. record { inside = k.inside; has = k.has; none = λ v l m. k.none v (omega arith) m; shut = k.shut };
 }

@@ -3,7 +3,7 @@ use mathlib.Core.Path.{◌≡◌}
 use mathlib.Core.Bool.{true, false}
 use native.Mathlib.Omega.{arith}
 use lib.Dec.{T}
-use lib.IntN.{ℤ, pos, negsuc, nat_abs, ◌-ℤ◌}
+use lib.IntN.{ℤ, pos, neg_ℤ, negsuc, nat_abs, ◌-ℤ◌}
 use lib.Signed.{◌<ℤ◌, le_z, lt_z, non_neg}
 use mir.Syntax.{w32, w64}
 use mir.Val.{SFits, Fits}
@@ -30,3 +30,6 @@ below z x e h = given (le_z_false (pos 0) z h) (simp lin (omega arith))
 
 pub turned_fits : (z x : ℤ) → z ≡ x → Bounded 3000000000 x → SFits w64 (pos 0 -ℤ z)
 turned_fits z x e w = given2 e w (simp fits (omega arith))
+
+pub zero_sub : (x : ℤ) → pos 0 -ℤ x ≡ neg_ℤ x
+zero_sub x = simp lin (omega arith)

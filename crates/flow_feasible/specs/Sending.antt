@@ -1,5 +1,5 @@
 -- Sending from a node with an excess to a node with a deficit.
-use Rattle.std.specs.Prelude.{◌≡◌, List, Bool, true, false, ℕ, ◌≤◌, ◌<◌, length, get_or, ℤ, pos, neg_ℤ, ◌≤ℤ◌, ◌<ℤ◌}
+use Rattle.std.specs.Prelude.{◌≡◌, Option, None, Some, List, Bool, true, false, ℕ, ◌≤◌, ◌<◌, length, get_or, ℤ, pos, neg_ℤ, ◌≤ℤ◌, ◌<ℤ◌}
 use Rattle.net_model.specs.Network.{Net}
 use Rattle.net_model.specs.Residual.{codes, src, dst, CodeWalk}
 use Rattle.net_theory.specs.Bounds.{InBounds}
@@ -8,11 +8,10 @@ use Rattle.net_theory.specs.FreeArcs.{goes, Blocked}
 use Rattle.net_theory.specs.ResidualCapacity.{has_capacity}
 use Rattle.flow_push.specs.Pushing.{Pushable}
 
--- r is the first node whose excess is above 0, or the length of the list
-pub record FirstExcess (l : List ℤ) (r : ℕ) : Type 0 where
-  pub in_range : r ≤ length l
-  pub above : r < length l → pos 0 <ℤ get_or l r (pos 0)
-  pub none : length l ≤ r → (v : ℕ) → v < length l → get_or l v (pos 0) ≤ℤ pos 0
+-- r is a node whose excess is above 0, or none is
+abbrev pub FirstExcess : List ℤ → Option ℕ → Type 0
+FirstExcess l (Some r) = (r < length l) × (pos 0 <ℤ get_or l r (pos 0))
+FirstExcess l None = (v : ℕ) → v < length l → get_or l v (pos 0) ≤ℤ pos 0
 
 -- r is at most x, and not 0
 pub record Capped (x : ℤ) (r : ℕ) : Type 0 where

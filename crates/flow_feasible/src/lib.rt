@@ -6,12 +6,14 @@ ghost use Rattle.std.specs.Prelude.{◌≡◌, [], ℕ, ◌≤◌, ◌<◌, leng
 ghost use Rattle.laws.specs.Range.{Bounded};
 ghost use Rattle.laws.specs.Sum.{sum};
 ghost use Rattle.net_model.specs.Network.{nodes, balance};
+ghost use Rattle.net_model.specs.Struct.{net_from};
 ghost use Rattle.net_theory.specs.Bounds.{InBounds};
-ghost use Rattle.net_theory.specs.Graph.{net_with};
 ghost use Rattle.net_theory.specs.Ready.{Ready};
 ghost use Rattle.flow_test.specs.FlowTest.{Testable};
 ghost use Rattle.flow_feasible.specs.Sending.{Capped, SendsTo, Sends, FirstExcess};
 ghost use Rattle.flow_feasible.specs.Answer.{AllFree, Feasible};
+
+use net_model::Arc;
 
 // A positive number, or a million where it is greater.
 fn capped(x: i64) -> u32
@@ -26,10 +28,7 @@ fn capped(x: i64) -> u32
 
 // As much as the capacities allow, at most `most`, from s to t, if t has a deficit (its excess x is below 0) and is reached.
 fn send_to(
-    tails: &[u8],
-    heads: &[u8],
-    lows: &[u32],
-    ups: &[u32],
+    arcs: &[Arc],
     free: &[bool],
     flow: &mut [u32],
     s: usize,
@@ -37,68 +36,49 @@ fn send_to(
     x: i64,
     most: u32,
 ) -> bool
-    requires { let N = net_with [] tails.now heads.now lows.now ups.now [] in
-        Ready N flow.old free.now × (s < 64) × (t < 64) × (0 < most) × Bounded 3000000000 x }
-    ensures { let N = net_with [] tails.now heads.now lows.now ups.now [] in
-        SendsTo N flow.old flow.new free.now s t most x result }
+    requires { Ready (net_from [] arcs.now) flow.old free.now × (s < 64) × (t < 64) × (0 < most) × Bounded 3000000000 x }
+    ensures { SendsTo (net_from [] arcs.now) flow.old flow.new free.now s t most x result }
 {
     if x >= 0 {
         return false;
     }
     let mut codes = [0usize; 64];
-    let route = flow_path::find_walk(tails, heads, lows, ups, free, flow, s, t, 0, &mut codes);
-    match route {
-        flow_path::Route::Codes(len) => {
-            let cap = flow_push::lesser(most, capped(-x));
-            let d = flow_push::bottleneck(tails, lows, ups, flow, &codes, len, cap);
-            flow_push::push(tails, lows, ups, flow, &codes, len, d);
+    match flow_path::find_walk(arcs, free, flow, s, t, 0, &mut codes) {
+        Some(len) => {
+            let cap = most.min(capped(-x));
+            let d = flow_push::bottleneck(arcs, flow, &codes[..len], cap);
+            flow_push::push(flow, &codes[..len], d);
             true
         }
-        flow_path::Route::Cut => false,
+        None => false,
     }
 }
 
 // Some of the excess of s, sent to the first node that has a deficit and is reached.
-fn send(
-    tails: &[u8],
-    heads: &[u8],
-    lows: &[u32],
-    ups: &[u32],
-    free: &[bool],
-    flow: &mut [u32],
-    excess: &[i64],
-    s: usize,
-) -> bool
-    requires { let N = net_with [] tails.now heads.now lows.now ups.now [] in
-        Ready N flow.old free.now × (s < length excess.now) × (length excess.now ≤ 64) × (pos 0 <ℤ get_or excess.now s (pos 0))
+fn send(arcs: &[Arc], free: &[bool], flow: &mut [u32], excess: &[i64], s: usize) -> bool
+    requires { Ready (net_from [] arcs.now) flow.old free.now × (s < length excess.now) × (length excess.now ≤ 64) × (pos 0 <ℤ get_or excess.now s (pos 0))
         × ((v : ℕ) → Bounded 3000000000 (get_or excess.now v (pos 0))) }
-    ensures { let N = net_with [] tails.now heads.now lows.now ups.now [] in
-        Sends N flow.old flow.new free.now excess.now s result }
+    ensures { Sends (net_from [] arcs.now) flow.old flow.new free.now excess.now s result }
 {
     let most = capped(excess[s]);
-    let mut t = 0;
-    while t < excess.len() {
-        if send_to(tails, heads, lows, ups, free, flow, s, t, excess[t], most) {
+    for (t, x) in excess.iter().enumerate() {
+        if send_to(arcs, free, flow, s, t, *x, most) {
             return true;
         }
-        t += 1;
     }
     false
 }
 
-// The first node whose excess is above 0; the length where there is none.
-fn first_excess(excess: &[i64]) -> usize
+// The first node whose excess is above 0.
+fn first_excess(excess: &[i64]) -> Option<usize>
     ensures { FirstExcess excess.now result }
 {
-    let mut i = 0;
-    while i < excess.len() {
-        let x = excess[i];
-        if 0 < x {
-            return i;
+    for (v, x) in excess.iter().enumerate() {
+        if 0 < *x {
+            return Some(v);
         }
-        i += 1;
     }
-    i
+    None
 }
 
 // What the balances sum to.
@@ -107,72 +87,50 @@ fn total(balances: &[i32]) -> i64
     ensures { result ≡ sum (length balances.now) (λ v. get_or balances.now v (pos 0)) }
 {
     let mut sum: i64 = 0;
-    let mut i = 0;
-    while i < balances.len() {
-        sum += bytes_read::to_i64(balances[i]);
-        i += 1;
+    for balance in balances {
+        sum += i64::from(*balance);
     }
     sum
 }
 
 // A flow, where the balances sum to 0; false if there is none. It starts from `flow`; `excess` is room to work in.
 fn from_bounds(
-    tails: &[u8],
-    heads: &[u8],
-    lows: &[u32],
-    ups: &[u32],
+    arcs: &[Arc],
     free: &[bool],
     balances: &[i32],
     flow: &mut [u32],
     excess: &mut [i64],
 ) -> bool
-    requires { let N = net_with balances.now tails.now heads.now lows.now ups.now [] in
+    requires { let N = net_from balances.now arcs.now in
         Testable N flow.old × InBounds N flow.old × AllFree N free.now × (length excess.old ≡ nodes N)
         × (sum (nodes N) (balance N) ≡ pos 0) }
-    ensures { let N = net_with balances.now tails.now heads.now lows.now ups.now [] in
-        Feasible N flow.new result }
+    ensures { Feasible (net_from balances.now arcs.now) flow.new result }
 {
     loop {
-        flow_test::excess_of(tails, heads, balances, flow, excess);
-        let s = first_excess(excess);
-        if s >= excess.len() {
-            return true;
-        }
-        if !send(tails, heads, lows, ups, free, flow, excess, s) {
-            return false;
+        flow_test::excess_of(arcs, balances, flow, excess);
+        match first_excess(excess) {
+            Some(s) => {
+                if !send(arcs, free, flow, excess, s) {
+                    return false;
+                }
+            }
+            None => return true,
         }
     }
 }
 
 // A flow; false if there is none. It starts from `flow`, which is within the bounds: a good guess saves the work.
-pub fn feasible(
-    tails: &[u8],
-    heads: &[u8],
-    lows: &[u32],
-    ups: &[u32],
-    balances: &[i32],
-    flow: &mut [u32],
-) -> bool
-    requires { let N = net_with balances.now tails.now heads.now lows.now ups.now [] in
+pub fn feasible(arcs: &[Arc], balances: &[i32], flow: &mut [u32]) -> bool
+    requires { let N = net_from balances.now arcs.now in
         Testable N flow.old × InBounds N flow.old }
-    ensures { let N = net_with balances.now tails.now heads.now lows.now ups.now [] in
-        Feasible N flow.new result }
+    ensures { Feasible (net_from balances.now arcs.now) flow.new result }
 {
     if total(balances) != 0 {
         return false;
     }
     let free = [true; 512];
     let mut excess = [0i64; 64];
-    let m = tails.len();
+    let m = arcs.len();
     let n = balances.len();
-    from_bounds(
-        tails,
-        heads,
-        lows,
-        ups,
-        &free[..m],
-        balances,
-        flow,
-        &mut excess[..n],
-    )
+    from_bounds(arcs, &free[..m], balances, flow, &mut excess[..n])
 }

@@ -1,4 +1,3 @@
 pub mod Premises
-mod Start
 pub mod Marked
 mod Question8

@@ -1,5 +1,5 @@
 -- What the search for the first flow and the test of a flow answer.
-use Rattle.std.specs.Prelude.{◌≡◌, Bool, true, false, List, ℕ, ℤ}
+use Rattle.std.specs.Prelude.{◌≡◌, Bool, true, false, List, ℕ, ℤ, Option, Some, None}
 use Rattle.std.proofs.Math.Option.{none, some}
 use Rattle.net_model.specs.Network.{Net, LeastCost}
 use Rattle.net_model.specs.FullList.{first_flow}
@@ -17,10 +17,10 @@ abbrev pub LeastIf : Net → List ℕ → Bool → Type 0
 LeastIf N f true = LeastCost N f
 LeastIf N f false = ¬ LeastCost N f
 
--- whether f is a least-cost flow; if so, under labels d no negative cycle has capacity for 1
-abbrev pub IsLeastCost : Net → List ℕ → List ℤ → Bool → Type 0
-IsLeastCost N f d true = LeastCost N f × PotentialLabels N f 1 d
-IsLeastCost N f d false = ¬ LeastCost N f
+-- where f is a least-cost flow, labels under which no negative cycle has capacity for 1; none where it is not
+abbrev pub ShowsLeast : Net → List ℕ → Option (List ℤ) → Type 0
+ShowsLeast N f (Some d) = LeastCost N f × PotentialLabels N f 1 d
+ShowsLeast N f None = ¬ LeastCost N f
 
 -- question 8: "a least-cost flow of the network", marked; or it is none, and the marks are as they were
 abbrev pub MarkedIfLeast : Net → List ℕ → List Bool → List Bool → Bool → Type 0

@@ -6,6 +6,7 @@ use native.Mathlib.Omega.{arith}
 use native.Mathlib.Decide.{ℕ_discrete, dec_lt}
 use lib.ListN.{set, replicate, get_or-replicate}
 use lib.IntN.{ℤ, pos}
+use Rattle.std.proofs.Common.{Option, Some, None}
 use Rattle.net_model.specs.Network.{Net}
 use Rattle.net_model.specs.Residual.{codes, src}
 use Rattle.net_theory.specs.Limits.{SmallEnds}
@@ -18,13 +19,13 @@ use Rattle.flow_negative_cycle.proofs.Searching.{Searching, finds_none, searchin
 
 module _ (N : Net) (ok : SmallEnds N) (p : List ℕ) where
   -- n more steps back of 64
-  goes_back : (v i w n : ℕ) → i + n ≡ 64 → Going N p v i w → (r : ℕ) × GoesBack N p v r
-  goes_back v i w zero e g = (w, went (g.is ∙ ap (λ k. back N p k v) (omega arith)) (λ j l. g.steps j (omega arith)))
+  goes_back : (v i w n : ℕ) → i + n ≡ 64 → Going N p v i w → (r : Option ℕ) × GoesBack N p v r
+  goes_back v i w zero e g = (Some w, went (ap Some (g.is ∙ ap (λ k. back N p k v) (omega arith))) (λ j l. g.steps j (omega arith)))
   goes_back v i w (suc n) e g = step (dec_lt (pred p w) (codes N)) (goes_back v (i + 1) (src N (pred p w)) n (omega arith))
     where
-      step : Dec (pred p w < codes N) → (Going N p v (i + 1) (src N (pred p w)) → (r : ℕ) × GoesBack N p v r) → (r : ℕ) × GoesBack N p v r
+      step : Dec (pred p w < codes N) → (Going N p v (i + 1) (src N (pred p w)) → (r : Option ℕ) × GoesBack N p v r) → (r : Option ℕ) × GoesBack N p v r
       step (yes l) deep = deep (going_more N ok p v i w (src N (pred p w)) g (omega arith) l refl)
-      step (no l) deep = (64, ended refl i (going_ends N ok p v i w g (omega arith) (omega arith)))
+      step (no l) deep = (None, ended refl i (going_ends N ok p v i w g (omega arith) (omega arith)))
 
   -- the codes back to x, at most n more
   collects : (x : ℕ) (out₀ out : List ℕ) (w len n : ℕ) → 64 ≤ len + n → Collecting N p x out₀ out w len → (out' : List ℕ) × (r : ℕ) × Collects N p x out₀ out' r
@@ -39,7 +40,7 @@ module _ (N : Net) (ok : SmallEnds N) (p : List ℕ) where
 module _ (N : Net) (f : List ℕ) (ok : Relaxable N f) (δ : ℕ) (some : 0 < δ) where
   -- what it ends with, its list of codes filled with 0 at first
   abbrev Ended : Type 0
-  Ended = (d : List ℤ) × (out : List ℕ) × (r : ℕ) × FindsCycle N f δ d (replicate 64 0) out r
+  Ended = (d : List ℤ) × (out : List ℕ) × (r : Option ℕ) × FindsCycle N f δ d (replicate 64 0) out r
 
   -- n more rounds of 64
   rounds : (n : ℕ) (d : List ℤ) (p : List ℕ) (k : ℕ) → 64 ≤ k + n → Searching N f δ d p k → Ended
@@ -50,19 +51,19 @@ module _ (N : Net) (f : List ℕ) (ok : Relaxable N f) (δ : ℕ) (some : 0 < δ
       round s e deep = unchanged (ℕ_discrete s.last 64)
         where
           cycle : (x : ℕ) → (out : List ℕ) × (r : ℕ) × Collects N s.preds x (replicate 64 0) out r → Ended
-          cycle x (out, r, c) = (s.labels, out, r, finds_cycle N f ok δ some s.labels s.preds (labelled' N f ok δ d p k S s.labels s.preds s.last e) x (replicate 64 0) out r c)
+          cycle x (out, r, c) = (s.labels, out, Some r, finds_cycle N f ok δ some s.labels s.preds (labelled' N f ok δ d p k S s.labels s.preds s.last e) x (replicate 64 0) out r c)
 
-          back_to : (x : ℕ) → ¬ (s.last ≡ 64) → GoesBack N s.preds s.last x → Dec (x ≡ 64) → Ended
-          back_to x q w (yes m) = deep s.labels s.preds (searching_more N f ok δ d p k S s.labels s.preds s.last e x q w m)
-          back_to x q w (no m) =
+          back_to : (x : Option ℕ) → ¬ (s.last ≡ 64) → GoesBack N s.preds s.last x → Ended
+          back_to None q w = deep s.labels s.preds (searching_more N f ok δ d p k S s.labels s.preds s.last e q w)
+          back_to (Some x) q w =
               cycle x (collects N ok.ends s.preds x (replicate 64 0) (replicate 64 0) x 0 64 (omega arith)
-              (collecting_none N ok.ends s.preds x (replicate 64 0) refl (returns_of N f ok δ d p k S s.labels s.preds s.last e x q w m)))
+              (collecting_none N ok.ends s.preds x (replicate 64 0) refl (returns_of N f ok δ d p k S s.labels s.preds s.last e x q w)))
 
           unchanged : Dec (s.last ≡ 64) → Ended
-          unchanged (yes q) = (s.labels, replicate 64 0, 0, finds_none N f δ s.labels (replicate 64 0) (unchanged_of N f ok δ d p k S s.labels s.preds s.last e q))
+          unchanged (yes q) = (s.labels, replicate 64 0, None, finds_none N f δ s.labels (replicate 64 0) (unchanged_of N f ok δ d p k S s.labels s.preds s.last e q))
           unchanged (no q) =
               let (x, w) = goes_back N ok.ends s.preds s.last 0 s.last 64 refl (going_none N ok.ends s.preds s.last (fell N f ok δ d p k S s.labels s.preds s.last e q).0) in
-              back_to x q w (ℕ_discrete x 64)
+              back_to x q w
 
   pub search_ends : Ended
   search_ends =

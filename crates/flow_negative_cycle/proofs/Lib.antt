@@ -1,6 +1,5 @@
 mod Relaxing
 mod Cycles
 mod StepsBack
-mod OtherLists
 mod Searching
 pub mod Ending

@@ -7,6 +7,7 @@ use native.Mathlib.Numerals.{add-one}
 use lib.ListN.{length, get_or}
 use lib.IntN.{ℤ, pos}
 use lib.Signed.{◌<ℤ◌}
+use Rattle.std.proofs.Common.{Some, None}
 use Rattle.laws.specs.Linear.{lin, given2}
 use Rattle.laws.specs.Range.{bounded_more}
 use Rattle.net_model.specs.Network.{Net}
@@ -22,7 +23,7 @@ use Rattle.flow_negative_cycle.proofs.Relaxing.{all_labelled}
 use Rattle.flow_negative_cycle.proofs.Cycles.{comes_round, period_cycle, period_capacity, period_negative, ends_late}
 
 -- labels that show that there is no negative cycle
-pub finds_none : (N : Net) (f : List ℕ) (δ : ℕ) (d : List ℤ) (out : List ℕ) → PotentialLabels N f δ d → FindsCycle N f δ d out out 0
+pub finds_none : (N : Net) (f : List ℕ) (δ : ℕ) (d : List ℤ) (out : List ℕ) → PotentialLabels N f δ d → FindsCycle N f δ d out out None
 finds_none N f δ d out q = none refl (λ cs C. given2 (closed_nonneg N (has_capacity N f δ) (λ v. get_or d v (pos 0)) q.feasible C.cycle.node cs (walk_with (codes N) (src N) (dst N) (usable N f) (has_capacity N f δ) C.cycle.node C.cycle.node cs C.capacity C.cycle.closed)) C.negative (simp lin (omega arith))) q refl
 
 pub record Searching (N : Net) (f : List ℕ) (δ : ℕ) (d : List ℤ) (p : List ℕ) (k : ℕ) : Type 0 where
@@ -72,22 +73,22 @@ module _ (N : Net) (f : List ℕ) (ok : Relaxable N f) (δ : ℕ) where
     pub fell : ¬ (last ≡ 64) → (last < 64) × (get_or d' last (pos 0) <ℤ get_or d last (pos 0))
     fell n = left_fell N f ok δ d p S.labelled.labels_len d' p' last e n
 
-    pub returns_of : (x : ℕ) → ¬ (last ≡ 64) → GoesBack N p' last x → ¬ (x ≡ 64) → Returns N p' x
-    returns_of x n (ended q t w) m = absurd (m q)
-    returns_of x n (went q b) m = subst (Returns N p') (sym q) (comes_round N p' ok.ends last (fell n).0 b)
+    pub returns_of : (x : ℕ) → ¬ (last ≡ 64) → GoesBack N p' last (Some x) → Returns N p' x
+    returns_of x n (ended q t w) = absurd (cc)
+    returns_of x n (went q b) = let e : x ≡ back N p' 64 last = cc in subst (Returns N p') (sym e) (comes_round N p' ok.ends last (fell n).0 b)
 
-    pub searching_more : (x : ℕ) → ¬ (last ≡ 64) → GoesBack N p' last x → x ≡ 64 → Searching N f δ d' p' (k + 1)
-    searching_more x n (ended q t w) m = rw add-one (record {
+    pub searching_more : ¬ (last ≡ 64) → GoesBack N p' last None → Searching N f δ d' p' (k + 1)
+    searching_more n (ended q t w) = rw add-one (record {
       early = omega (arith, w.few, ends_late N f ok.ends δ d' p' labelled' last t k (fell n).0 w d S.at_most (fell n).1);
       labelled = labelled';
       at_most = left_at_most N f ok δ d p S.labelled.labels_len d' p' last e k S.at_most;
       sized = left_sized N f ok δ d p S.labelled.labels_len d' p' last e k S.sized;
     })
-    searching_more x n (went q b) m = absurd (omega (arith, (comes_round N p' ok.ends last (fell n).0 b).round.node))
+    searching_more n (went q b) = absurd (cc)
 
   -- the cycle's codes
-  pub finds_cycle : 0 < δ → (d : List ℤ) (p : List ℕ) → Labelled N f δ d p → (x : ℕ) (out out' : List ℕ) (r : ℕ) → Collects N p x out out' r → FindsCycle N f δ d out out' r
-  finds_cycle h d p L x out out' r c = found c.few (rw c.are (record {
+  pub finds_cycle : 0 < δ → (d : List ℤ) (p : List ℕ) → Labelled N f δ d p → (x : ℕ) (out out' : List ℕ) (r : ℕ) → Collects N p x out out' r → FindsCycle N f δ d out out' (Some r)
+  finds_cycle h d p L x out out' r c = found r refl c.few (rw c.are (record {
     cycle = period_cycle N f ok.ends δ d p L x r c.period h;
     capacity = period_capacity N f ok.ends δ d p L x r c.period;
     negative = period_negative N f ok.ends δ d p L x r c.period;

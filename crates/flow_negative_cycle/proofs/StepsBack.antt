@@ -1,14 +1,14 @@
 -- The loops along predecessors: going back 64 steps, and collecting the codes of a cycle.
 use mathlib.Core.Path.{◌≡◌, refl, sym, ap, subst, ◌∙◌}
 use mathlib.Core.List.{List, [], ◌∷◌, ◌++◌}
-use Prim.Native.Nat.{ℕ, suc, ◌+◌, ◌/◌, ◌≤◌, ◌<◌}
+use Prim.Native.Nat.{ℕ, suc, ◌+◌, ◌≤◌, ◌<◌}
 use native.Mathlib.Omega.{arith}
 use native.Mathlib.Numerals.{add-one}
 use native.Mathlib.Decide.{ℕ_discrete}
 use lib.ListN.{length, take, drop, set, length-set}
 use lib.Seq.{take-suc-set}
 use Rattle.laws.specs.Store.{drop_set_next}
-use Rattle.net_model.specs.Network.{Net, arcs}
+use Rattle.net_model.specs.Network.{Net}
 use Rattle.net_model.specs.Residual.{codes, src}
 use Rattle.net_theory.specs.Limits.{SmallEnds}
 use Rattle.net_theory.proofs.Codes.{src_in}
@@ -31,9 +31,6 @@ pub record Going (N : Net) (p : List ℕ) (v i w : ℕ) : Type 0 where
   pub steps : Backs N p i v
 
 module _ (N : Net) (ok : SmallEnds N) (p : List ℕ) where
-  pub arc_of_lem : (c : ℕ) → c < codes N → (c / 2 < arcs N) × (c / 2 < length N.heads)
-  arc_of_lem c h = (omega arith, omega (arith, ok.heads_len))
-
   pub going_none : (v : ℕ) → v < 64 → Going N p v 0 v
   unfolding back
   going_none v h = record { few = omega arith; node = h; is = refl; steps = λ i l. absurd (omega arith) }

@@ -1,5 +1,5 @@
 -- Predecessors: the steps back from a node, the cycles that they come to, and what labels keep of them.
-use Rattle.std.specs.Prelude.{◌≡◌, true, List, [], ◌∷◌, ℕ, zero, suc, ◌≤◌, ◌<◌, length, get_or, take, drop, ℤ, pos, ◌+ℤ◌, ◌≤ℤ◌, ◌<ℤ◌}
+use Rattle.std.specs.Prelude.{◌≡◌, true, List, [], ◌∷◌, ℕ, zero, suc, ◌≤◌, ◌<◌, length, get_or, take, drop, ℤ, pos, ◌+ℤ◌, ◌≤ℤ◌, ◌<ℤ◌, Option, Some, None}
 use Rattle.net_model.specs.Network.{Net}
 use Rattle.net_model.specs.Residual.{codes, src, dst, step_cost}
 use Rattle.net_theory.specs.ResidualCapacity.{has_capacity}
@@ -62,10 +62,10 @@ pub record Labelled (N : Net) (f : List ℕ) (δ : ℕ) (d : List ℤ) (p : List
   -- what leads back to itself costs less than 0
   pub negative : (x t : ℕ) → PredecessorCycle N p x t → back_cost N p t x <ℤ pos 0
 
--- 64 steps back from v, or fewer to a node without a predecessor (64)
-pub data GoesBack (N : Net) (p : List ℕ) (v r : ℕ) : Type 0 where
-  ended : r ≡ 64 → (t : ℕ) → BackEnds N p v t → GoesBack N p v r
-  went : r ≡ back N p 64 v → Backs N p 64 v → GoesBack N p v r
+-- 64 steps back from v, or fewer to a node without a predecessor (none)
+pub data GoesBack (N : Net) (p : List ℕ) (v : ℕ) (r : Option ℕ) : Type 0 where
+  ended : r ≡ None → (t : ℕ) → BackEnds N p v t → GoesBack N p v r
+  went : r ≡ Some (back N p 64 v) → Backs N p 64 v → GoesBack N p v r
 
 -- r codes lead back from x to x for the first time; the lent list keeps what it held beyond them
 pub record Collects (N : Net) (p : List ℕ) (x : ℕ) (out out' : List ℕ) (r : ℕ) : Type 0 where

@@ -1,5 +1,5 @@
 -- What the search ends with: a residual cycle of cost below 0, or none.
-use Rattle.std.specs.Prelude.{◌≡◌, true, List, ℕ, ◌≤◌, ◌<◌, length, get_or, take, drop, ℤ, pos, ◌≤ℤ◌, ◌<ℤ◌}
+use Rattle.std.specs.Prelude.{◌≡◌, true, List, ℕ, ◌≤◌, ◌<◌, length, get_or, take, drop, ℤ, pos, ◌≤ℤ◌, ◌<ℤ◌, Option, Some, None}
 use Rattle.laws.specs.Members.{Every}
 use Rattle.laws.specs.Range.{Bounded}
 use Rattle.net_model.specs.Network.{Net}
@@ -25,7 +25,7 @@ abbrev pub NoNegativeCycle : Net → List ℕ → ℕ → Type 0
 NoNegativeCycle N f δ = (cs : List ℕ) → ¬ NegativeCycle N f δ cs
 
 -- "The search for a negative cycle ends with one such cycle, or with the word that there is none.": the count of a negative cycle's codes, which
--- the lent list begins with; or 0, the lent list as it was, and labels d that show it
-pub data FindsCycle (N : Net) (f : List ℕ) (δ : ℕ) (d : List ℤ) (out out' : List ℕ) (r : ℕ) : Type 0 where
-  found : r ≤ 64 → NegativeCycle N f δ (take r out') → drop r out' ≡ drop r out → FindsCycle N f δ d out out' r
-  none : r ≡ 0 → NoNegativeCycle N f δ → PotentialLabels N f δ d → out' ≡ out → FindsCycle N f δ d out out' r
+-- the lent list begins with; or none, the lent list as it was, and labels d that show it
+pub data FindsCycle (N : Net) (f : List ℕ) (δ : ℕ) (d : List ℤ) (out out' : List ℕ) (r : Option ℕ) : Type 0 where
+  found : (n : ℕ) → r ≡ Some n → n ≤ 64 → NegativeCycle N f δ (take n out') → drop n out' ≡ drop n out → FindsCycle N f δ d out out' r
+  none : r ≡ None → NoNegativeCycle N f δ → PotentialLabels N f δ d → out' ≡ out → FindsCycle N f δ d out out' r

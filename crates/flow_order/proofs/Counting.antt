@@ -6,15 +6,16 @@ use mathlib.Core.Bool.{Bool, true, false}
 use Prim.Native.Nat.{ℕ, zero, suc, ◌+◌, ◌-◌, ◌≤◌, ◌<◌}
 use native.Mathlib.Omega.{arith}
 use lib.ListN.{length, get_elem?}
-use borrow.Author.Tests.{lt-leb}
-use Rattle.laws.specs.Members.{first_at, none_some}
+use borrow.Author.Tests.{lt-leb, le-leb}
+use Rattle.std.specs.Prelude.{None, Some}
+use Rattle.laws.specs.Members.{none_some}
 use Rattle.laws.specs.After.{after_at}
 use Rattle.laws.specs.Ascending.{ascending_apart}
-use Rattle.laws.specs.Count.{more, counted}
+use Rattle.laws.specs.Count.{exactly, more, counted}
 use Rattle.laws.specs.Equality.{same_list}
 use Rattle.laws.specs.Lexicographic.{◌<lex◌, lex_irrefl, lex_trans}
 use Rattle.net_model.specs.Network.{Net, WellFormed, LeastCost}
-use Rattle.net_model.specs.FullList.{full_list, first_flow, next_flow, count_flows}
+use Rattle.net_model.specs.FullList.{full_list, next_flow}
 use Rattle.net_model.proofs.FullList.{full_ascending}
 use Rattle.flow_order.specs.Following.{Next, CountsFlows}
 
@@ -34,11 +35,11 @@ none_out [] i e = omega arith
 none_out (a ∷ l) zero e = absurd (none_some a (sym e))
 none_out (a ∷ l) (suc i) e = omega (arith, none_out l i e)
 
+within : (cap m : ℕ) → m ≤ cap → counted cap m ≡ exactly m
+within cap m h = rw (le-leb m cap h)
+
 beyond : (cap m : ℕ) → cap < m → counted cap m ≡ more
 beyond cap m h = rw (lt-leb m cap h)
-
-pub item_first : (N : Net) (f : List ℕ) → LeastCost N f → first_flow N ≡ some f → Line N 1 f
-item_first N f lf e = record { least = lf; place = 0; is = refl; stands = sym (first_at (full_list N)) ∙ e }
 
 module _ (N : Net) (n : ℕ) (cur : List ℕ) (l : Line N n cur) where
   item_in : n ≤ length (full_list N)
@@ -48,11 +49,8 @@ module _ (N : Net) (n : ℕ) (cur : List ℕ) (l : Line N n cur) where
   item_at_lem = subst (λ i. get_elem? (full_list N) i ≡ some cur) {x = l.place} {y = n - 1} (omega (arith, l.is)) l.stands
 
   -- n is one more than the cap
-  pub item_beyond : (cap : ℕ) → n ≡ suc cap → CountsFlows N cap n cur
-  item_beyond cap e = record { counts = all_beyond cap e; last = item_at_lem }
-    where
-      all_beyond : (cap : ℕ) → n ≡ suc cap → counted cap n ≡ count_flows N cap
-      all_beyond cap e = beyond cap n (omega arith) ∙ sym (beyond cap (length (full_list N)) (omega (arith, item_in)))
+  pub item_beyond : (cap : ℕ) → n ≡ suc cap → CountsFlows N cap None cur
+  item_beyond cap e = (beyond cap (length (full_list N)) (omega (arith, item_in)), subst (λ i. get_elem? (full_list N) i ≡ some cur) {x = n - 1} {y = cap} (omega arith) item_at_lem)
 
   module _ (ok : WellFormed N) where
     follow : next_flow N cur ≡ get_elem? (full_list N) (suc l.place)
@@ -61,8 +59,7 @@ module _ (N : Net) (n : ℕ) (cur : List ℕ) (l : Line N n cur) where
     pub item_next : (g : List ℕ) (r : Bool) → r ≡ true → Next N cur g r → Line N (n + 1) g
     item_next g r e x = record { least = x.least e; place = suc l.place; is = omega (arith, l.is); stands = sym follow ∙ x.follows e }
 
-    pub item_last : (cap : ℕ) (g : List ℕ) (r : Bool) → r ≡ false → g ≡ cur → Next N cur g r → CountsFlows N cap n g
-    item_last cap g r e q x = record {
-      counts = ap (counted cap) (omega (arith, none_out (full_list N) (suc l.place) (sym follow ∙ x.end e), item_in, l.is));
-      last = item_at_lem ∙ ap some (sym q);
-    }
+    pub item_last : (cap : ℕ) (g : List ℕ) (r : Bool) → n ≤ cap → r ≡ false → g ≡ cur → Next N cur g r → CountsFlows N cap (Some n) g
+    item_last cap g r h e q x =
+        let all : length (full_list N) ≡ n = omega (arith, none_out (full_list N) (suc l.place) (sym follow ∙ x.end e), item_in, l.is) in
+        (ap (counted cap) all ∙ within cap n h, item_at_lem ∙ ap some (sym q))

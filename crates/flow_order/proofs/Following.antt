@@ -2,7 +2,7 @@
 use mathlib.Core.Path.{◌≡◌, sym, ◌∙◌}
 use mathlib.Core.List.{List}
 use mathlib.Core.Bool.{Bool, true, false}
-use Prim.Native.Nat.{ℕ, ◌-◌, ◌≤◌, ◌<◌}
+use Prim.Native.Nat.{ℕ, suc, ◌<◌}
 use native.Mathlib.Omega.{arith}
 use lib.IntN.{ℤ}
 use Rattle.net_model.specs.Network.{Net, arcs}
@@ -24,14 +24,14 @@ module _ (N : Net) (π : ℕ → ℤ) (free : List Bool) (f : List ℕ) (ti : Fr
     end = λ _. next_none N ti.well_formed f ti.least top;
   }
 
-  -- arc k - 1 is raised, and those from k on are as low as they can be
-  pub next_yes : (g f' : List ℕ) (k : ℕ) → 0 < k → k ≤ arcs N → TopFrom N k f → RaisedByOne N f g (k - 1) → (FreeMarks N π free g → Minimised N g f' k) → Next N f f' true
-  next_yes g f' k some in-k top u low =
+  -- arc a is raised, and those after it are as low as they can be
+  pub next_yes : (g f' : List ℕ) (a : ℕ) → a < arcs N → TopFrom N (suc a) f → RaisedByOne N f g a → (FreeMarks N π free g → Minimised N g f' (suc a)) → Next N f f' true
+  next_yes g f' a here top u low =
       let m = low (free_any N π free f g ti u.least_cost) in
       record {
-        follows = λ _. next_is N ti.well_formed f f' (k - 1) (omega arith) ti.least
-            (record { least_cost = m.least; same_before = agree_trans (k - 1) f g f' u.same_before (agree_fewer (k - 1) k g f' (omega arith) m.same); at_k = sym (m.same (k - 1) (omega arith)) ∙ u.at_k })
-            (λ a h l. top a (omega arith) l) (λ a h l. m.minimal a (omega arith) l);
+        follows = λ _. next_is N ti.well_formed f f' a here ti.least
+            (record { least_cost = m.least; same_before = agree_trans a f g f' u.same_before (agree_fewer a (suc a) g f' (omega arith) m.same); at_k = sym (m.same a (omega arith)) ∙ u.at_k })
+            (λ i h l. top i (omega arith) l) (λ i h l. m.minimal i (omega arith) l);
         least = λ _. m.least;
         end = λ e. absurd (let z : ◌≡◌ {A = ℕ} 0 1 = cc in omega arith);
       }

@@ -1,5 +1,5 @@
 -- The turns of `minimise`: f is minimised from k up to a.
-use mathlib.Core.Path.{◌≡◌, refl, ◌∙◌}
+use mathlib.Core.Path.{◌≡◌, ◌∙◌}
 use mathlib.Core.List.{List}
 use Prim.Native.Nat.{ℕ, suc, ◌≤◌, ◌<◌}
 use native.Mathlib.Omega.{arith}
@@ -21,9 +21,6 @@ pub record MinTurn (N : Net) (f cur : List ℕ) (k a : ℕ) : Type 0 where
 -- a change of later arcs keeps it
 less_kept : (N : Net) (f g : List ℕ) (a : ℕ) → Agree (suc a) f g → NoLess N f a → NoLess N g a
 less_kept N f g a ag nl x lx ax = omega (arith, ag a (omega arith), nl x lx (λ b l. ag b (omega arith) ∙ ax b l))
-
-pub min_start : (N : Net) (f : List ℕ) (k : ℕ) → LeastCost N f → MinTurn N f f k k
-min_start N f k lf = record { least = lf; same = λ a l. refl; minimal = λ i h j. absurd (omega arith) }
 
 pub min_step : (N : Net) (f cur next : List ℕ) (k a : ℕ) → k ≤ a → MinTurn N f cur k a → Lowered N cur next a → MinTurn N f next k (suc a)
 min_step N f cur next k a h t d = record {

@@ -18,13 +18,12 @@ use Rattle.net_theory.proofs.Trace.{any_step, tree_falls}
 use Rattle.net_theory.proofs.Codes.{src_in}
 use Rattle.flow_path.specs.Reaching.{Reach}
 
--- tracing back has come to node v, whose rank is p: the first len codes lead from it to t
-pub record TraceTurn (N : Net) (rank via : List ℕ) (t : ℕ) (codes₀ codes₁ : List ℕ) (v len p : ℕ) : Type 0 where
+-- tracing back has come to node v: the first len codes lead from it to t
+pub record TraceTurn (N : Net) (rank via : List ℕ) (t : ℕ) (codes₀ codes₁ : List ℕ) (v len : ℕ) : Type 0 where
   pub node : v < 64
-  pub reached : 0 < p
-  pub rank_is : p ≡ get_or rank v 0
+  pub reached : 0 < get_or rank v 0
   pub same_len : length codes₁ ≡ length codes₀
-  pub far : len + p ≤ get_or rank t 0
+  pub far : len + get_or rank v 0 ≤ get_or rank t 0
   pub traced : TracedAny 64 (codes N) (src N) (dst N) rank via t (λ _. v) (take len codes₁)
   pub rest : drop len codes₁ ≡ drop len codes₀
 

@@ -1,12 +1,10 @@
 -- Searches over the residual arcs of the arcs marked free, and the walks that they find.
-use Rattle.std.specs.Prelude.{◌≡◌, List, Bool, ℕ, suc, ◌+◌, ◌≤◌, ◌<◌, length, get_or, take, drop}
-use Rattle.net_model.specs.Network.{Net, arcs}
+use Rattle.std.specs.Prelude.{◌≡◌, Option, None, Some, List, Bool, ℕ, suc, ◌+◌, ◌≤◌, ◌<◌, length, get_or, take, drop}
+use Rattle.net_model.specs.Network.{Net}
 use Rattle.net_model.specs.Residual.{codes, src, dst}
 use Rattle.net_theory.specs.FreeArcs.{goes, FreeWalk, Blocked}
 use Rattle.net_theory.specs.Reach.{Tree, Spread, Reached, Rounded}
 use Rattle.net_theory.specs.Trace.{Falls, TracedAny}
-use Rattle.flow_path.specs.declared.Route.{Route}
-use Rattle.flow_path.specs.declared.Route.TheVariants.{Codes, Cut}
 
 -- before a search: no node has a rank
 pub record NoneReached (rank : List ℕ) : Type 0 where
@@ -35,7 +33,6 @@ Reach N f free s t from rank via r = Reached 64 (from + from) (codes N) (src N) 
 
 -- t is reached, and the codes in via lead back from it to the root
 pub record Traceable (N : Net) (rank via : List ℕ) (t : ℕ) : Type 0 where
-  pub heads_len : length N.heads ≡ arcs N
   pub falls : Falls 64 (codes N) (src N) rank via
   pub node : t < 64
   pub reached : 0 < get_or rank t 0
@@ -47,6 +44,6 @@ pub record Trace (N : Net) (rank via : List ℕ) (t : ℕ) (codes₀ codes₁ : 
   pub rest : drop r codes₁ ≡ drop r codes₀
 
 -- the first r codes are a walk from s to t, or there is none; the lent list keeps what it held beyond them
-abbrev pub FindsWalk : Net → List ℕ → List Bool → ℕ → ℕ → ℕ → List ℕ → List ℕ → Route → Type 0
-FindsWalk N f free s t from codes codes' (Codes r) = (r ≤ length codes') × FreeWalk N f free s t from (take r codes') × (drop r codes' ≡ drop r codes)
-FindsWalk N f free s t from codes codes' Cut = Blocked N f free s t from × (codes' ≡ codes)
+abbrev pub FindsWalk : Net → List ℕ → List Bool → ℕ → ℕ → ℕ → List ℕ → List ℕ → Option ℕ → Type 0
+FindsWalk N f free s t from codes codes' (Some r) = (r ≤ length codes') × FreeWalk N f free s t from (take r codes') × (drop r codes' ≡ drop r codes)
+FindsWalk N f free s t from codes codes' None = Blocked N f free s t from × (codes' ≡ codes)

@@ -3,7 +3,7 @@ use mathlib.Core.Path.{◌≡◌, refl, sym, ap, subst, ◌∙◌}
 use mathlib.Core.Logic.{◌⊎◌, inl, inr, ⊎_elim}
 use mathlib.Core.List.{List, [], ◌∷◌}
 use mathlib.Core.Bool.{Bool, true, false, true≢false, ◌&&◌, ◌||◌}
-use Prim.Native.Nat.{ℕ, zero, suc, ◌+◌, ◌≤◌, ◌<◌}
+use Prim.Native.Nat.{ℕ, zero, suc, ◌≤◌, ◌<◌}
 use native.Mathlib.Omega.{arith}
 use native.Mathlib.Decide.{ℕ_discrete, dec_lt}
 use lib.Dec.{eqb}
@@ -11,7 +11,6 @@ use lib.ListN.{length, get_or, set, length-set}
 use lib.Seq.{get_or-set_same, get_or-set_other}
 use lib.Bits.{bit_or}
 use borrow.Author.Tests.{eq-eqb, eqb-true}
-use Rattle.laws.specs.Padded.{set_more}
 use Rattle.laws.specs.Tests.{and_true, true_and, or_cases, or_left, or_right}
 use Rattle.flow_preorder.specs.NodeSet.{has}
 use Rattle.flow_preorder.specs.Preorder.{leads, Preorder, Alone, JoinedSet, JoinedRows, Extended}
@@ -52,16 +51,6 @@ module _ (rows : List ℕ) (l : length rows ≡ 65) (h : (u : ℕ) → u < 64 �
   }
 
 -- ---- a step added
-pub joined_start : (rows : List ℕ) (t p : ℕ) → JoinedRows rows rows t p 0
-joined_start rows t p = record { same_len = refl; done = λ v h. absurd (omega arith); rest = λ v h. refl }
-
-pub joined_step : (rows rows' : List ℕ) (t p u r : ℕ) → u < length rows → JoinedRows rows rows' t p u → JoinedSet (get_or rows' u 0) t p r → JoinedRows rows (set rows' u r) t p (u + 1)
-joined_step rows rows' t p u r h j e = record {
-  same_len = length-set rows' u r ∙ j.same_len;
-  done = set_more (λ v x. JoinedSet (get_or rows v 0) t p x) rows' u r 0 (omega (arith, j.same_len)) j.done (subst (λ (s : ℕ). JoinedSet s t p r) (j.rest u (omega arith)) e);
-  rest = λ v k. get_or-set_other rows' u v r 0 (λ q. omega arith) ∙ j.rest v (omega arith);
-}
-
 -- each row that has p gets what q leads to, and so does row 64
 pub record Stepped (rows rows' : List ℕ) (p q : ℕ) : Type 0 where
   pub same_len : length rows' ≡ length rows

@@ -16,6 +16,7 @@ pub fn has(s: u64, v: usize) -> bool
 }
 
 // The set of v alone.
+#[tactic(auto, using(crate::proofs::NodeSet::only_has))]
 fn only(v: usize) -> u64
     requires { v < 64 }
     ensures { (w : ℕ) → has result w ≡ eqb w v }
@@ -24,6 +25,7 @@ fn only(v: usize) -> u64
 }
 
 // s, with all of t if p is in s.
+#[tactic(auto, using(crate::proofs::NodeSet::joined_yes, crate::proofs::NodeSet::joined_no))]
 fn joined(s: u64, t: u64, p: usize) -> u64
     requires { p < 64 }
     ensures { JoinedSet s t p result }
@@ -39,11 +41,8 @@ pub fn alone(rows: &mut [u64])
     requires { length rows.old ≡ 65 }
     ensures { Alone rows.new }
 {
-    rows[64] = 0;
-    let mut v = 0;
-    while v < 64 {
-        rows[v] = only(v);
-        v += 1;
+    for (v, row) in rows.iter_mut().enumerate() {
+        *row = if v < 64 { only(v) } else { 0 };
     }
 }
 
@@ -52,15 +51,13 @@ fn join_rows(rows: &mut [u64], t: u64, p: usize)
     requires { (length rows.old ≡ 65) × (p < 64) }
     ensures { JoinedRows rows.old rows.new t p 65 }
 {
-    let mut u = 0;
-    while u < rows.len() {
-        let row = rows[u];
-        rows[u] = joined(row, t, p);
-        u += 1;
+    for row in rows.iter_mut() {
+        *row = joined(*row, t, p);
     }
 }
 
 // The step from p to q, if `on`: whatever leads to p now leads to all that q leads to.
+#[tactic(auto, using(crate::proofs::Preorder::same_rows))]
 pub fn add(rows: &mut [u64], on: bool, p: usize, q: usize)
     requires { Preorder rows.old × (p < 64) × (q < 64) }
     ensures { Extended rows.old rows.new on p q }

@@ -3,3 +3,4 @@ mod LabelBounds
 pub mod Pricing
 pub mod Beyond
 pub mod CommonPrices
+mod Arcs

@@ -4,14 +4,17 @@
 #![tactic(auto)]
 
 ghost use Rattle.std.specs.Prelude.{◌≡◌, cond, ◌&&◌, [], ℕ, suc, ◌+◌, ◌<◌, length, pos, ◌+ℤ◌, ◌≤ℤ◌};
+ghost use Rattle.std.specs.Option.{unwrap_or};
 ghost use Rattle.std.specs.Int.Signed.{lt_z};
 ghost use Rattle.std.specs.Int.{w32};
 ghost use Rattle.std.proofs.Common.{SFits};
 ghost use Rattle.net_model.specs.Residual.{codes};
-ghost use Rattle.net_theory.specs.Graph.{net_with};
+ghost use Rattle.net_model.specs.Struct.{net_from};
 ghost use Rattle.flow_relax.specs.Labels.{Relaxable, state, label, set_if, relaxed, relaxed_all};
 ghost use Rattle.flow_relax.specs.Potentials.{HasPotential};
 ghost use Rattle.flow_prices.specs.Prices.{WalkLabels, PriceLabels};
+
+use net_model::Arc;
 
 // What a residual arc offers: x where it is on, and else 0, the cost of the walk without arcs, which lowers no label. It compiles to a conditional
 // move: whether arcs are on follows no pattern, and a branch on it would be mispredicted.
@@ -21,91 +24,62 @@ fn offer_if(on: bool, x: i32) -> i32
     if on { x } else { 0 }
 }
 
-// The residual arc from u to v, if it is on: a better label for v, or nothing. The node whose label fell last. No predecessors are kept: what is
-// promised holds whatever the code.
+// The residual arc from u to v, if it is on: a better label for v, or nothing. The node whose label fell last (64: none, as an Option is slower here).
+// No predecessors are kept: what is promised holds whatever the code.
 fn relax(labels: &mut [i32], on: bool, u: u8, v: u8, c: i32, last: u32) -> u32
     requires { let s = state labels.old [] last in (u < length labels.old) × (v < length labels.old) × SFits w32 (label s u +ℤ c) × (label s v ≤ℤ pos 0) }
     ensures { let s = state labels.old [] last in let x = label s u +ℤ c in
         ((code : ℕ) → state labels.new [] result ≡ set_if (on && lt_z x (label s v)) v x code s) }
 {
-    let a = labels[u as usize];
-    let b = labels[v as usize];
+    let a = labels[usize::from(u)];
+    let b = labels[usize::from(v)];
     let x = offer_if(on, a + c);
     if x < b {
-        labels[v as usize] = x;
-        return v as u32;
+        labels[usize::from(v)] = x;
+        return u32::from(v);
     }
     last
 }
 
 // Both residual arcs of arc a.
-fn relax_arc(
-    tails: &[u8],
-    heads: &[u8],
-    lows: &[u32],
-    ups: &[u32],
-    costs: &[i32],
-    flow: &[u32],
-    labels: &mut [i32],
-    a: usize,
-    last: u32,
-) -> u32
-    requires { let N = net_with [] tails.now heads.now lows.now ups.now costs.now in
-        Relaxable N flow.now × HasPotential N flow.now 1 × WalkLabels N flow.now labels.old × (a < length tails.now) }
-    ensures { let N = net_with [] tails.now heads.now lows.now ups.now costs.now in
-        let s = state labels.old [] last in let f = flow.now in
+fn relax_arc(arcs: &[Arc], flow: &[u32], labels: &mut [i32], a: usize, last: u32) -> u32
+    requires { let N = net_from [] arcs.now in
+        Relaxable N flow.now × HasPotential N flow.now 1 × WalkLabels N flow.now labels.old × (a < length arcs.now) }
+    ensures { let N = net_from [] arcs.now in let f = flow.now in
+        let s = state labels.old [] last in
         state labels.new [] result ≡ relaxed N f 1 (suc (a + a)) (relaxed N f 1 (a + a) s) }
 {
-    let t = tails[a];
-    let h = heads[a];
-    let c = costs[a];
+    let arc = &arcs[a];
     let f = flow[a];
-    let forward = f < ups[a];
-    let next = relax(labels, forward, t, h, c, last);
-    let backward = lows[a] < f;
-    relax(labels, backward, h, t, -c, next)
+    let forward = f < arc.up;
+    let next = relax(labels, forward, arc.tail, arc.head, arc.cost, last);
+    let backward = arc.low < f;
+    relax(labels, backward, arc.head, arc.tail, -arc.cost, next)
 }
 
-// One round over the arcs. The node whose label fell last, or 64 where none did.
-fn round(
-    tails: &[u8],
-    heads: &[u8],
-    lows: &[u32],
-    ups: &[u32],
-    costs: &[i32],
-    flow: &[u32],
-    labels: &mut [i32],
-) -> u32
-    requires { let N = net_with [] tails.now heads.now lows.now ups.now costs.now in
+// One round over the arcs. The node whose label fell last, if one did.
+fn round(arcs: &[Arc], flow: &[u32], labels: &mut [i32]) -> Option<u32>
+    requires { let N = net_from [] arcs.now in
         Relaxable N flow.now × HasPotential N flow.now 1 × WalkLabels N flow.now labels.old }
-    ensures { let N = net_with [] tails.now heads.now lows.now ups.now costs.now in
+    ensures { let N = net_from [] arcs.now in
         let s = state labels.old [] 64 in
-        state labels.new [] result ≡ relaxed_all N flow.now 1 (codes N) s }
+        state labels.new [] (unwrap_or result 64) ≡ relaxed_all N flow.now 1 (codes N) s }
 {
     let mut last = 64;
-    for a in 0..tails.len() {
-        last = relax_arc(tails, heads, lows, ups, costs, flow, labels, a, last);
+    for a in 0..arcs.len() {
+        last = relax_arc(arcs, flow, labels, a, last);
     }
-    last
+    if last < 64 { Some(last) } else { None }
 }
 
 // The price of each node, for a flow without a negative cycle: the least cost of a residual walk that ends there.
-pub fn prices(
-    tails: &[u8],
-    heads: &[u8],
-    lows: &[u32],
-    ups: &[u32],
-    costs: &[i32],
-    flow: &[u32],
-) -> [i32; 64]
-    requires { let N = net_with [] tails.now heads.now lows.now ups.now costs.now in Relaxable N flow.now × HasPotential N flow.now 1 }
-    ensures { let N = net_with [] tails.now heads.now lows.now ups.now costs.now in
-        PriceLabels N flow.now result }
+pub fn prices(arcs: &[Arc], flow: &[u32]) -> [i32; 64]
+    requires { let N = net_from [] arcs.now in Relaxable N flow.now × HasPotential N flow.now 1 }
+    ensures { PriceLabels (net_from [] arcs.now) flow.now result }
 {
     let mut least = [0i32; 64];
     for _k in 0..64u32 {
-        let last = round(tails, heads, lows, ups, costs, flow, &mut least);
-        if last == 64 {
+        if round(arcs, flow, &mut least).is_none() {
             return least;
         }
     }

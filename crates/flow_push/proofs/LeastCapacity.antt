@@ -1,5 +1,5 @@
 -- The capacity along a walk: at most that of each code, and not 0 where each code goes.
-use mathlib.Core.Path.{◌≡◌, refl, ap, ◌∙◌}
+use mathlib.Core.Path.{◌≡◌, refl}
 use mathlib.Core.List.{List, [], ◌∷◌}
 use mathlib.Core.Bool.{Bool, true, false}
 use Prim.Native.Nat.{ℕ, ◌/◌, ◌%◌, ◌≤◌, ◌<◌, min}
@@ -41,12 +41,3 @@ goes_capacity N f free c g = usable_capacity N f c (and_true (get_or free (c / 2
 pub record CapacityTurn (N : Net) (f : List ℕ) (goal least : ℕ) (rest : List ℕ) : Type 0 where
   pub same : bottleneck N f least rest ≡ goal
   pub codes_in : Every (λ c. c < codes N) rest
-
-pub capacity_step : (N : Net) (f : List ℕ) (goal least : ℕ) (l : List ℕ) (c : ℕ) (rest : List ℕ) → l ≡ c ∷ rest → CapacityTurn N f goal least l
-    → (least' r : ℕ) → least' ≡ min least r → r ≡ residual_capacity N f c → CapacityTurn N f goal least' rest
-capacity_step N f goal least l c rest e t least' r p q =
-    let t' : CapacityTurn N f goal least (c ∷ rest) = rw e at t in
-    record { same = ap (λ x. bottleneck N f x rest) (p ∙ ap (min least) q) ∙ t'.same; codes_in = t'.codes_in.1 }
-
-pub first_in : (N : Net) (l : List ℕ) (c : ℕ) (rest : List ℕ) → l ≡ c ∷ rest → Every (λ c. c < codes N) l → c < codes N
-first_in N l c rest e h = (rw e at h).0

@@ -2,102 +2,65 @@
 // A residual arc is a code: 2a is arc a forward, 2a + 1 is arc a backward.
 #![tactic(auto)]
 
-ghost use Rattle.std.specs.Prelude.{◌≡◌, true, false, [], ◌+◌, ◌-◌, ◌/◌, ◌%◌, ◌≤◌, ◌<◌, min, eqb, length, get_or, take};
+ghost use Rattle.std.specs.Prelude.{◌≡◌, [], ◌/◌, ◌≤◌, ◌<◌, length, get_or};
 ghost use Rattle.laws.specs.Members.{Every};
-ghost use Rattle.net_model.specs.Network.{arcs, low, up};
-ghost use Rattle.net_theory.specs.Graph.{net_with};
+ghost use Rattle.net_model.specs.Network.{low, up};
+ghost use Rattle.net_model.specs.Residual.{codes as codes_of};
+ghost use Rattle.net_model.specs.Struct.{net_from};
 ghost use Rattle.net_theory.specs.ResidualCapacity.{residual_capacity};
 ghost use Rattle.net_theory.specs.Bounds.{InBounds};
 ghost use Rattle.net_theory.specs.Push.{push_one, push_all};
-ghost use Rattle.net_theory.specs.Limits.{SmallBounds};
-ghost use Rattle.flow_push.specs.Pushing.{bottleneck, Pushable};
+ghost use Rattle.flow_push.specs.Pushing.{bottleneck, Room, RoomAlong};
+
+use net_model::Arc;
 
 // What can still go along code c.
-fn residual_capacity(lows: &[u32], ups: &[u32], flow: &[u32], c: usize) -> u32
-    requires { let N = net_with [] [] [] lows.now ups.now [] in
-        (c / 2 < length lows.now) × (c / 2 < length ups.now) × (c / 2 < length flow.now) × (low N (c / 2) ≤ get_or flow.now (c / 2) 0)
-        × (get_or flow.now (c / 2) 0 ≤ up N (c / 2)) }
-    ensures { result ≡ residual_capacity (net_with [] [] [] lows.now ups.now []) flow.now c }
+fn residual_capacity(arcs: &[Arc], flow: &[u32], c: usize) -> u32
+    requires { let N = net_from [] arcs.now in
+        (c / 2 < length arcs.now) × (c / 2 < length flow.now) × (low N (c / 2) ≤ get_or flow.now (c / 2) 0) × (get_or flow.now (c / 2) 0 ≤ up N (c / 2)) }
+    ensures { result ≡ residual_capacity (net_from [] arcs.now) flow.now c }
 {
-    let h = c / 2;
-    let f = flow[h];
+    let arc = arcs[c / 2];
+    let units = flow[c / 2];
     if c % 2 == 0 {
-        let u = ups[h];
-        return u - f;
+        arc.up - units
+    } else {
+        units - arc.low
     }
-    let l = lows[h];
-    f - l
-}
-
-// The lesser of two.
-pub fn lesser(a: u32, b: u32) -> u32
-    ensures { result ≡ min a b }
-{
-    if b < a {
-        return b;
-    }
-    a
 }
 
 // The least capacity along the codes, at most cap.
-pub fn bottleneck(
-    tails: &[u8],
-    lows: &[u32],
-    ups: &[u32],
-    flow: &[u32],
-    codes: &[usize],
-    len: usize,
-    cap: u32,
-) -> u32
-    requires { let N = net_with [] tails.now [] lows.now ups.now [] in
-        (len ≤ length codes.now) × SmallBounds N × InBounds N flow.now × Every (λ c. c < arcs N + arcs N) (take len codes.now) }
-    ensures { let N = net_with [] tails.now [] lows.now ups.now [] in
-        result ≡ bottleneck N flow.now cap (take len codes.now) }
+pub fn bottleneck(arcs: &[Arc], flow: &[u32], codes: &[usize], cap: u32) -> u32
+    requires { let N = net_from [] arcs.now in
+        InBounds N flow.now × Every (λ c. c < codes_of N) codes.now }
+    ensures { let N = net_from [] arcs.now in
+        result ≡ bottleneck N flow.now cap codes.now }
 {
     let mut least = cap;
-    let mut i = 0;
-    while i < len {
-        let c = codes[i];
-        let r = residual_capacity(lows, ups, flow, c);
-        least = lesser(least, r);
-        i += 1;
+    for c in codes {
+        least = least.min(residual_capacity(arcs, flow, *c));
     }
     least
 }
 
-// d more along code c, whose arc then carries at most 1,000,000, the most that a bound may be.
+// d more along code c.
 fn push_one(flow: &mut [u32], c: usize, d: u32)
-    requires { (c / 2 < length flow.old) × (eqb (c % 2) 0 ≡ true → get_or flow.old (c / 2) 0 + d ≤ 1000000)
-        × (eqb (c % 2) 0 ≡ false → d ≤ get_or flow.old (c / 2) 0) }
+    requires { Room d c flow.old }
     ensures { flow.new ≡ push_one d c flow.old }
 {
-    let h = c / 2;
-    let f = flow[h];
     if c % 2 == 0 {
-        flow[h] = f + d;
+        flow[c / 2] += d;
     } else {
-        flow[h] = f - d;
+        flow[c / 2] -= d;
     }
 }
 
 // d more along the codes.
-pub fn push(
-    tails: &[u8],
-    lows: &[u32],
-    ups: &[u32],
-    flow: &mut [u32],
-    codes: &[usize],
-    len: usize,
-    d: u32,
-)
-    requires { let N = net_with [] tails.now [] lows.now ups.now [] in
-        (len ≤ length codes.now) × SmallBounds N × Pushable N d flow.old (take len codes.now) }
-    ensures { flow.new ≡ push_all d (take len codes.now) flow.old }
+pub fn push(flow: &mut [u32], codes: &[usize], d: u32)
+    requires { RoomAlong d codes.now flow.old }
+    ensures { flow.new ≡ push_all d codes.now flow.old }
 {
-    let mut i = 0;
-    while i < len {
-        let c = codes[i];
-        push_one(flow, c, d);
-        i += 1;
+    for c in codes {
+        push_one(flow, *c, d);
     }
 }

@@ -196,3 +196,11 @@ module _ (N : Net) (f : List ℕ) (ok : Relaxable N f) (δ : ℕ) where
         go : Changed d (codes N) (state d' p' last) → (last < 64) × (get_or d' last (pos 0) <ℤ get_or d last (pos 0))
         go (unchanged a b c) = absurd (n a)
         go (noisy a b) = (a, b)
+
+    -- a node, or none
+    pub left_node : last ≤ 64
+    left_node = go changed
+      where
+        go : Changed d (codes N) (state d' p' last) → last ≤ 64
+        go (unchanged a b c) = omega arith
+        go (noisy a b) = omega arith

@@ -1,653 +1,394 @@
-// A guess of a least-cost flow: the primal network simplex. Its numbers are unsigned and wrap, and all that is promised of the guess is
-// that it is within the bounds: whoever needs a flow tests it.
+// A guess of a least-cost flow: the primal network simplex. Its numbers wrap, and all that is promised of the guess is that it is within
+// the bounds: whoever needs a flow tests it.
 #![tactic(auto)]
 
-ghost use Rattle.std.specs.Prelude.{◌≡◌, ℕ, ◌<◌, ◌≤◌, [], length};
-ghost use Rattle.net_model.specs.Network.{nodes, arcs, low, up};
-ghost use Rattle.net_theory.specs.Graph.{net_with};
+ghost use Rattle.std.specs.Prelude.{◌≡◌, ℕ, ◌<◌, ◌≤◌, length};
+ghost use Rattle.net_model.specs.Network.{low, up};
+ghost use Rattle.net_model.specs.Struct.{net_from};
 ghost use Rattle.net_theory.specs.Bounds.{InBounds};
-ghost use Rattle.flow_simplex.specs.Lengths.{SameLengths};
 
-// The nodes of the tree are those of the network and the root; arc m + v joins node v to the root. Code 2a is the arc a from its tail to
-// its head, 2a + 1 the same arc back. What an array says of a code: its head, its residual capacity, its cost. There are at most
-// 2 × (512 + 64) codes; the arrays have the next power of two of places, so that `% 2048` keeps any number within them. An array of
-// 256 places is read by a u8.
+use net_model::Arc;
+
+// The nodes of the tree are those of the network and the root; after the network's m arcs, arc m + v joins node v to the root. Code 2a is the arc a from its tail to
+// its head, 2a + 1 the same arc back. There are at most 2 × (512 + 64) codes; the arrays have the next power of two of places. The
+// arrays of nodes have 256 places, so that any u8 reads them.
 const ROOT: u8 = 64;
 
 // More than any walk costs that comes to no node twice.
-const BIG: u32 = 100000000;
+const BIG: i32 = 100000000;
 
-// Whether x, as a signed number, is below 0.
-fn is_negative(x: u32) -> bool {
-    2147483648 <= x
+// More arcs than any path up the tree has. That the nodes above each other end at the root is not proved, so each walk up is counted.
+const MOST_UP: usize = 65;
+
+// The most pivots: some 1,300 are enough for a random network of 512 arcs.
+const MOST_PIVOTS: usize = 20000;
+
+// A code, by its number.
+#[derive(Clone, Copy)]
+struct Code {
+    number: usize,
+    ghost in_range: { number < 2048 },
 }
 
-// x, negated.
-fn negated(x: u32) -> u32 {
-    std::num::wrapping_sub_u32(0, x)
-}
-
-// The code of the same arc the other way.
-fn back(code: usize) -> usize
-    ensures { result < 2048 }
-{
-    (code ^ 1) % 2048
-}
-
-// The code from x to the node above it.
-fn up_from(up: &[usize; 256], x: u8) -> usize
-    ensures { result < 2048 }
-{
-    up[x as usize] % 2048
-}
-
-// The node above x.
-fn parent_of(head: &[u8; 2048], up: &[usize; 256], x: u8) -> u8 {
-    head[up_from(up, x)]
-}
-
-// The subtree of x, as a set of nodes.
-fn subtree_of(below: &[u64; 256], x: u8) -> u64 {
-    below[x as usize]
-}
-
-// Whether the subtree of x has v.
-fn is_below(below: &[u64; 256], x: u8, v: u8) -> bool {
-    (subtree_of(below, x) >> (v % 64)) & 1 == 1
-}
-
-// The potential of x.
-fn potential_of(potential: &[u32; 256], x: u8) -> u32 {
-    potential[x as usize]
-}
-
-// The cost of the code at the potentials.
-fn reduced(head: &[u8; 2048], cost: &[u32; 2048], potential: &[u32; 256], code: usize) -> u32
-    requires { code < 2048 }
-{
-    let from = potential_of(potential, head[back(code)]);
-    let to = potential_of(potential, head[code]);
-    std::num::wrapping_sub_u32(std::num::wrapping_add_u32(from, cost[code]), to)
-}
-
-// Sends d along the code.
-fn push(capacity: &mut [u32; 2048], code: usize, d: u32)
-    requires { code < 2048 }
-{
-    let left = std::num::wrapping_sub_u32(capacity[code], d);
-    capacity[code] = left;
-    let other = back(code);
-    let more = std::num::wrapping_add_u32(capacity[other], d);
-    capacity[other] = more;
-}
-
-// Sends d from x up to `join`.
-fn push_up(
-    head: &[u8; 2048],
-    capacity: &mut [u32; 2048],
-    up: &[usize; 256],
-    from: u8,
-    join: u8,
-    d: u32,
-) {
-    let mut x = from;
-    for _ in 0..65usize {
-        if x == join {
-            return;
+impl Code {
+    // The same arc the other way.
+    fn back(self) -> Code {
+        Code {
+            number: self.number ^ 1,
         }
-        push(capacity, up_from(up, x), d);
-        x = parent_of(head, up, x);
     }
 }
 
 // A path up the tree to the node `join`: `amount` can go along it, which is the residual capacity of the arc above the node `leave` or,
-// if that is ROOT, the most that was asked for.
+// if there is none, the most that was asked for.
 #[derive(Clone, Copy)]
 struct PathToJoin {
     join: u8,
-    leave: u8,
+    leave: Option<u8>,
     amount: u32,
 }
 
-// What can go by the arc above x, upwards or down.
-fn tree_capacity(capacity: &[u32; 2048], up: &[usize; 256], x: u8, upwards: bool) -> u32 {
-    let code = up_from(up, x);
-    if upwards {
-        return capacity[code];
-    }
-    capacity[back(code)]
-}
-
-// From `from` up to the join, the first node whose subtree has `to`, for at most `most`. Of the arcs with the least capacity, the last on
-// the cycle is taken: down from the join, by the entering arc, and up again. Then no tree comes back.
-fn path_to_join(
-    head: &[u8; 2048],
-    capacity: &[u32; 2048],
-    up: &[usize; 256],
-    below: &[u64; 256],
-    from: u8,
-    to: u8,
-    upwards: bool,
-    most: u32,
-) -> PathToJoin {
-    let mut x = from;
-    let mut leave = ROOT;
-    let mut amount = most;
-    for _ in 0..65usize {
-        if is_below(below, x, to) {
-            break;
-        }
-        let r = tree_capacity(capacity, up, x, upwards);
-        if r < amount || (upwards && r == amount) {
-            amount = r;
-            leave = x;
-        }
-        x = parent_of(head, up, x);
-    }
-    PathToJoin {
-        join: x,
-        leave,
-        amount,
-    }
-}
-
-// What leaves the tree: the arc above `leave`, or the entering arc itself if that is ROOT. The code `into` of the entering arc leads into
-// the subtree of `leave`; the two sides of the cycle meet at `join`.
+// The arc above the node `leave`, and the code of the entering arc, which leads into the subtree of `leave`.
 #[derive(Clone, Copy)]
 struct Leaving {
-    into: usize,
     leave: u8,
+    into: Code,
+}
+
+// The cycle of an entering arc: its sides meet at `join`, and `amount` can go round it. `leaving` is what leaves the tree, none if that is
+// the entering arc itself.
+#[derive(Clone, Copy)]
+struct Cycle {
     join: u8,
     amount: u32,
+    leaving: Option<Leaving>,
 }
 
-// What leaves the tree when e enters it.
-fn leaving_arc(
-    head: &[u8; 2048],
-    capacity: &[u32; 2048],
-    up: &[usize; 256],
-    below: &[u64; 256],
-    e: usize,
-) -> Leaving
-    requires { e < 2048 }
-    ensures { result.into < 2048 }
-{
-    let other = back(e);
-    let u = head[other];
-    let w = head[e];
-    let down = path_to_join(head, capacity, up, below, u, w, false, capacity[e]);
-    let above = path_to_join(head, capacity, up, below, w, u, true, down.amount);
-    let join = above.join;
-    let amount = above.amount;
-    if above.leave == ROOT {
-        return Leaving {
-            into: other,
-            leave: down.leave,
-            join,
+// The codes of so many arcs and of the nodes, and the tree. Of a code: its head, its residual capacity, its cost. Of a node: the code from it
+// to the node above it, its potential, and its subtree as a set of nodes. Each has an array of its own: with arrays of structs a guess took a
+// seventh to a third longer.
+#[derive(Drop)]
+struct Simplex {
+    arcs: usize,
+    head: [u8; 2048],
+    capacity: [u32; 2048],
+    cost: [i32; 2048],
+    up: [Code; 256],
+    potential: [i32; 256],
+    below: [u64; 256],
+    ghost few: { arcs ≤ 512 },
+}
+
+impl Simplex {
+    // So many arcs, before they are set, and no tree.
+    fn new(arcs: usize) -> Simplex
+        requires { arcs ≤ 512 }
+    {
+        Simplex {
+            arcs,
+            head: [ROOT; 2048],
+            capacity: [0; 2048],
+            cost: [0; 2048],
+            up: [Code { number: 0 }; 256],
+            potential: [0; 256],
+            below: [u64::MAX; 256],
+        }
+    }
+
+    // The code from x to the node above it.
+    fn up_from(&self, x: u8) -> Code {
+        self.up[usize::from(x)]
+    }
+
+    // The node to which the code leads.
+    fn head_of(&self, code: Code) -> u8 {
+        self.head[code.number]
+    }
+
+    // The node above x.
+    fn parent_of(&self, x: u8) -> u8 {
+        self.head_of(self.up_from(x))
+    }
+
+    // The subtree of x, as a set of nodes.
+    fn subtree_of(&self, x: u8) -> u64 {
+        self.below[usize::from(x)]
+    }
+
+    // Whether the subtree of x has v.
+    fn is_below(&self, x: u8, v: u8) -> bool {
+        (self.subtree_of(x) >> (v % 64)) & 1 == 1
+    }
+
+    // The potential of x.
+    fn potential_of(&self, x: u8) -> i32 {
+        self.potential[usize::from(x)]
+    }
+
+    // The cost of the code at the potentials.
+    fn reduced(&self, code: Code) -> i32 {
+        let from = self.potential_of(self.head_of(code.back()));
+        let to = self.potential_of(self.head_of(code));
+        from.wrapping_add(self.cost[code.number]).wrapping_sub(to)
+    }
+
+    // Sends d along the code.
+    fn push(&mut self, code: Code, d: u32) {
+        let i = code.number;
+        let j = code.back().number;
+        self.capacity[i] = self.capacity[i].wrapping_sub(d);
+        self.capacity[j] = self.capacity[j].wrapping_add(d);
+    }
+
+    // Takes the step at each node from `from` up to the one below `join`.
+    fn walk_up<F: Fn(&mut Simplex, u8)>(&mut self, from: u8, join: u8, step: F)
+        requires { F.IsAlwaysCallable step }
+    {
+        let mut x = from;
+        for _ in 0..MOST_UP {
+            if x == join {
+                return;
+            }
+            step(self, x);
+            x = self.parent_of(x);
+        }
+    }
+
+    // Sends d from `from` up to `join`.
+    fn push_up(&mut self, from: u8, join: u8, d: u32) {
+        self.walk_up(from, join, |simplex, x| simplex.push(simplex.up_from(x), d));
+    }
+
+    // What can go by the arc above x, upwards or down.
+    fn tree_capacity(&self, x: u8, upwards: bool) -> u32 {
+        let up = self.up_from(x);
+        let code = if upwards { up } else { up.back() };
+        self.capacity[code.number]
+    }
+
+    // From `from` up to the join, the first node whose subtree has `to`, for at most `most`. Of the arcs with the least capacity, the last
+    // on the cycle is taken: down from the join, by the entering arc, and up again. Then no tree comes back.
+    fn path_to_join(&self, from: u8, to: u8, upwards: bool, most: u32) -> PathToJoin {
+        let mut x = from;
+        let mut leave = None;
+        let mut amount = most;
+        for _ in 0..MOST_UP {
+            if self.is_below(x, to) {
+                break;
+            }
+            let r = self.tree_capacity(x, upwards);
+            if r < amount || (upwards && r == amount) {
+                amount = r;
+                leave = Some(x);
+            }
+            x = self.parent_of(x);
+        }
+        PathToJoin {
+            join: x,
+            leave,
             amount,
+        }
+    }
+
+    // The cycle of e when it enters the tree.
+    fn cycle_of(&self, e: Code) -> Cycle {
+        let u = self.head_of(e.back());
+        let w = self.head_of(e);
+        let down = self.path_to_join(u, w, false, self.capacity[e.number]);
+        let above = self.path_to_join(w, u, true, down.amount);
+        let leaving = match (above.leave, down.leave) {
+            (Some(leave), _) => Some(Leaving { leave, into: e }),
+            (None, Some(leave)) => Some(Leaving {
+                leave,
+                into: e.back(),
+            }),
+            (None, None) => None,
         };
+        Cycle {
+            join: above.join,
+            amount: above.amount,
+            leaving,
+        }
     }
-    Leaving {
-        into: e,
-        leave: above.leave,
-        join,
-        amount,
-    }
-}
 
-// Sends d round the cycle of e, whose sides meet at `join`.
-fn push_round(
-    head: &[u8; 2048],
-    capacity: &mut [u32; 2048],
-    up: &[usize; 256],
-    e: usize,
-    join: u8,
-    d: u32,
-)
-    requires { e < 2048 }
-{
-    if d == 0 {
-        return;
-    }
-    push(capacity, e, d);
-    push_up(head, capacity, up, head[back(e)], join, negated(d));
-    push_up(head, capacity, up, head[e], join, d);
-}
-
-// Takes `part` out of the subtree of x where it is in it, and puts it in where it is not.
-fn change_subtree(below: &mut [u64; 256], x: u8, part: u64) {
-    let s = subtree_of(below, x);
-    below[x as usize] = s ^ part;
-}
-
-// The same from x up to `join`.
-fn change_subtrees(
-    head: &[u8; 2048],
-    up: &[usize; 256],
-    below: &mut [u64; 256],
-    from: u8,
-    join: u8,
-    part: u64,
-) {
-    let mut x = from;
-    for _ in 0..65usize {
-        if x == join {
+    // Sends d round the cycle of e, whose sides meet at `join`.
+    fn push_round(&mut self, e: Code, join: u8, d: u32) {
+        if d == 0 {
             return;
         }
-        change_subtree(below, x, part);
-        x = parent_of(head, up, x);
+        self.push(e, d);
+        self.push_up(self.head_of(e.back()), join, d.wrapping_neg());
+        self.push_up(self.head_of(e), join, d);
     }
-}
 
-// Joins x to its parent by the code `via`, with its new subtree.
-fn set_parent(up: &mut [usize; 256], below: &mut [u64; 256], x: u8, via: usize, subtree: u64) {
-    up[x as usize] = via;
-    below[x as usize] = subtree;
-}
+    // From `from` up to `join`, takes `part` out of the subtrees that have it, and puts it into those that have it not.
+    fn change_subtrees(&mut self, from: u8, join: u8, part: u64) {
+        self.walk_up(from, join, |simplex, x| {
+            simplex.below[usize::from(x)] = simplex.subtree_of(x) ^ part;
+        });
+    }
 
-// Joins the subtree `part` of `leave` to the rest of the tree by the code e that leads into it: the arcs from there up to `leave` are
-// reversed.
-fn update_parents(
-    head: &[u8; 2048],
-    up: &mut [usize; 256],
-    below: &mut [u64; 256],
-    leave: u8,
-    part: u64,
-    e: usize,
-)
-    requires { e < 2048 }
-{
-    let mut code = e;
-    let mut rest = part;
-    for _ in 0..65usize {
-        let x = head[code];
-        let next = up_from(up, x);
-        let s = subtree_of(below, x);
-        set_parent(up, below, x, back(code), rest);
-        if x == leave {
-            return;
+    // Joins x to its parent by the code `via`, with its new subtree.
+    fn set_parent(&mut self, x: u8, via: Code, subtree: u64) {
+        self.up[usize::from(x)] = via;
+        self.below[usize::from(x)] = subtree;
+    }
+
+    // Joins the subtree `part` of `leave` to the rest of the tree by the code e that leads into it: the arcs from there up to `leave` are
+    // reversed.
+    fn update_parents(&mut self, leave: u8, part: u64, e: Code) {
+        let mut code = e;
+        let mut rest = part;
+        for _ in 0..MOST_UP {
+            let x = self.head_of(code);
+            let next = self.up_from(x);
+            let s = self.subtree_of(x);
+            self.set_parent(x, code.back(), rest);
+            if x == leave {
+                return;
+            }
+            rest = part & !s;
+            code = next;
         }
-        rest = part & !s;
-        code = next;
     }
-}
 
-// The least node of a set that is not empty.
-fn least_of(set: u64) -> usize
-    ensures { result < 64 }
-{
-    (u64::trailing_zeros(set) % 64) as usize
-}
-
-// The potentials of the nodes of `part`, changed by d.
-fn shift_potentials(potential: &mut [u32; 256], part: u64, d: u32) {
-    let mut rest = part;
-    for _ in 0..64usize {
-        if rest == 0 {
-            return;
+    // The potentials of the nodes of `part`, changed by d.
+    fn shift_potentials(&mut self, part: u64, d: i32) {
+        let mut rest = part;
+        while rest != 0 {
+            let v = rest.trailing_zeros() as usize;
+            self.potential[v] = self.potential[v].wrapping_add(d);
+            rest &= rest - 1;
         }
-        let v = least_of(rest);
-        let y = potential[v];
-        potential[v] = std::num::wrapping_add_u32(y, d);
-        rest = rest & (rest - 1);
     }
-}
 
-// Brings the arc of e into the tree in the place of the arc above `leave`; e leads into the subtree of `leave`.
-fn exchange(
-    head: &[u8; 2048],
-    cost: &[u32; 2048],
-    up: &mut [usize; 256],
-    potential: &mut [u32; 256],
-    below: &mut [u64; 256],
-    e: usize,
-    leave: u8,
-    join: u8,
-)
-    requires { e < 2048 }
-{
-    let part = subtree_of(below, leave);
-    change_subtrees(head, up, below, parent_of(head, up, leave), join, part);
-    change_subtrees(head, up, below, head[back(e)], join, part);
-    update_parents(head, up, below, leave, part, e);
-    shift_potentials(potential, part, reduced(head, cost, potential, e));
-}
-
-// Lets e enter: sends round its cycle what can go, and takes an arc that is then full or empty out of the tree.
-fn pivot(
-    head: &[u8; 2048],
-    capacity: &mut [u32; 2048],
-    cost: &[u32; 2048],
-    up: &mut [usize; 256],
-    potential: &mut [u32; 256],
-    below: &mut [u64; 256],
-    e: usize,
-)
-    requires { e < 2048 }
-{
-    let l = leaving_arc(head, capacity, up, below, e);
-    push_round(head, capacity, up, e, l.join, l.amount);
-    if l.leave != ROOT {
-        exchange(head, cost, up, potential, below, l.into, l.leave, l.join);
+    // Brings the arc of e into the tree in the place of the arc above `leave`; e leads into the subtree of `leave`.
+    fn exchange(&mut self, e: Code, leave: u8, join: u8) {
+        let part = self.subtree_of(leave);
+        self.change_subtrees(self.parent_of(leave), join, part);
+        self.change_subtrees(self.head_of(e.back()), join, part);
+        self.update_parents(leave, part, e);
+        self.shift_potentials(part, self.reduced(e));
     }
-}
 
-// The code of arc a that costs less at the potentials.
-fn cheaper(head: &[u8; 2048], cost: &[u32; 2048], potential: &[u32; 256], a: usize) -> usize
-    requires { a < 1024 }
-    ensures { result < 2048 }
-{
-    if is_negative(reduced(head, cost, potential, 2 * a)) {
-        return 2 * a;
-    }
-    2 * a + 1
-}
-
-// Whether arc a may enter: the cost falls by it.
-fn is_eligible(
-    head: &[u8; 2048],
-    capacity: &[u32; 2048],
-    cost: &[u32; 2048],
-    potential: &[u32; 256],
-    a: usize,
-) -> bool
-    requires { a < 1024 }
-{
-    capacity[cheaper(head, cost, potential, a)] != 0 && reduced(head, cost, potential, 2 * a) != 0
-}
-
-// The first eligible arc from `from` on; `end` if there is none.
-fn first_eligible(
-    head: &[u8; 2048],
-    capacity: &[u32; 2048],
-    cost: &[u32; 2048],
-    potential: &[u32; 256],
-    from: usize,
-    end: usize,
-) -> usize
-    requires { (from ≤ end) × (end ≤ 1024) }
-    ensures { (from ≤ result) × (result ≤ end) }
-{
-    let mut a = from;
-    while a < end {
-        if is_eligible(head, capacity, cost, potential, a) {
-            return a;
+    // Lets e enter: sends round its cycle what can go, and takes an arc that is then full or empty out of the tree.
+    fn pivot(&mut self, e: Code) {
+        let cycle = self.cycle_of(e);
+        self.push_round(e, cycle.join, cycle.amount);
+        if let Some(Leaving { leave, into }) = cycle.leaving {
+            self.exchange(into, leave, cycle.join);
         }
-        a += 1;
     }
-    end
-}
 
-// The entering arc: the first eligible one, from `from` on and then from 0; m if there is none.
-fn entering_arc(
-    head: &[u8; 2048],
-    capacity: &[u32; 2048],
-    cost: &[u32; 2048],
-    potential: &[u32; 256],
-    from: usize,
-    m: usize,
-) -> usize
-    requires { (from ≤ m) × (m ≤ 1024) }
-    ensures { result ≤ m }
-{
-    let a = first_eligible(head, capacity, cost, potential, from, m);
-    if a < m {
-        return a;
-    }
-    let b = first_eligible(head, capacity, cost, potential, 0, from);
-    if b < from {
-        return b;
-    }
-    m
-}
-
-// Pivots until no arc is eligible, 20,000 at most: some 1,300 are enough for a random network of 512 arcs.
-fn improve(
-    head: &[u8; 2048],
-    capacity: &mut [u32; 2048],
-    cost: &[u32; 2048],
-    up: &mut [usize; 256],
-    potential: &mut [u32; 256],
-    below: &mut [u64; 256],
-    m: usize,
-)
-    requires { m ≤ 512 }
-{
-    let mut from = 0;
-    for _ in 0..20000usize {
-        let a = entering_arc(head, capacity, cost, potential, from, m);
-        if a >= m {
-            return;
+    // The code of arc a that may enter: the cost falls by it.
+    fn eligible(&self, a: usize) -> Option<Code>
+        requires { a < 1024 }
+    {
+        let reduced = self.reduced(Code { number: 2 * a });
+        let number = if reduced < 0 { 2 * a } else { 2 * a + 1 };
+        if self.capacity[number] != 0 && reduced != 0 {
+            Some(Code { number })
+        } else {
+            None
         }
-        pivot(
-            head,
-            capacity,
-            cost,
-            up,
-            potential,
-            below,
-            cheaper(head, cost, potential, a),
-        );
-        from = a + 1;
+    }
+
+    // The code that enters: that of the first arc that has one, from `from` on and then from 0.
+    fn entering(&self, from: usize) -> Option<Code>
+        requires { from ≤ 1024 }
+    {
+        (from..self.arcs)
+            .find_map(|a| self.eligible(a))
+            .or_else(|| (0..from).find_map(|a| self.eligible(a)))
+    }
+
+    // Pivots until no arc may enter.
+    fn improve(&mut self) {
+        let mut from = 0;
+        for _ in 0..MOST_PIVOTS {
+            let Some(e) = self.entering(from) else {
+                return;
+            };
+            self.pivot(e);
+            from = e.number / 2 + 1;
+        }
+    }
+
+    // The arcs of the network, with what they can carry above the lower bounds; the lower bounds themselves are carried.
+    fn set_arcs(&mut self, arcs: &[Arc], excess: &mut [u32; 256])
+        requires { length arcs.now ≤ 512 }
+    {
+        for (a, arc) in arcs.iter().enumerate() {
+            self.head[2 * a] = arc.head;
+            self.head[2 * a + 1] = arc.tail;
+            self.capacity[2 * a] = arc.up.wrapping_sub(arc.low);
+            self.cost[2 * a] = arc.cost;
+            self.cost[2 * a + 1] = arc.cost.wrapping_neg();
+            carry(excess, arc.tail, arc.head, arc.low);
+        }
+    }
+
+    // The artificial arc by which the root is the parent of v, with the code given: it carries the excess x, from v to the root or from
+    // the root to v.
+    fn set_artificial_arc(&mut self, x: u32, v: u8, code: Code)
+        requires { v < 64 }
+    {
+        let into = x.cast_signed() < 0;
+        self.head[code.back().number] = v;
+        self.capacity[code.number] = if into { x.wrapping_neg() } else { !x };
+        self.capacity[code.back().number] = x;
+        self.up[usize::from(v)] = code;
+        self.potential[usize::from(v)] = if into { BIG } else { -BIG };
+        self.below[usize::from(v)] = 1 << v;
+    }
+
+    // The initial tree: the root is the parent of every node.
+    fn initial_tree(&mut self, excess: &[u32; 256], n: u8)
+        requires { n ≤ 64 }
+    {
+        for v in 0..n {
+            let code = Code {
+                number: 2 * (self.arcs + usize::from(v)),
+            };
+            self.set_artificial_arc(excess[usize::from(v)], v, code);
+        }
     }
 }
 
 // The excess of each node where no arc carries anything: its balance; and the sum of the balances.
-fn set_excess(balances: &[i32], excess: &mut [u32; 256]) -> u32
-    requires { length balances.now ≤ 64 }
-{
+fn set_excess(balances: &[i32], excess: &mut [u32; 256]) -> u32 {
     let mut sum: u32 = 0;
-    let mut v = 0;
-    while v < balances.len() {
-        let x = bytes_read::to_unsigned(balances[v]);
-        excess[v] = x;
-        sum = std::num::wrapping_add_u32(sum, x);
-        v += 1;
+    for (x, balance) in excess.iter_mut().zip(balances) {
+        *x = balance.cast_unsigned();
+        sum = sum.wrapping_add(*x);
     }
     sum
 }
 
 // Takes x from node t to node h.
 fn carry(excess: &mut [u32; 256], t: u8, h: u8, x: u32) {
-    let out = excess[t as usize];
-    excess[t as usize] = std::num::wrapping_sub_u32(out, x);
-    let into = excess[h as usize];
-    excess[h as usize] = std::num::wrapping_add_u32(into, x);
+    let out = usize::from(t);
+    let into = usize::from(h);
+    excess[out] = excess[out].wrapping_sub(x);
+    excess[into] = excess[into].wrapping_add(x);
 }
 
-// The two codes of arc a from t to h.
-fn set_arc(
-    head: &mut [u8; 2048],
-    capacity: &mut [u32; 2048],
-    cost: &mut [u32; 2048],
-    a: usize,
-    t: u8,
-    h: u8,
-    r: u32,
-    c: u32,
-)
-    requires { a < 1024 }
-{
-    head[2 * a] = h;
-    head[2 * a + 1] = t;
-    capacity[2 * a] = r;
-    cost[2 * a] = c;
-    cost[2 * a + 1] = negated(c);
-}
-
-// The arcs of the network, with what they can carry above the lower bounds; the lower bounds themselves are carried.
-fn set_arcs(
-    tails: &[u8],
-    heads: &[u8],
-    lows: &[u32],
-    ups: &[u32],
-    costs: &[i32],
-    head: &mut [u8; 2048],
-    capacity: &mut [u32; 2048],
-    cost: &mut [u32; 2048],
-    excess: &mut [u32; 256],
-)
-    requires { let N = net_with [] tails.now heads.now lows.now ups.now costs.now in
-        SameLengths N }
-{
-    let mut a = 0;
-    while a < tails.len() {
-        let t = tails[a];
-        let h = heads[a];
-        let low = lows[a];
-        let r = std::num::wrapping_sub_u32(ups[a], low);
-        set_arc(
-            head,
-            capacity,
-            cost,
-            a,
-            t,
-            h,
-            r,
-            bytes_read::to_unsigned(costs[a]),
-        );
-        carry(excess, t, h, low);
-        a += 1;
-    }
-}
-
-// The artificial arc by which the root is the parent of v, with the code given: it carries the excess x, from v to the root or from the
-// root to v.
-fn set_artificial_arc(
-    head: &mut [u8; 2048],
-    capacity: &mut [u32; 2048],
-    up: &mut [usize; 256],
-    potential: &mut [u32; 256],
-    below: &mut [u64; 256],
-    x: u32,
-    v: u8,
-    code: usize,
-)
-    requires { (v < 64) × (code < 2048) }
-{
-    let into = is_negative(x);
-    let other = back(code);
-    head[other] = v;
-    capacity[code] = if into { negated(x) } else { !x };
-    capacity[other] = x;
-    up[v as usize] = code;
-    potential[v as usize] = if into { BIG } else { negated(BIG) };
-    below[v as usize] = 1 << v;
-}
-
-// The initial tree: the root is the parent of every node.
-fn initial_tree(
-    head: &mut [u8; 2048],
-    capacity: &mut [u32; 2048],
-    up: &mut [usize; 256],
-    potential: &mut [u32; 256],
-    below: &mut [u64; 256],
-    excess: &[u32; 256],
-    m: usize,
-    n: usize,
-)
-    requires { (m ≤ 512) × (n ≤ 64) }
-{
-    let mut v = 0;
-    while v < n {
-        set_artificial_arc(
-            head,
-            capacity,
-            up,
-            potential,
-            below,
-            excess[v],
-            v as u8,
-            2 * (m + v),
-        );
-        v += 1;
-    }
-}
-
-// From the initial tree to the last pivot.
-fn solve(
-    head: &mut [u8; 2048],
-    capacity: &mut [u32; 2048],
-    cost: &[u32; 2048],
-    excess: &[u32; 256],
-    m: usize,
-    n: usize,
-)
-    requires { (m ≤ 512) × (n ≤ 64) }
-{
-    let mut up = [0usize; 256];
-    let mut potential = [0u32; 256];
-    let mut below = [u64::MAX; 256];
-    initial_tree(
-        head,
-        capacity,
-        &mut up,
-        &mut potential,
-        &mut below,
-        excess,
-        m,
-        n,
-    );
-    improve(head, capacity, cost, &mut up, &mut potential, &mut below, m);
-}
-
-// Writes the residual capacity of each code after the last pivot; that of code 2a + 1 is what arc a carries above its lower bound. Where
-// the balances do not sum to 0 there is no flow, and `capacity` stays as it was.
-fn optimise(
-    tails: &[u8],
-    heads: &[u8],
-    lows: &[u32],
-    ups: &[u32],
-    costs: &[i32],
-    balances: &[i32],
-    capacity: &mut [u32; 2048],
-)
-    requires { let N = net_with balances.now tails.now heads.now lows.now ups.now costs.now in
-        SameLengths N × (nodes N ≤ 64) }
+// A list within the bounds, and mostly a least-cost flow where there is a flow: there is none where the balances do not sum to 0. The
+// residual capacity of code 2a + 1 is what arc a carries above its lower bound.
+pub fn guess(arcs: &[Arc], balances: &[i32], flow: &mut [u32])
+    requires { let N = net_from balances.now arcs.now in
+        (length arcs.now ≤ 512) × (length balances.now ≤ 64) × (length flow.old ≡ length arcs.now)
+        × ((a : ℕ) → a < length arcs.now → low N a ≤ up N a) }
+    ensures { InBounds (net_from balances.now arcs.now) flow.new }
 {
     let mut excess = [0u32; 256];
     if set_excess(balances, &mut excess) != 0 {
+        flow_clamp::write_within(arcs, &[0u32; 2048], flow);
         return;
     }
-    let mut head = [ROOT; 2048];
-    let mut cost = [0u32; 2048];
-    set_arcs(
-        tails,
-        heads,
-        lows,
-        ups,
-        costs,
-        &mut head,
-        capacity,
-        &mut cost,
-        &mut excess,
-    );
-    solve(
-        &mut head,
-        capacity,
-        &cost,
-        &excess,
-        tails.len(),
-        balances.len(),
-    );
-}
-
-// A list within the bounds, and mostly a least-cost flow where there is a flow.
-pub fn guess(
-    tails: &[u8],
-    heads: &[u8],
-    lows: &[u32],
-    ups: &[u32],
-    costs: &[i32],
-    balances: &[i32],
-    flow: &mut [u32],
-)
-    requires { let N = net_with balances.now tails.now heads.now lows.now ups.now costs.now in
-        SameLengths N × (nodes N ≤ 64) × (length flow.old ≡ arcs N) × ((a : ℕ) → a < arcs N → low N a ≤ up N a) }
-    ensures { let N = net_with balances.now tails.now heads.now lows.now ups.now costs.now in
-        InBounds N flow.new }
-{
-    let mut capacity = [0u32; 2048];
-    optimise(tails, heads, lows, ups, costs, balances, &mut capacity);
-    flow_clamp::write_within(lows, ups, &capacity, flow);
+    let mut simplex = Simplex::new(arcs.len());
+    simplex.set_arcs(arcs, &mut excess);
+    simplex.initial_tree(&excess, balances.len() as u8);
+    simplex.improve();
+    flow_clamp::write_within(arcs, &simplex.capacity, flow);
 }

@@ -14,6 +14,9 @@ use Rattle.laws.specs.Linear.{lin, given, given4}
 use Rattle.laws.specs.Range.{Bounded, bounded_add, bounded_neg, bounded_zero, bounded_more, bounded_fits}
 use Rattle.laws.specs.Sum.{sum}
 use Rattle.net_model.specs.Network.{Net, nodes, arcs, tail, head, balance, on}
+use Rattle.net_model.specs.Struct.{net_from, blank_arc}
+use Rattle.net_model.specs.declared.Arc.{Arc}
+use Rattle.net_theory.proofs.ArcReads.{arc_at}
 use Rattle.flow_test.specs.Excess.{SmallNumbers, Excesses}
 
 at_bounded : (u v B : ℕ) (x : ℤ) → Bounded B x → Bounded B (at u v x)
@@ -92,16 +95,26 @@ module _ (N : Net) (f : List ℕ) where
     small = λ v. bounded_more (omega (arith, s.ends.few)) (T.small v);
   }
 
-module _ (N : Net) (f : List ℕ) (s : SmallNumbers N f) (a : ℕ) (k : a < arcs N) (l : List ℤ) (T : ExcessTurn N f a l) (x : ℤ) (x-is : x ≡ neg_ℤ (on f a)) where
-  pub asks_first : (tail N a < length l) × SFits w64 (get_or l (tail N a) (pos 0) +ℤ x)
-  asks_first = rw x-is (fits_first N f s a k l T)
+-- a turn as the code takes it: x = −f(a) more at the tail t, then y = f(a) more at the head h
+module _ (bs : List ℤ) (held : List Arc) (f : List ℕ) (s : SmallNumbers (net_from bs held) f) (a : ℕ) (k : a < length held) (l : List ℤ) (T : ExcessTurn (net_from bs held) f a l) (t : ℕ) (arc : t ≡ (get_or held a blank_arc).tail) (x : ℤ) (x-is : x ≡ neg_ℤ (on f a)) where
+  abbrev N : Net
+  N = net_from bs held
 
-  module _ (l1 : List ℤ) (e1 : l1 ≡ set l (tail N a) (get_or l (tail N a) (pos 0) +ℤ x)) (y : ℤ) (y-is : y ≡ on f a) where
+  t-is : t ≡ tail N a
+  t-is = arc ∙ (arc_at bs held a k).tail_is
+
+  pub asks_first : (t < length l) × SFits w64 (get_or l t (pos 0) +ℤ x)
+  asks_first = rw (t-is, x-is) (fits_first N f s a ((arc_at bs held a k).inside) l T)
+
+  module _ (l1 : List ℤ) (e1 : l1 ≡ set l t (get_or l t (pos 0) +ℤ x)) (h : ℕ) (end : h ≡ (get_or held a blank_arc).head) (y : ℤ) (y-is : y ≡ on f a) where
+    h-is : h ≡ head N a
+    h-is = end ∙ (arc_at bs held a k).head_is
+
     e1' : l1 ≡ set l (tail N a) (get_or l (tail N a) (pos 0) +ℤ neg_ℤ (on f a))
-    e1' = e1 ∙ ap (λ z. set l (tail N a) (get_or l (tail N a) (pos 0) +ℤ z)) x-is
+    e1' = rw (t-is, x-is) at e1
 
-    pub asks_second : (head N a < length l1) × SFits w64 (get_or l1 (head N a) (pos 0) +ℤ y)
-    asks_second = rw (y-is, e1') (fits_second N f s a k l T)
+    pub asks_second : (h < length l1) × SFits w64 (get_or l1 h (pos 0) +ℤ y)
+    asks_second = rw (h-is, y-is, e1') (fits_second N f s a ((arc_at bs held a k).inside) l T)
 
-    pub both_done : (l2 : List ℤ) → l2 ≡ set l1 (head N a) (get_or l1 (head N a) (pos 0) +ℤ y) → ExcessTurn N f (suc a) l2
-    both_done l2 e2 = rw (e2, y-is, e1') (turn_step N f s a k l T)
+    pub both_done : (l2 : List ℤ) → l2 ≡ set l1 h (get_or l1 h (pos 0) +ℤ y) → ExcessTurn N f (suc a) l2
+    both_done l2 e2 = rw (e2, h-is, y-is, e1') (turn_step N f s a ((arc_at bs held a k).inside) l T)

@@ -1,4 +1,2 @@
-pub mod Widths
 mod Excess
-pub mod IsFlow
 pub mod Accepted

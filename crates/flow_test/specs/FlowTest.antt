@@ -1,14 +1,9 @@
 -- The test whether a list is a flow: what it asks, and what it answers.
-use Rattle.std.specs.Prelude.{◌≡◌, List, [], Bool, true, false, ℕ, ◌≤◌, ◌<◌, length, get_or}
+use Rattle.std.specs.Prelude.{◌≡◌, List, Bool, true, false, ℕ, ◌≤◌, ◌<◌, length}
 use Rattle.net_model.specs.Network.{Net, nodes, arcs, low, up, net_out, balance}
-use Rattle.net_theory.specs.Graph.{net_with}
 use Rattle.net_theory.specs.Limits.{SmallEnds, SmallBounds, SmallBalances}
 
--- N without its costs, which have no part in the test
-abbrev pub uncosted : Net → Net
-uncosted N = net_with N.balances N.tails N.heads N.lows N.ups []
-
--- one number for each arc of a network whose numbers are small, and no lower bound above the upper one
+-- one number for each arc of a network whose numbers are small, and no lower bound above the upper one; costs have no part in the test
 pub record Testable (N : Net) (f : List ℕ) : Type 0 where
   pub ends : SmallEnds N
   pub bounds : SmallBounds N
@@ -20,10 +15,6 @@ pub record Testable (N : Net) (f : List ℕ) : Type 0 where
 abbrev pub Decides : Type 0 → Bool → Type 0
 Decides P true = P
 Decides P false = ¬ P
-
--- each number is within its bounds
-abbrev pub WithinBounds : List ℕ → List ℕ → List ℕ → Type 0
-WithinBounds l u f = (a : ℕ) → a < length f → (get_or l a 0 ≤ get_or f a 0) × (get_or f a 0 ≤ get_or u a 0)
 
 -- the flow out less the flow in is the balance at every node
 abbrev pub IsBalanced : Net → List ℕ → Type 0

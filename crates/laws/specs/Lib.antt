@@ -19,6 +19,7 @@ pub mod Totals
 pub mod Suffix
 pub mod Snoc
 pub mod Tabulate
+pub mod Optional
 pub mod Store
 pub mod Padded
 pub mod Appended

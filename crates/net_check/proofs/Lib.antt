@@ -1,3 +1,2 @@
-mod Columns
-mod Limits
+mod Arcs
 pub mod Accepted

@@ -1,25 +1,13 @@
-// The struct that stands for a network, an arc as it comes, and where a residual arc starts.
+// An arc as it comes, an arc as it is held, the struct that stands for a network, and where a residual arc starts.
 #![tactic(auto)]
 
-ghost use Rattle.std.specs.Prelude.{◌≡◌, ◌/◌, ◌<◌, length, get_or};
-ghost use Rattle.net_model.specs.Residual.{either};
+ghost use Rattle.std.specs.Prelude.{◌≡◌, [], ◌/◌, ◌≤◌, ◌<◌, length, take};
+ghost use Rattle.net_model.specs.Residual.{src};
+ghost use Rattle.net_model.specs.Struct.{net_from};
 
-// A network: of each array the first places, as many as there are nodes or arcs; the others are 0.
+// The five numbers of an arc as it comes.
 #[derive(Clone, Copy)]
-pub struct Network {
-    pub nodes: usize,
-    pub arcs: usize,
-    pub balances: [i32; 64],
-    pub tails: [u8; 512],
-    pub heads: [u8; 512],
-    pub lows: [u32; 512],
-    pub ups: [u32; 512],
-    pub costs: [i32; 512],
-}
-
-// An arc as it came.
-#[derive(Clone, Copy)]
-pub struct Arc {
+pub struct Row {
     pub tail: i32,
     pub head: i32,
     pub low: i32,
@@ -27,14 +15,52 @@ pub struct Arc {
     pub cost: i32,
 }
 
-// Where the residual arc c starts.
-pub fn source(tails: &[u8], heads: &[u8], c: usize) -> usize
-    requires { (c / 2 < length tails.now) × (c / 2 < length heads.now) }
-    ensures { result ≡ either c (get_or tails.now (c / 2) 0) (get_or heads.now (c / 2) 0) }
-{
-    let a = c / 2;
-    if c % 2 == 0 {
-        return tails[a] as usize;
+#[derive(Clone, Copy)]
+pub struct Arc {
+    pub tail: u8,
+    pub head: u8,
+    pub low: u32,
+    pub up: u32,
+    pub cost: i32,
+}
+
+// A network: of each array the first places, as many as there are nodes or arcs; the others are 0. It is passed and kept by value and no heap is
+// used, so the arrays have their full size, and a count beside them.
+#[derive(Clone, Copy)]
+pub struct Network {
+    pub nodes: usize,
+    pub arcs: usize,
+    pub balances: [i32; 64],
+    pub table: [Arc; 512],
+}
+
+impl Network {
+    // The balances of its nodes.
+    pub fn balances(&self) -> &[i32]
+        requires { self.now.nodes ≤ 64 }
+        ensures { result.now ≡ take self.now.nodes self.now.balances }
+    {
+        &self.balances[..self.nodes]
     }
-    heads[a] as usize
+
+    // Its arcs.
+    pub fn arcs(&self) -> &[Arc]
+        requires { self.now.arcs ≤ 512 }
+        ensures { result.now ≡ take self.now.arcs self.now.table }
+    {
+        &self.table[..self.arcs]
+    }
+}
+
+// Where the residual arc c starts.
+pub fn source(arcs: &[Arc], c: usize) -> usize
+    requires { c / 2 < length arcs.now }
+    ensures { result ≡ src (net_from [] arcs.now) c }
+{
+    let arc = arcs[c / 2];
+    if c % 2 == 0 {
+        usize::from(arc.tail)
+    } else {
+        usize::from(arc.head)
+    }
 }

@@ -16,10 +16,9 @@ use Rattle.bytes_read.proofs.Words.{length_ints}
 use Rattle.net_model.specs.Network.{WellFormed, arcs}
 use Rattle.net_model.specs.Input.{rows, net_of}
 use Rattle.net_model.specs.Accepted.{AcceptedNet}
-use Rattle.net_model.specs.declared.Arc.{Arc}
-use Rattle.net_questions.specs.Questions.{inside, passes, fair_balance, fair_nodes, fair_arcs, last_node_number, network_refusal}
+use Rattle.net_model.specs.declared.Row.{Row}
+use Rattle.net_questions.specs.Questions.{inside, Ends, Bounds, Cost, passes, fair_balance, fair_nodes, fair_arcs, last_node_number, network_refusal}
 use Rattle.net_questions.specs.Arcs.{no_arc}
-use Rattle.net_questions.specs.declared.ArcQuestion.TheVariants.{Ends, Bounds, Cost}
 use Rattle.net_questions.proofs.Rows.{FairNodes, FairArcs, fair_nodes_lem, fair_arcs_lem, arcs_of}
 
 -- every question was answered with yes
@@ -51,7 +50,7 @@ pub record Inside (lo hi z : ℤ) : Type 0 where
   pub from : lo ≤ℤ z
   pub to : z ≤ℤ hi
 
-is_inside : (lo hi z : ℤ) → inside lo hi z ≡ true → Inside lo hi z
+pub is_inside : (lo hi z : ℤ) → inside lo hi z ≡ true → Inside lo hi z
 is_inside lo hi z e = let (a, b) = and_true (le_z lo z) (le_z z hi) e in record { from = le_z_true lo z a; to = le_z_true z hi b }
 
 nat_abs_le : (x y : ℤ) → pos 0 ≤ℤ x → x ≤ℤ y → nat_abs x ≤ nat_abs y
@@ -60,7 +59,7 @@ nat_abs_le (pos m) (negsuc n) h k = absurd (omega (arith, le→ℕ k))
 nat_abs_le (negsuc m) y h k = absurd (omega (arith, le→ℕ h))
 
 -- an arc keeps what questions 3, 4 and 5 ask
-pub record GoodArc (last : ℤ) (r : Arc) : Type 0 where
+pub record GoodArc (last : ℤ) (r : Row) : Type 0 where
   pub tail_in : Inside (pos 0) last r.tail
   pub head_in : Inside (pos 0) last r.head
   pub low_in : Inside (pos 0) r.up r.low
@@ -105,8 +104,8 @@ module _ (bs xs : List ℕ) (ok : AllPassed bs xs) where
         lows_len = length-map rs (λ r. nat_abs r.low) ∙ sym arcs_are;
         ups_len = length-map rs (λ r. nat_abs r.up) ∙ sym arcs_are;
         costs_len = length-map rs (λ r. r.cost) ∙ sym arcs_are;
-        tail_in = λ a h. rw (get_or-map (λ (r : Arc). nat_abs r.tail) rs a no_arc) (end_below _ (good_arc a (in_rows a h)).tail_in);
-        head_in = λ a h. rw (get_or-map (λ (r : Arc). nat_abs r.head) rs a no_arc) (end_below _ (good_arc a (in_rows a h)).head_in);
+        tail_in = λ a h. rw (get_or-map (λ (r : Row). nat_abs r.tail) rs a no_arc) (end_below _ (good_arc a (in_rows a h)).tail_in);
+        head_in = λ a h. rw (get_or-map (λ (r : Row). nat_abs r.head) rs a no_arc) (end_below _ (good_arc a (in_rows a h)).head_in);
       }
 
   accepted_of : AcceptedNet (net_of (ints bs) (ints xs))
@@ -117,10 +116,10 @@ module _ (bs xs : List ℕ) (ok : AllPassed bs xs) where
         some_node = omega (arith, nodes_are, ok.nodes_fair.some);
         few_nodes = omega (arith, nodes_are, ok.nodes_fair.few);
         few_arcs = omega (arith, arcs_are, arcs_of xs, ok.arcs_fair.few);
-        low_up = λ a h. rw (get_or-map (λ (r : Arc). nat_abs r.low) rs a no_arc, get_or-map (λ (r : Arc). nat_abs r.up) rs a no_arc)
+        low_up = λ a h. rw (get_or-map (λ (r : Row). nat_abs r.low) rs a no_arc, get_or-map (λ (r : Row). nat_abs r.up) rs a no_arc)
             (let g = good_arc a (in_rows a h) in nat_abs_le _ _ g.low_in.from g.low_in.to);
-        up_small = λ a h. rw (get_or-map (λ (r : Arc). nat_abs r.up) rs a no_arc) (nat_abs_le _ (pos 1000000) (up_from a (in_rows a h)) (good_arc a (in_rows a h)).up_to);
-        cost_small = λ a h. rw (get_or-map (λ (r : Arc). r.cost) rs a no_arc)
+        up_small = λ a h. rw (get_or-map (λ (r : Row). nat_abs r.up) rs a no_arc) (nat_abs_le _ (pos 1000000) (up_from a (in_rows a h)) (good_arc a (in_rows a h)).up_to);
+        cost_small = λ a h. rw (get_or-map (λ (r : Row). r.cost) rs a no_arc)
             (let g = good_arc a (in_rows a h) in (g.cost_in_lem.from, g.cost_in_lem.to));
         balance_small = λ v h. (let i = is_inside (negsuc 999999999) (pos 1000000000) (get_or (ints bs) v (pos 0)) (all_at fair_balance (ints bs) (pos 0) v ok.balances h) in (i.from, i.to));
       }

@@ -1,22 +1,26 @@
 -- Laws of the rows of an arc list, and of questions 1 and 2.
-use mathlib.Core.Path.{◌≡◌, refl, ◌∙◌}
-use mathlib.Core.Bool.{true, ◌&&◌}
-use mathlib.Core.List.{List, [], ◌∷◌}
-use Prim.Native.Nat.{ℕ, zero, suc, ◌+◌, ◌*◌, ◌/◌, ◌%◌, ◌≤◌}
+use mathlib.Core.Path.{◌≡◌, refl, sym, ◌∙◌}
+use mathlib.Core.Bool.{Bool, true, false, ◌&&◌}
+use mathlib.Core.List.{List, [], ◌∷◌, map}
+use Prim.Native.Nat.{ℕ, zero, suc, ◌+◌, ◌*◌, ◌/◌, ◌%◌, ◌≤◌, ◌<◌}
 use native.Mathlib.Omega.{arith}
 use lib.ListN.{length, get_or}
+use lib.Seq.{ext_get_or}
 use lib.Dec.{eqb, leb}
 use lib.IntN.{ℤ, pos}
 use borrow.Author.Tests.{eqb-true, leb-true}
-use Rattle.laws.specs.Tests.{and_true}
+use Rattle.std.specs.Prelude.{MatchBool}
+use Rattle.std.specs.List.{AllWithin, HoldsAt, range_with_len}
+use Rattle.std.proofs.lemmas.List.FromFn.{length-map-range_with_len, get_or-map-range_with_len}
+use Rattle.laws.specs.Tests.{and_true, true_and, and_stops, and_stops_second, all}
 use Rattle.bytes_read.specs.Words.{ints}
 use Rattle.bytes_read.proofs.Words.{length_ints}
 use Rattle.net_model.specs.Input.{rows}
-use Rattle.net_model.specs.declared.Arc.{Arc}
+use Rattle.net_model.specs.declared.Row.{Row}
 use Rattle.net_questions.specs.Questions.{fair_nodes, fair_arcs}
 use Rattle.net_questions.specs.Arcs.{no_arc}
 
-abbrev pub row_at : List ℤ → ℕ → Arc
+abbrev pub row_at : List ℤ → ℕ → Row
 row_at xs k = record {
   tail = get_or xs k (pos 0);
   head = get_or xs (k + 1) (pos 0);
@@ -70,3 +74,24 @@ pub fair_arcs_lem : (k : ℕ) → fair_arcs k ≡ true → FairArcs k
 fair_arcs_lem k e =
     let (p, q) = and_true (eqb (k % 20) 0) (leb (k / 20) 512) e in
     record { whole = eqb-true _ _ p; few = leb-true _ _ q }
+
+-- the members of a list, by their places
+pub by_places : {A : Type 0} (l : List A) (d : A) (n : ℕ) → length l ≡ n → map (λ k. get_or l k d) (range_with_len 0 n) ≡ l
+by_places l d n e =
+    ext_get_or d (map (λ k. get_or l k d) (range_with_len 0 n)) l (length-map-range_with_len (λ k. get_or l k d) 0 n ∙ sym e)
+    (λ i h. get_or-map-range_with_len (λ k. get_or l k d) 0 n i i d (omega (arith, length-map-range_with_len (λ k. get_or l k d) 0 n)) (omega arith))
+
+-- a test of every member, by their places, and by what a run over them found
+pub all_by_places : {A : Type 0} (p : A → Bool) (l : List A) → ((k : ℕ) (d : A) → k < length l → p (get_or l k d) ≡ true) → all p l ≡ true
+all_by_places p [] f = refl
+all_by_places p (a ∷ l) f = true_and (p a) (all p l) (f 0 a (omega arith)) (all_by_places p l (λ k d q. f (suc k) d (omega arith)))
+
+pub all_by_run : {A : Type 0} (p : A → Bool) (m l : List A) → m ≡ l → (r : Bool)
+    → MatchBool r (AllWithin (λ a. p a ≡ true) m 0 (length m)) ((k : ℕ) × (k < length m) × HoldsAt (λ a. p a ≡ false) m k) → r ≡ all p l
+all_by_run p m l q true h = sym (rw (← q) (all_by_places p m (λ k d. h k d (omega arith))))
+all_by_run p m l q false h = sym (rw (← q) (fails m h.0 h.1 h.2))
+  where
+    fails : (m : List _) (k : ℕ) → k < length m → ((d : _) → p (get_or m k d) ≡ false) → all p m ≡ false
+    fails [] k q e = absurd (omega arith)
+    fails (a ∷ m) zero q e = and_stops (p a) (all p m) (e a)
+    fails (a ∷ m) (suc k) q e = and_stops_second (p a) (all p m) (fails m k (omega arith) e)

@@ -4,11 +4,9 @@ use Rattle.std.specs.Int.Signed.{le_z}
 use Rattle.laws.specs.Tests.{ask, all}
 use Rattle.bytes_read.specs.Words.{ints}
 use Rattle.net_model.specs.Input.{rows}
-use Rattle.net_model.specs.declared.Arc.{Arc}
-use Rattle.net_questions.specs.declared.ArcQuestion.{ArcQuestion}
-use Rattle.net_questions.specs.declared.ArcQuestion.TheVariants.{Ends, Bounds, Cost}
-use Rattle.net_questions.specs.declared.Verdict.{Verdict}
-use Rattle.net_questions.specs.declared.Verdict.TheVariants.{Accepted, NodeCount, ArcCount, BadEnd, BadBounds, BadCost, BadBalance}
+use Rattle.net_model.specs.declared.Row.{Row}
+use Rattle.net_questions.specs.declared.NetworkRefusal.{NetworkRefusal}
+use Rattle.net_questions.specs.declared.NetworkRefusal.TheVariants.{NodeCount, ArcCount, BadEnd, BadBounds, BadCost, BadBalance}
 
 -- 1. "Are there 1 to 64 balances?" Bytes that are no whole numbers fail the question about the list's length.
 abbrev pub fair_nodes : ℕ → Bool
@@ -21,7 +19,13 @@ fair_arcs bytes = eqb (bytes % 20) 0 && leb (bytes / 20) 512
 abbrev pub inside : ℤ → ℤ → ℤ → Bool
 inside lo hi x = le_z lo x && le_z x hi
 
-abbrev pub passes : ArcQuestion → ℤ → Arc → Bool
+-- the questions put to every arc; `last` is n − 1
+pub data ArcQuestion : Type 0 where
+  Ends : ArcQuestion
+  Bounds : ArcQuestion
+  Cost : ArcQuestion
+
+abbrev pub passes : ArcQuestion → ℤ → Row → Bool
 -- 3. "Is every tail and head from 0 to n−1?"
 passes Ends last r = inside (pos 0) last r.tail && inside (pos 0) last r.head
 -- 4. "Is 0 ≤ l ≤ u ≤ 1,000,000 on every arc?"
@@ -48,9 +52,8 @@ network_refusal bs xs =
     (ask (all fair_balance (ints bs)) 6
     0)))))
 
--- the number of a verdict
-abbrev pub number_of : Verdict → ℕ
-number_of Accepted = 0
+-- the number of a refusal
+abbrev pub number_of : NetworkRefusal → ℕ
 number_of NodeCount = 1
 number_of ArcCount = 2
 number_of BadEnd = 3

@@ -16,4 +16,5 @@ pub mod Order
 pub mod Reach
 pub mod Trace
 pub mod Graph
+pub mod ArcReads
 pub mod Ready

@@ -111,9 +111,6 @@ module _ (n lo hi : ℕ) (sr ds : ℕ → ℕ) (go : ℕ → Bool) (s : ℕ) whe
           last z c h k (yes l) = t.shut z c h l
           last z c h k (no l) = let q : c ≡ i = omega arith in rw q (λ g m. miss g m (dec_lt 0 (get_or rank (ds i) 0)))
 
-  pub round_done : (rank via : List ℕ) (t count₀ count i : ℕ) → Turn n lo hi sr ds go s rank via count₀ count i → hi ≤ i → Rounded n lo hi sr ds go s t count₀ rank via count
-  round_done rank via t count₀ count i w h = record { tree = w.tree; grows = w.grows; shut = λ _ z c l k. w.shut z c l (omega arith) }
-
   pub round_left : (rank via : List ℕ) (t count₀ count i : ℕ) → Turn n lo hi sr ds go s rank via count₀ count i → ¬ (get_or rank t 0 ≡ 0) → Rounded n lo hi sr ds go s t count₀ rank via count
   round_left rank via t count₀ count i w h = record { tree = w.tree; grows = w.grows; shut = λ e. absurd (h e) }
 

@@ -18,9 +18,6 @@ distinct_snoc [] c d e = (tt, tt)
 distinct_snoc (b ∷ cs) c d e = (every_append (λ x. x ≢ b) cs (c ∷ []) d.0 ((λ q. e.0 (sym q)), tt), distinct_snoc cs c d.1 e.1)
 
 module _ (lo hi : ℕ) (sr ds : ℕ → ℕ) (go : ℕ → Bool) where
-  trace_start : (rank : List ℕ) (t : ℕ) → Traced lo hi sr ds go rank t t []
-  trace_start rank t = record { walk = refl; distinct = tt; low = tt; later = tt }
-
   trace_step : (rank : List ℕ) (t v : ℕ) (cs : List ℕ) (c : ℕ) → Traced lo hi sr ds go rank t v cs → Led lo hi sr ds go rank c v → Traced lo hi sr ds go rank t (sr c) (cs ++ (c ∷ []))
   trace_step rank t v cs c w l = record {
     walk = walk_append hi sr ds go (sr c) v t cs (c ∷ []) w.walk (l.high, l.goes, l.ends, refl);
@@ -44,9 +41,6 @@ module _ (n lo hi : ℕ) (sr ds : ℕ → ℕ) (go : ℕ → Bool) (s : ℕ) (ra
   }
 
 module _ (n hi : ℕ) (sr ds : ℕ → ℕ) (rank via : List ℕ) (t : ℕ) where
-  pub any_start : TracedAny n hi sr ds rank via t (λ _. t) []
-  any_start lo go s count tr = trace_start lo hi sr ds go rank t
-
   pub any_step : (v : ℕ) (cs : List ℕ) → v < n → 1 < get_or rank v 0 → TracedAny n hi sr ds rank via t (λ _. v) cs
       → TracedAny n hi sr ds rank via t (λ _. sr (get_or via v 0)) (cs ++ (get_or via v 0 ∷ []))
   any_step v cs l h w lo go s count tr = trace_step lo hi sr ds go rank t v cs (get_or via v 0) (w lo go s count tr) (tr.led v l h)

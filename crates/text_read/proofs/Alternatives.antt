@@ -2,7 +2,7 @@
 use Prim.Native.Nat.{ℕ}
 use mathlib.Core.Path.{◌≡◌, refl, sym, ◌∙◌}
 use mathlib.Core.List.{List}
-use Rattle.text_read.specs.Reader.{Parsed, fails, reads, Reader, ◌<|>◌, ReadsFront}
+use Rattle.text_read.specs.Reader.{Parsed, fails, reads, Reader, ◌<|>◌}
 use Rattle.text_read.proofs.Leaves.{Leaves, Suffix}
 
 module _ {A : Type 0} (p q : Reader A) where
@@ -13,15 +13,6 @@ module _ {A : Type 0} (p q : Reader A) where
   pub first_fails : (s : List ℕ) → p s ≡ fails → (p <|> q) s ≡ q s
   unfolding ◌<|>◌
   first_fails s e = rw (◌<|>◌, e)
-
-  module _ (s : List ℕ) {u : ℕ} {a : A} (r : ReadsFront s (p s) u a) where
-    pub first_form : (u ≡ 0 → ⊥) → ReadsFront s ((p <|> q) s) u a
-    first_form z = record { absent = λ e. absurd (z e); stands = λ n. first_reads s (r.stands n); within = r.within }
-
-    pub second_form : {v : ℕ} {b : A} → u ≡ 0 → ReadsFront s (q s) v b → ReadsFront s ((p <|> q) s) v b
-    second_form z o =
-        let same = first_fails s (r.absent z) in
-        record { absent = λ e. same ∙ o.absent e; stands = λ n. same ∙ o.stands n; within = o.within }
 
   pub either_leaves : Leaves p → Leaves q → Leaves (p <|> q)
   either_leaves f g s a t e = go (p s) refl

@@ -1,14 +1,11 @@
 -- Lines of one form, one after another: what a loop knows that reads them.
-use Prim.Native.Nat.{ℕ, zero, suc, ◌+◌, ◌-◌, ◌<◌, ◌≤◌}
+use Prim.Native.Nat.{ℕ, zero, suc, ◌+◌, ◌-◌, ◌≤◌}
 use mathlib.Core.Path.{◌≡◌, refl, ap, ◌∙◌}
 use mathlib.Core.List.{List, [], ◌∷◌, ◌++◌}
 use native.Mathlib.Omega.{arith}
-use native.Mathlib.Nat.{sub_self}
-use lib.ListN.{length, length-append, length-drop, drop}
-use lib.Seq.{drop-drop}
-use Rattle.text_read.specs.Reader.{Parsed, fails, reads, Reader, more, up_to, many, ReadsFront}
-use Rattle.laws.specs.Suffix.{take_rest}
-use Rattle.text_read.proofs.Sequence.{part}
+use lib.ListN.{length, length-append, drop}
+use Rattle.text_read.specs.Reader.{Parsed, fails, reads, Reader, more, up_to, many, ReadAs}
+use Rattle.text_read.proofs.Sequence.{Ends, ends_all, ends_more, read_ends}
 
 -- the forms of d, put before what p gives
 unfoldable pub before : {A : Type 0} → List A → Parsed (List A) → Parsed (List A)
@@ -36,38 +33,29 @@ pub record Lines {A : Type 0} (p : Reader A) (s : List ℕ) (done : List A) (t :
   pub enough : length t ≤ fuel
   pub is : many p s ≡ before done (up_to fuel p t)
   pub shorter : length done + length t ≤ length s
-  pub part_is : t ≡ drop (length s - length t) s
+  pub ends : Ends s t
 
 pub lines_none : {A : Type 0} (p : Reader A) (s : List ℕ) → Lines p s [] s
 unfolding before many
-lines_none p s = record { fuel = length s; enough = omega arith; is = refl; shorter = omega arith; part_is = rw sub_self }
+lines_none p s = record { fuel = length s; enough = omega arith; is = refl; shorter = omega arith; ends = ends_all s }
 
-module _ {A : Type 0} {p : Reader A} {s : List ℕ} {done : List A} {t : List ℕ} {u : ℕ} {a : A} (d : Lines p s done t) (r : ReadsFront t (p t) u a) where
+module _ {A : Type 0} {p : Reader A} {s : List ℕ} {done : List A} {t : List ℕ} (d : Lines p s done t) where
   -- one more line
-  pub lines_more : (u ≡ 0 → ⊥) → Lines p s (done ++ (a ∷ [])) (part t u)
+  pub lines_more : {a : A} {u : List ℕ} → ReadAs t (p t) a u → Lines p s (done ++ (a ∷ [])) u
   unfolding up_to
-  lines_more z = rw take_rest (go d.fuel d.enough d.is)
+  lines_more {a} {u} r = go d.fuel d.enough d.is
     where
-      l : length (drop u t) ≡ length t - u
-      l = length-drop u t
-
-      place : length s - length t + u ≡ length s - length (drop u t)
-      place = omega (arith, l, r.within, d.shorter)
-
-      go : (n : ℕ) → length t ≤ n → many p s ≡ before done (up_to n p t) → Lines p s (done ++ (a ∷ [])) (drop u t)
-      go zero h e = absurd (omega (arith, r.within))
+      go : (n : ℕ) → length t ≤ n → many p s ≡ before done (up_to n p t) → Lines p s (done ++ (a ∷ [])) u
+      go zero h e = absurd (omega (arith, r.fewer))
       go (suc n) h e =
           record {
             fuel = n;
-            enough = omega (arith, l, r.within);
-            is = e ∙ ap (before done) (rw (up_to, r.stands z)) ∙ before_more done a (up_to n p (drop u t));
-            shorter = omega (arith, l, length-append done (a ∷ []), r.within, d.shorter);
-            part_is = ap (drop u) d.part_is ∙ drop-drop u (length s - length t) s ∙ ap (λ (k : ℕ). drop k s) place;
+            enough = omega (arith, r.fewer);
+            is = e ∙ ap (before done) (rw (up_to, r.stands)) ∙ before_more done a (up_to n p u);
+            shorter = omega (arith, length-append done (a ∷ []), r.fewer, d.shorter);
+            ends = ends_more d.ends (read_ends r);
           }
 
-  pub lines_fall : (u ≡ 0 → ⊥) → length (part t u) < length t
-  lines_fall z = rw (take_rest, length-drop) (omega (arith, r.within))
-
   -- no more lines
-  pub lines_all : u ≡ 0 → many p s ≡ reads done (drop (length s - length t) s)
-  lines_all z = d.is ∙ ap (before done) (up_to_fails p d.fuel t (r.absent z)) ∙ before_reads done t ∙ ap (reads done) d.part_is
+  pub lines_all : p t ≡ fails → many p s ≡ reads done (drop (length s - length t) s)
+  lines_all e = d.is ∙ ap (before done) (up_to_fails p d.fuel t e) ∙ before_reads done t ∙ ap (reads done) d.ends.is

@@ -1,7 +1,5 @@
 -- Readers: what stands at the front of a list of bytes, and the bytes that follow it.
-use Rattle.std.specs.Prelude.{ℕ, zero, suc, ◌+◌, ◌*◌, ◌-◌, ◌≤◌, ◌≡◌, List, [], ◌∷◌, Bool, true, false, cond, not, ◌&&◌, ◌||◌, length, drop, get_or, replicate, leb, eqb}
-use Rattle.laws.specs.Padded.{padded}
-use Rattle.text_read.specs.declared.Row.{Row}
+use Rattle.std.specs.Prelude.{ℕ, zero, suc, ◌+◌, ◌*◌, ◌-◌, ◌<◌, ◌≡◌, List, [], ◌∷◌, Bool, true, false, not, ◌&&◌, ◌||◌, Option, MatchOption, length, drop, get_or, leb, eqb}
 use Rattle.text_read.specs.Heads.{space, line_end}
 
 -- a form was read, with its value and the bytes that follow it; or it does not stand there
@@ -121,30 +119,22 @@ up_to (suc n) p s = elim (p s) [ fails ↦ reads [] s | reads a t ↦ more a (up
 unfoldable pub many : {A : Type 0} → Reader A → Reader (List A)
 many p s = up_to (length s) p s
 
--- What a function answers that reads at the front of s, where p is what stands there: the bytes used, 0 if it is not there, and its value.
-pub record ReadsFront {A : Type 0} (s : List ℕ) (p : Parsed A) (used : ℕ) (a : A) : Type 0 where
-  pub absent : used ≡ 0 → p ≡ fails
-  pub stands : (used ≡ 0 → ⊥) → p ≡ reads a (drop used s)
-  pub within : used ≤ length s
+-- n numbers behind one another, the first behind `head`, and each other behind a space
+unfoldable pub numbers : List ℕ → ℕ → Reader (List ℕ)
+numbers head zero = give []
+numbers head (suc n) = do
+  text head
+  v ← number
+  vs ← numbers space n
+  give (v ∷ vs)
 
--- where no row stands
-abbrev pub no_row : Row
-no_row = record { numbers = replicate 4 0; count = 0; used = 0 }
+-- What is read at the front of s, where p is what stands there: a, and the bytes `after` that follow it, which s ends with.
+pub record ReadAs {A : Type 0} (s : List ℕ) (p : Parsed A) (a : A) (after : List ℕ) : Type 0 where
+  pub stands : p ≡ reads a after
+  pub fewer : length after < length s
+  pub ends : after ≡ drop (length s - length after) s
 
--- What is answered of the rest of a line, whose numbers are `list`: of the rows of 1 to 4 numbers the one with as many stands there, and no
--- other; none, where the list is empty.
-pub record NumbersRead (s head : List ℕ) (r : Row) : Type 0 where
-  pub list : List ℕ
-  pub numbers_are : r.numbers ≡ padded 4 0 list
-  pub count_is : r.count ≡ length list
-  pub right : (n : ℕ) → 1 ≤ n → n ≤ 4 → ReadsFront s (row head n s) (cond (eqb n r.count) r.used 0) list
-  pub some : (r.used ≡ 0 → ⊥) → 1 ≤ r.count
-  pub none : r.used ≡ 0 → r ≡ no_row
-
--- What is answered of a row of n numbers, which are `list`; the list is empty where there is no such row.
-pub record RowRead (s head : List ℕ) (n : ℕ) (r : Row) : Type 0 where
-  pub list : List ℕ
-  pub numbers_are : r.numbers ≡ padded 4 0 list
-  pub count_is : r.count ≡ length list
-  pub right : ReadsFront s (row head n s) r.used list
-  pub none : r.used ≡ 0 → r ≡ no_row
+-- What a function answers that reads at the front of s, where p is what stands there: nothing, if it is not there, and else its value and the
+-- bytes that follow it.
+abbrev pub ReadsFront : {A X : Type 0} → List ℕ → Parsed A → Option X → (X → A) → (X → List ℕ) → Type 0
+ReadsFront s p r value after = MatchOption r (p ≡ fails) (λ x. ReadAs s p (value x) (after x))

@@ -1,151 +1,108 @@
-// Readers of text. Each reads what stands at the front of `rest`, and answers how many bytes it takes: 0 if it is not there.
+// Readers of text. Each reads what stands at the front of `rest`, and answers its value and the bytes that follow it; `None`, if it is not there.
 #![tactic(auto)]
 
 pub mod heads;
 
-ghost use Rattle.std.specs.Prelude.{◌<◌, ◌≤◌, ◌≡◌, length, take};
-ghost use Rattle.text_read.specs.Reader.{digit, word_byte, text, number, word, ReadsFront, no_row, NumbersRead, RowRead};
+ghost use Rattle.std.specs.Prelude.{◌≡◌, ◌<◌, length};
+ghost use Rattle.std.specs.List.{prefix_len};
+ghost use Rattle.text_read.specs.Reader.{plain, short, word_byte, text, number, word, numbers, row, ReadsFront};
 
-#[derive(Clone, Copy)]
-pub struct Number {
-    pub value: u32,
-    pub used: usize,
-}
-
-// The first `count` places of `numbers` hold the numbers of a row; the others are 0.
-#[derive(Clone, Copy)]
-pub struct Row {
-    pub numbers: [u32; 4],
-    pub count: usize,
-    pub used: usize,
-}
-
-// The bytes of `head`.
-pub fn read_text(rest: &[u8], head: &[u8]) -> usize
+// What follows the bytes of `head`.
+pub fn read_text<'a>(rest: &'a [u8], head: &[u8]) -> Option<&'a [u8]>
     requires { 0 < length head.now }
-    ensures { ReadsFront rest.now (text head.now rest.now) result tt }
+    ensures { ReadsFront rest.now (text head.now rest.now) result (λ after. tt) (λ after. after.now) }
 {
-    let mut i = 0;
-    while i < head.len() {
-        if rest.len() <= i {
-            return 0;
-        }
-        if rest[i] != head[i] {
-            return 0;
-        }
-        i += 1;
-    }
-    i
+    rest.strip_prefix(head)
 }
 
-fn is_digit(b: u8) -> bool
-    ensures { result ≡ digit b }
+fn is_plain(digits: &[u8]) -> bool
+    ensures { result ≡ plain digits.now }
 {
-    (b'0' <= b) & (b <= b'9')
+    1 <= digits.len() && digits.len() <= 7 && (digits.len() <= 1 || digits[0] != b'0')
+}
+
+// A number of 1 to 7 digits without a needless leading 0. One pass reads the digits and their value: a pass for each was slower.
+fn read_number(rest: &[u8]) -> Option<(u32, &[u8])>
+    ensures { ReadsFront rest.now (number rest.now) result (λ r. r.0) (λ r. r.1.now) }
+{
+    let mut value: u32 = 0;
+    let mut length = 0;
+    for b in rest {
+        if !b.is_ascii_digit() {
+            break;
+        }
+        if length == 8 {
+            break;
+        }
+        value = value * 10 + u32::from(*b - b'0');
+        length += 1;
+    }
+    let (digits, after) = rest.split_at(length);
+    if is_plain(digits) {
+        Some((value, after))
+    } else {
+        None
+    }
 }
 
 fn is_word_byte(b: u8) -> bool
     ensures { result ≡ word_byte b }
 {
-    ((b'0' <= b) & (b <= b'9')) | ((b'a' <= b) & (b <= b'z'))
+    b.is_ascii_digit() | b.is_ascii_lowercase()
 }
 
-// A number of 1 to 7 digits without a needless leading 0.
-fn read_number(rest: &[u8]) -> Number
-    ensures { ReadsFront rest.now (number rest.now) result.used result.value }
+fn count_word_bytes(rest: &[u8]) -> usize
+    ensures { result ≡ prefix_len word_byte rest.now }
 {
-    let mut value: u32 = 0;
-    let mut i: usize = 0;
-    while i < rest.len() {
-        let b = rest[i];
-        if !is_digit(b) {
-            break;
-        }
-        if i == 7 {
-            return Number { value: 0, used: 0 };
-        }
-        value = value * 10 + ((b - b'0') as u32);
-        i += 1;
-    }
-    if 1 < i {
-        if rest[0] == b'0' {
-            return Number { value: 0, used: 0 };
-        }
-    }
-    Number { value, used: i }
+    rest.iter().take_while(|b| is_word_byte(**b)).count()
+}
+
+fn is_short(word: &[u8]) -> bool
+    ensures { result ≡ short word.now }
+{
+    1 <= word.len() && word.len() <= 16
 }
 
 // A word of 1 to 16 letters and digits.
-pub fn read_word(rest: &[u8]) -> usize
-    ensures { ReadsFront rest.now (word rest.now) result (take result rest.now) }
+pub fn read_word(rest: &[u8]) -> Option<(&[u8], &[u8])>
+    ensures { ReadsFront rest.now (word rest.now) result (λ r. r.0.now) (λ r. r.1.now) }
 {
-    let mut i: usize = 0;
-    while i < rest.len() {
-        if !is_word_byte(rest[i]) {
-            break;
-        }
-        if i == 16 {
-            return 0;
-        }
-        i += 1;
-    }
-    i
-}
-
-fn no_row() -> Row
-    ensures { result ≡ no_row }
-{
-    Row {
-        numbers: [0u32; 4],
-        count: 0,
-        used: 0,
+    let (word, after) = rest.split_at(count_word_bytes(rest));
+    if is_short(word) {
+        Some((word, after))
+    } else {
+        None
     }
 }
 
-// The rest of a line from `head` on, with 1 to 4 numbers.
-pub fn read_numbers(rest: &[u8], head: &[u8]) -> Row
-    requires { 0 < length head.now }
-    ensures { NumbersRead rest.now head.now result }
+// N numbers, the first behind `head`, and each other behind a space.
+pub fn read_numbers<'a, const N: usize>(rest: &'a [u8], head: &[u8]) -> Option<([u32; N], &'a [u8])>
+    requires some { 0 < N }
+    requires head { 0 < length head.now }
+    ensures { ReadsFront rest.now (numbers head.now N rest.now) result (λ r. r.0) (λ r. r.1.now) }
 {
-    let mut at = read_text(rest, head);
-    if at == 0 {
-        return no_row();
+    let mut values = [0u32; N];
+    let mut after = rest;
+    let mut before = head;
+    for value in values.iter_mut() {
+        let (number, left) = read_number(read_text(after, before)?)?;
+        *value = number;
+        after = left;
+        before = &heads::SPACE;
     }
-    let mut numbers = [0u32; 4];
-    let mut count: usize = 0;
-    while count < 4 {
-        let v = read_number(&rest[at..]);
-        if v.used == 0 {
-            return no_row();
-        }
-        at += v.used;
-        numbers[count] = v.value;
-        count += 1;
-        let end = read_text(&rest[at..], &heads::LINE_END);
-        if end != 0 {
-            return Row {
-                numbers,
-                count,
-                used: at + end,
-            };
-        }
-        let space = read_text(&rest[at..], &heads::SPACE);
-        if space == 0 {
-            return no_row();
-        }
-        at += space;
-    }
-    no_row()
+    Some((values, after))
 }
 
-// The rest of a line from `head` on, with n numbers.
-pub fn read_row(rest: &[u8], head: &[u8], n: usize) -> Row
-    requires { (1 ≤ n) × (n ≤ 4) × (0 < length head.now) }
-    ensures { RowRead rest.now head.now n result }
+// The rest of a line from `head` on, with N numbers.
+pub fn read_row<'a, const N: usize>(rest: &'a [u8], head: &[u8]) -> Option<([u32; N], &'a [u8])>
+    requires some { 0 < N }
+    requires head { 0 < length head.now }
+    ensures { ReadsFront rest.now (row head.now N rest.now) result (λ r. r.0) (λ r. r.1.now) }
 {
-    let r = read_numbers(rest, head);
-    if r.count == n {
-        return r;
-    }
-    no_row()
+    let Some(read) = read_numbers::<N>(rest, head) else {
+        return None;
+    };
+    let row = read.0;
+    let after = read_text(read.1, &heads::LINE_END)?;
+    Some((row, after))
 }

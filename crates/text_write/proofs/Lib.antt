@@ -1,2 +1,3 @@
 pub mod Decimal
 mod Examples
+pub mod Writing

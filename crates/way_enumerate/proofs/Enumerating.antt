@@ -6,12 +6,13 @@ use mathlib.Core.Logic.{◌↔◌}
 use mathlib.Core.Option.{Option, none, some}
 use Prim.Native.Nat.{ℕ, ◌≤◌}
 use native.Mathlib.Omega.{arith}
-use lib.ListN.{length, take, length-take}
+use lib.ListN.{length, take, length-map}
 use Rattle.laws.specs.Padded.{padded}
 use Rattle.laws.specs.Members.{none_some}
 use Rattle.laws.specs.Image.{map_option}
 use Rattle.net_model.specs.Network.{WellFormed, IsFlow, LeastCost, cost_of}
 use Rattle.net_model.specs.Struct.{net_in, Sound}
+use Rattle.net_model.specs.declared.Arc.{Arc}
 use Rattle.net_model.specs.declared.Network.{Network}
 use Rattle.net_model.proofs.Struct.{struct_of_lem}
 use Rattle.flow_least.specs.Answers.{LeastIf}
@@ -31,8 +32,8 @@ use Rattle.way_theory.proofs.Arcs.{well_formed}
 use Rattle.way_theory.proofs.WayBack.{way_back}
 use Rattle.way_theory.proofs.Matched.{flow_back}
 use Rattle.way_network.proofs.Made.{made_net, made_sound}
-use Rattle.way_network.specs.Held.{Holds, Held}
-use Rattle.way_network.specs.Arrays.{IsNetworkOf}
+use Rattle.book_form.specs.Held.{Holds, Held}
+use Rattle.way_network.specs.Network.{IsNetworkOf}
 use Rattle.way_flow.specs.Arcs.{ArcEnds, HasEnds, HasFlow, IsWayOf, IsFlowOf}
 use Rattle.way_flow.proofs.Lines.{ends_of, reads_flow, laid_flow, laid_least}
 use Rattle.way_enumerate.specs.declared.WayEnumerator.{WayEnumerator}
@@ -103,6 +104,14 @@ follows b s enumerates = go (item_of s.flows) refl
         ap (λ N. map_option (way_of b) (flows.item_after N (some f))) (net_of_book b s enumerates)
         ∙ next_read b f (subst (λ N. LeastCost N f) (net_of_book b s enumerates) (on_least s.flows enumerates.stands f e))
 
+-- the table of a sound network has room for its arcs
+module _ (net : Network) (ok : Sound net) where
+  pub table_held : net.arcs ≡ length (take net.arcs net.table)
+  table_held = ok.arcs_held ∙ length-map (take net.arcs net.table) (λ (a : Arc). a.tail)
+
+  pub few_arcs : net.arcs ≤ 512
+  few_arcs = omega (arith, ok.arcs_held, ok.accepted.few_arcs)
+
 -- an enumerator of the network made of a checked book
 module _ (k : CheckedBook) (N : Network) (makes : IsNetworkOf k N) where
   pub net_sound : Held k → Sound N
@@ -111,29 +120,29 @@ module _ (k : CheckedBook) (N : Network) (makes : IsNetworkOf k N) where
   count_is : (b : Book) → Holds b k → k.count ≡ size b
   count_is b h = ap (λ (c : CheckedBook). c.count) h.is
 
-  made_ends : (b : Book) → Holds b k → ArcEnds b k.count (take N.arcs N.tails) (take N.arcs N.heads)
+  made_ends : (b : Book) → Holds b k → ArcEnds b k.count (take N.arcs N.table)
   made_ends b h = rw (count_is b h) (ends_of b h.limits N (made_net b k h N makes))
 
-  pub net_ends : Held k → HasEnds k.count k.players (take N.arcs N.tails) (take N.arcs N.heads)
+  pub net_ends : Held k → HasEnds k.count k.players (take N.arcs N.table)
   net_ends h = record { book = h.book; ends = made_ends h.book h.holds; players_are = ap (λ (c : CheckedBook). c.players) h.holds.is }
 
   -- `flow` is what `flow_of` lays for the list w
   module _ (b : Book) (h : Holds b k) (w flow : List ℕ) (len : length w ≡ k.count)
-      (lays : IsFlowOf k.count k.players (take N.arcs N.tails) (take N.arcs N.heads) w flow) where
-    held : N.arcs ≡ length (take N.arcs N.tails)
-    held = (made_sound b k h N makes).arcs_held
+      (lays : IsFlowOf k.count k.players (take N.arcs N.table) w flow) where
+    held : N.arcs ≡ length (take N.arcs N.table)
+    held = table_held N (made_sound b k h N makes)
 
-    lays_it : IsFlowOf k.count b.players (take N.arcs N.tails) (take N.arcs N.heads) w flow
-    lays_it = subst (λ p. IsFlowOf k.count p (take N.arcs N.tails) (take N.arcs N.heads) w flow) (ap (λ (c : CheckedBook). c.players) h.is) lays
+    lays_it : IsFlowOf k.count b.players (take N.arcs N.table) w flow
+    lays_it = subst (λ p. IsFlowOf k.count p (take N.arcs N.table) w flow) (ap (λ (c : CheckedBook). c.players) h.is) lays
 
     laid : take N.arcs flow ≡ flow_of b w
-    laid = ap (λ n. take n flow) held ∙ laid_flow b k.count _ _ (made_ends b h) w flow len lays_it
+    laid = ap (λ n. take n flow) held ∙ laid_flow b k.count _ (made_ends b h) w flow len lays_it
 
     -- question 18 of w is question 8 of its flow
     least : LeastCost (net_in N) (take N.arcs flow) ↔ LeastCostWay b w
     least =
         rw (made_net b k h N makes)
-        (subst (λ n. LeastCost (book_net b) (take n flow) ↔ LeastCostWay b w) (sym held) (laid_least b k.count _ _ (made_ends b h) w flow len lays_it))
+        (subst (λ n. LeastCost (book_net b) (take n flow) ↔ LeastCostWay b w) (sym held) (laid_least b k.count _ (made_ends b h) w flow len lays_it))
 
     pub tested : (r : Bool) → LeastIf (net_in N) (take N.arcs flow) r → LeastWayIf b w r
     tested true l = least.0 l
@@ -154,7 +163,7 @@ module _ (k : CheckedBook) (N : Network) (makes : IsNetworkOf k N) where
 
     -- on the way w, if it is a least-cost way
     pub resumes : (w flow : List ℕ) → length w ≡ k.count
-        → IsFlowOf k.count k.players (take N.arcs N.tails) (take N.arcs N.heads) w flow
+        → IsFlowOf k.count k.players (take N.arcs N.table) w flow
         → flows.Resumes (net_in N) (take N.arcs flow) r → ResumesIn b w (record { flows = r; entries = k.count })
     resumes w flow len lays step = record { on = on; off = off }
       where
@@ -170,31 +179,14 @@ module _ (k : CheckedBook) (N : Network) (makes : IsNetworkOf k N) where
             subst (λ v. At b Start (some v) (record { flows = r; entries = k.count })) (ap (way_of b) (laid b h w flow len lays) ∙ way_back b w l.way)
             (at_way b (record { flows = r; entries = k.count }) enumerates Start (some (take N.arcs flow)) (step.item_is ∙ e) (step.place_is ∙ ap (place_after Start) e))
 
--- a sound network's arrays have room for its arcs
-module _ (net : Network) (ok : Sound net) where
-  room : {A : Type 0} (l : List A) → length (take net.arcs l) ≡ net.arcs → net.arcs ≤ length l
-  room l e = omega (arith, length-take net.arcs l)
-
-  pub few_arcs : net.arcs ≤ 512
-  few_arcs = omega (arith, ok.arcs_held, ok.accepted.few_arcs)
-
-  pub in_tails : net.arcs ≤ length net.tails
-  in_tails = room net.tails (sym ok.arcs_held)
-
-  pub heads_held : net.arcs ≡ length (take net.arcs net.heads)
-  heads_held = ok.arcs_held ∙ sym ok.accepted.well_formed.heads_len
-
-  pub in_heads : net.arcs ≤ length net.heads
-  in_heads = room net.heads (sym heads_held)
-
-ends : (b : Book) (s : WayEnumerator) → Enumerates b s → ArcEnds b s.entries (take s.flows.net.arcs s.flows.net.tails) (take s.flows.net.arcs s.flows.net.heads)
+ends : (b : Book) (s : WayEnumerator) → Enumerates b s → ArcEnds b s.entries (take s.flows.net.arcs s.flows.net.table)
 ends b s h = rw h.entries_are (ends_of b h.limits s.flows.net (net_of_book b s h))
 
 -- the item that it stands on is a flow of the book's network
 pub on_flow : (b : Book) (s : WayEnumerator) → Enumerates b s → s.flows.place ≡ Item → IsFlow (book_net b) (state_flow s.flows)
 on_flow b s h on = (subst (λ N. LeastCost N (state_flow s.flows)) (net_of_book b s h) (on_least s.flows h.stands (state_flow s.flows) (ap (λ p. item_at p (state_flow s.flows)) on))).flow
 
-pub has_flow : (s : WayEnumerator) → EnumeratesSome s → s.flows.place ≡ Item → HasFlow s.entries (take s.flows.net.arcs s.flows.net.tails) (take s.flows.net.arcs s.flows.net.heads) (state_flow s.flows)
+pub has_flow : (s : WayEnumerator) → EnumeratesSome s → s.flows.place ≡ Item → HasFlow s.entries (take s.flows.net.arcs s.flows.net.table) (state_flow s.flows)
 has_flow s h on =
     let b = h.book in
     let (way, is) = flow_back b (state_flow s.flows) (on_flow b s h.enumerates on) in
@@ -202,11 +194,11 @@ has_flow s h on =
 
 -- the way read off the item is the way that the enumerator stands on
 pub tells : (s : WayEnumerator) (r : List ℕ) → s.flows.place ≡ Item
-    → IsWayOf s.entries (take s.flows.net.arcs s.flows.net.tails) (take s.flows.net.arcs s.flows.net.heads) (state_flow s.flows) r → Tells s r
+    → IsWayOf s.entries (take s.flows.net.arcs s.flows.net.table) (state_flow s.flows) r → Tells s r
 tells s r on reads = record { each = go }
   where
     go : (b : Book) → Enumerates b s → (w : List ℕ) → way_at b s ≡ some w → r ≡ padded 28 0 w
     go b h w e =
         let q : some (way_of b (state_flow s.flows)) ≡ some w = sym (ap (λ p. map_option (way_of b) (item_at p (state_flow s.flows))) on) ∙ e in
         let k : way_of b (state_flow s.flows) ≡ w = cc in
-        reads_flow b s.entries _ _ (ends b s h) (state_flow s.flows) r reads (on_flow b s h on) ∙ ap (padded 28 0) k
+        reads_flow b s.entries _ (ends b s h) (state_flow s.flows) r reads (on_flow b s h on) ∙ ap (padded 28 0) k

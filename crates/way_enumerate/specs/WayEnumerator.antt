@@ -16,7 +16,7 @@ use Rattle.way_theory.specs.Ways.{way_cost, LeastCostWay}
 use Rattle.way_theory.specs.FullWays.{next_way, count_ways}
 use Rattle.way_theory.specs.BookNet.{book_net}
 use Rattle.way_theory.specs.WayFlow.{way_of}
-use Rattle.way_network.specs.Held.{Holds}
+use Rattle.book_form.specs.Held.{Holds}
 use Rattle.way_enumerate.specs.declared.WayEnumerator.{WayEnumerator}
 
 -- s enumerates the ways of b, by the network of b

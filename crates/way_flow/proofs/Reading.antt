@@ -1,34 +1,47 @@
 -- A way read off the arcs that carry 1, one arc after another.
 use mathlib.Core.Path.{◌≡◌, refl, sym, ap, ap₂, subst, ◌∙◌}
 use mathlib.Core.Logic.{inl, inr}
-use mathlib.Core.Bool.{cond}
+use mathlib.Core.Bool.{Bool, true, false, cond}
 use mathlib.Core.List.{List, [], ◌∷◌, ◌++◌, map}
 use Prim.Native.Nat.{ℕ, zero, suc, ◌+◌, ◌*◌, ◌-◌, ◌/◌, ◌≤◌, ◌<◌}
 use native.Mathlib.Omega.{arith}
 use native.Mathlib.Nat.{suc_inj}
 use native.Mathlib.Numerals.{add-one}
 use lib.Dec.{eqb}
-use lib.ListN.{length, get_or, set, drop, replicate, length-map, get_or-map, get_or-append}
-use lib.Seq.{drop-cons, sets, sets-eq}
+use borrow.Author.Tests.{eq-eqb, ne_eqb}
+use lib.ListN.{length, get_or, set, take, drop, replicate, length-set, length-map, get_or-map, get_or-append}
+use lib.Seq.{get_or-take, drop-cons, sets, sets-eq}
 use Rattle.laws.specs.Members.{◌∈◌, every_member, get_or_member}
 use Rattle.laws.specs.Ascending.{Ascending}
 use Rattle.laws.specs.Padded.{drop_replicate}
-use Rattle.net_model.specs.Network.{tail}
+use Rattle.net_model.specs.Struct.{blank_arc}
+use Rattle.net_model.specs.declared.Arc.{Arc}
 use Rattle.book_form.specs.Book.{Book}
 use Rattle.way_theory.specs.Follow.{size}
 use Rattle.way_theory.specs.Ways.{Joined}
-use Rattle.way_theory.specs.BookNet.{BookArc, sources, join_arc, join_arcs, book_arcs, book_net}
+use Rattle.way_theory.specs.BookNet.{BookArc, sources, join_arc, join_arcs, book_arcs}
 use Rattle.way_theory.specs.WayFlow.{one_if_same, marked, join_flow}
 use Rattle.way_theory.proofs.OneIfSame.{same_one, other_none, Above}
 use Rattle.way_theory.proofs.Blocks.{sources_fall, source, join_flow_length, joins_member}
 use Rattle.way_theory.proofs.Nodes.{no_book_arc, arcs_parts}
-use Rattle.way_theory.proofs.Arcs.{well_formed}
-use Rattle.way_theory.proofs.Size.{nodes_few}
 use Rattle.way_flow.specs.Arcs.{ArcEnds, IsWayOf}
 
 -- an arc from t to h with x, noted in y
 abbrev pub noted : ℕ → ℕ → ℕ → List ℕ → List ℕ
 noted t h x y = cond (eqb x 1) (set y ((h - 1) / 2) (t / 2)) y
+
+pub noted_one : (t h x : ℕ) (y z : List ℕ) → x ≡ 1 → z ≡ set y ((h - 1) / 2) (t / 2) → z ≡ noted t h x y
+noted_one t h x y z e q = rw (eq-eqb x 1 e) q
+
+pub noted_none : (t h x : ℕ) (y z : List ℕ) → ¬ (x ≡ 1) → z ≡ y → z ≡ noted t h x y
+noted_none t h x y z e q = rw (ne_eqb x 1 e) q
+
+pub noted_long : (t h x : ℕ) (y : List ℕ) → length (noted t h x y) ≡ length y
+noted_long t h x y = go (eqb x 1)
+  where
+    go : (b : Bool) → length (cond b (set y ((h - 1) / 2) (t / 2)) y) ≡ length y
+    go true = length-set y ((h - 1) / 2) (t / 2)
+    go false = refl
 
 -- the first n arcs noted
 abbrev pub read : ℕ → List ℕ → List ℕ → List ℕ → List ℕ → List ℕ
@@ -104,15 +117,18 @@ module _ (b : Book) where
       ∙ joins_read (suc j) w (read_arcs (map (join_arc b j) (sources b j)) (marked p (sources b j)) y) (omega arith) h.2
       ∙ ap₂ (λ i z. sets z i w) s (block_one j p (sources b j) y k (sources_fall b j) (source b j p h.0 h.1))
 
-module _ (e : ℕ) (tails heads : List ℕ) where
-  pub joins_count : (b : Book) → ArcEnds b e tails heads → length tails ≡ length (join_arcs b (size b) 1) + (2 * e + 1)
-  joins_count b h = ap length h.tails_are ∙ length-map (book_arcs b) (λ a. a.tail) ∙ arcs_parts b ∙ ap (λ n. length (join_arcs b (size b) 1) + (2 * n + 1)) (sym h.entries_are)
+module _ (e : ℕ) (held : List Arc) where
+  abbrev pub tails : List ℕ
+  tails = map (λ (a : Arc). a.tail) held
 
-  pub heads_count : (b : Book) → ArcEnds b e tails heads → length heads ≡ length tails
-  heads_count b h = ap length h.heads_are ∙ length-map (book_arcs b) (λ a. a.head) ∙ sym (ap length h.tails_are ∙ length-map (book_arcs b) (λ a. a.tail))
+  abbrev pub heads : List ℕ
+  heads = map (λ (a : Arc). a.head) held
+
+  pub joins_count : (b : Book) → ArcEnds b e held → length held ≡ length (join_arcs b (size b) 1) + (2 * e + 1)
+  joins_count b h = sym (length-map held (λ (a : Arc). a.tail)) ∙ ap length h.tails_are ∙ length-map (book_arcs b) (λ a. a.tail) ∙ arcs_parts b ∙ ap (λ n. length (join_arcs b (size b) 1) + (2 * n + 1)) (sym h.entries_are)
 
   -- a join ends at the first node of an entry
-  pub head_at : (b : Book) → ArcEnds b e tails heads → (k : ℕ) → k < length tails - (2 * e + 1) → (1 ≤ get_or heads k 0) × ((get_or heads k 0 - 1) / 2 < e)
+  pub head_at : (b : Book) → ArcEnds b e held → (k : ℕ) → k < length held - (2 * e + 1) → (1 ≤ get_or heads k 0) × ((get_or heads k 0 - 1) / 2 < e)
   head_at b h k l =
       let n : k < length (join_arcs b (size b) 1) = omega (arith, joins_count b h) in
       let (i, j, s, t, u, q) = joins_member b (size b) 1 (get_or (join_arcs b (size b) 1) k no_book_arc) (get_or_member (join_arcs b (size b) 1) k no_book_arc n) in
@@ -120,13 +136,14 @@ module _ (e : ℕ) (tails heads : List ℕ) where
       ap (λ l. get_or l k 0) h.heads_are ∙ get_or-map (λ a. a.head) (book_arcs b) k no_book_arc ∙ ap (λ a. a.head) (get_or-append (join_arcs b (size b) 1) _ no_book_arc k n ∙ q) in
       omega (arith, h.entries_are)
 
-  pub tail_at : (b : Book) → ArcEnds b e tails heads → (k : ℕ) → k < length tails → get_or tails k 0 ≤ 57
-  tail_at b h k l =
-      let t = (well_formed b).tail_in k (omega (arith, ap length h.tails_are)) in
-      let x : get_or tails k 0 ≡ tail (book_net b) k = ap (λ l. get_or l k 0) h.tails_are in
-      omega (arith, nodes_few b h.limits)
+  -- arc k, of the first n of them
+  pub tail_is : (n k : ℕ) → k < n → (get_or (take n held) k blank_arc).tail ≡ get_or tails k 0
+  tail_is n k l = ap (λ (a : Arc). a.tail) (get_or-take n held k blank_arc l) ∙ sym (get_or-map (λ (a : Arc). a.tail) held k blank_arc)
 
-  pub reads_way : (flow way : List ℕ) (n : ℕ) → n ≡ length tails - (2 * e + 1) → way ≡ read n tails heads flow (replicate 28 0) → IsWayOf e tails heads flow way
+  pub head_is : (n k : ℕ) → k < n → (get_or (take n held) k blank_arc).head ≡ get_or heads k 0
+  head_is n k l = ap (λ (a : Arc). a.head) (get_or-take n held k blank_arc l) ∙ sym (get_or-map (λ (a : Arc). a.head) held k blank_arc)
+
+  pub reads_way : (flow way : List ℕ) (n : ℕ) → n ≡ length held - (2 * e + 1) → way ≡ read n tails heads flow (replicate 28 0) → IsWayOf e held flow way
   reads_way flow way n c q = record {
     each = λ b h w v f.
         (let len = v.all_entries in

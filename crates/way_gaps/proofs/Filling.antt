@@ -1,57 +1,72 @@
--- The arrays filled, entry after entry in book order; and what they hold of an entry.
-use mathlib.Core.Path.{◌≡◌, refl, ap, sym, ◌∙◌}
+-- The array filled, entry after entry in book order; and what it holds of an entry.
+use mathlib.Core.Path.{◌≡◌, refl, ap, ap₂, sym, ◌∙◌}
+use mathlib.Core.Option.{Option as Maybe, none, some}
 use mathlib.Core.List.{List, map, map-id}
 use Prim.Native.Nat.{ℕ, zero, suc, ◌+◌, ◌-◌, ◌≤◌, ◌<◌}
 use native.Mathlib.Omega.{arith}
-use lib.ListN.{length, get_or, set, replicate}
+use lib.ListN.{length, get_or, set}
+use lib.IntN.{ℤ}
+use Rattle.std.specs.Prelude.{Option}
+use Rattle.laws.specs.Optional.{optional}
 use Rattle.laws.specs.Rows.{from_length, row_at}
-use Rattle.laws.specs.Padded.{padded, padded_at, filled, filled_more, filled_all}
-use Rattle.book_lines.specs.Lines.{Entry}
-use Rattle.book_lines.specs.Columns.{column, nobody}
+use Rattle.laws.specs.Padded.{padded_at, filled, filled_more, filled_all}
+use Rattle.book_lines.specs.declared.entries.BookEntry.{BookEntry}
 use Rattle.book_form.specs.Book.{Book}
-use Rattle.book_form.proofs.Judging.{column_at}
-use Rattle.way_theory.specs.Follow.{size, entry_at}
+use Rattle.book_form.specs.declared.CheckedBook.{CheckedBook}
+use Rattle.way_theory.specs.Follow.{size, spare, ticks_in}
 use Rattle.way_theory.specs.FullWays.{numbers}
-use Rattle.way_joins.specs.Tables.{Timing, TimingOf, HasTiming}
-use Rattle.way_joins.proofs.Counts.{timing_count}
+use Rattle.way_joins.specs.Tables.{TimingOf, HasTiming}
+use Rattle.way_joins.specs.Joins.{Spares}
+use Rattle.way_joins.proofs.Lookup as joins
 use Rattle.way_parts.specs.Acyclic.{Acyclic}
 use Rattle.way_parts.proofs.Ranks.{way_acyclic}
 use Rattle.way_gaps.specs.declared.JoinTicks.{JoinTicks}
-use Rattle.way_gaps.specs.Gaps.{gap_to, gap_before, spare_before, JoinTicksOf, gap_by, SparesTo, HasWay, TellsTicks}
+use Rattle.way_gaps.specs.Gaps.{gap_before, spare_before, ticks_before, no_ticks, ticks_told, JoinTicksOf, TicksTo, HasWay, TellsTicks}
 
-module _ (b : Book) (w : List ℕ) where
-  -- what the arrays hold of entry j
-  module _ (x : JoinTicks) (d : JoinTicksOf b w x) (j : ℕ) (h : 1 ≤ j) (k : j ≤ size b) where
-    at : (f : ℕ → ℕ) (l : List ℕ) → l ≡ padded 28 0 (map f (numbers b)) → get_or l (j - 1) 0 ≡ f j
-    at f l e =
-        ap (λ y. get_or y (j - 1) 0) e
-        ∙ padded_at 28 0 (map f (numbers b)) (j - 1)
-        ∙ row_at f (size b) 1 (j - 1) 0 (omega arith)
-        ∙ ap f (omega arith)
+-- what the array holds of entry j
+module _ (b : Book) (w : List ℕ) (x : List JoinTicks) (d : JoinTicksOf b w x) (j : ℕ) (h : 1 ≤ j) (k : j ≤ size b) where
+  pub ticks_at : get_or x (j - 1) no_ticks ≡ ticks_before b w j
+  ticks_at =
+      ap (λ (y : List JoinTicks). get_or y (j - 1) no_ticks) d
+      ∙ padded_at 28 no_ticks (map (ticks_before b w) (numbers b)) (j - 1)
+      ∙ row_at (ticks_before b w) (size b) 1 (j - 1) no_ticks (omega arith)
+      ∙ ap (ticks_before b w) (omega arith)
 
-    pub gap_at : get_or x.gaps (j - 1) 0 ≡ gap_before b w j
-    gap_at = at (gap_before b w) x.gaps d.gaps_are
+  pub gap_at : (get_or x (j - 1) no_ticks).gap ≡ gap_before b w j
+  gap_at = ap (λ (t : JoinTicks). t.gap) ticks_at
 
-    pub spare_at_lem : get_or x.spares (j - 1) 0 ≡ spare_before b w j
-    spare_at_lem = at (spare_before b w) x.spares d.spares_are
+  pub spare_at_lem : (get_or x (j - 1) no_ticks).spare ≡ spare_before b w j
+  spare_at_lem = ap (λ (t : JoinTicks). t.spare) ticks_at
+
+told_in : (o : Maybe ℤ) → ticks_told (optional o) ≡ ticks_in o
+told_in none = refl
+told_in (some z) = refl
+
+-- where there is a join, the gap and the spare by what a checked book has
+module _ {c : CheckedBook} where
+  pub ticks_found : (i j : ℕ) → 1 ≤ i → i ≤ c.count → 1 ≤ j → j ≤ c.count → (g : ℕ) → g ≡ (joins.kept_at c j).start - (joins.kept_at c i).finish
+      → (z : Option ℤ) → Spares c i j z → (t : ℕ) → t ≡ ticks_told z → TicksTo c i j (record { gap = g; spare = t })
+  ticks_found zero j a b p q g e z s t f = absurd (omega arith)
+  ticks_found (suc i) j a b p q g e z s t f = record {
+    each = λ book h. ap₂ (λ g t. (let r : JoinTicks = record { gap = g; spare = t } in r))
+        (e ∙ ap₂ ◌-◌ (ap (λ (e : BookEntry). e.start) (joins.entry_is h j p q)) (ap (λ (e : BookEntry). e.finish) (joins.entry_is h (suc i) a b)))
+        (f ∙ ap ticks_told (s.each book h) ∙ told_in (spare book (suc i) j));
+  }
 
 -- those of the first k entries are written
-pub record Filled (t : Timing) (w gaps spares : List ℕ) (k : ℕ) : Type 0 where
-  pub each : (b : Book) → TimingOf b t → (gaps ≡ filled (gap_before b w) (numbers b) 28 0 k) × (spares ≡ filled (spare_before b w) (numbers b) 28 0 k)
+pub record Filled (c : CheckedBook) (w : List ℕ) (x : List JoinTicks) (k : ℕ) : Type 0 where
+  pub each : (b : Book) → TimingOf b c → x ≡ filled (ticks_before b w) (numbers b) 28 no_ticks k
   pub some : k ≤ length w
 
-pub fill_none : (t : Timing) (w : List ℕ) → Filled t w (replicate 28 0) (replicate 28 0) 0
-fill_none t w = record { each = λ b T. (refl, refl); some = omega arith }
-
-module _ (t : Timing) (w : List ℕ) (has : HasWay t w) where
-  pub has_timing : HasTiming t
+module _ {c : CheckedBook} {w : List ℕ} (has : HasWay c w) where
+  pub has_timing : HasTiming c
   has_timing = record { book = has.book; timing = has.timing }
 
   acyclic : Acyclic w
   acyclic = way_acyclic has.book has.timing.limits w has.way
 
-  pub count_is : t.count ≡ length w
-  count_is = timing_count has.book t has.timing ∙ sym has.way.all_entries
+  pub count_is : c.count ≡ length w
+  count_is = joins.count_is has.timing ∙ sym has.way.all_entries
 
   pub few : length w ≤ 28
   few = acyclic.few
@@ -61,42 +76,21 @@ module _ (t : Timing) (w : List ℕ) (has : HasWay t w) where
       let e : k + 1 - 1 ≡ k = omega arith in
       rw e at (acyclic.inside (k + 1) (omega arith) (omega arith))
 
-  module _ (b : Book) (T : TimingOf b t) where
-    as_long : size b ≡ length w
-    as_long = sym (timing_count b t T) ∙ count_is
-
-    at_entry : (j : ℕ) → 1 ≤ j → j ≤ length w → (f : Entry → ℕ) (l : List ℕ) → l ≡ column f b.entries → get_or l (j - 1) 0 ≡ f (entry_at b j)
-    at_entry j h k f l e = ap (λ y. get_or y (j - 1) 0) e ∙ column_at f b.entries (j - 1) (omega (arith, as_long))
-
-    gap_by_lem : (i j : ℕ) → 1 ≤ j → j ≤ length w → i ≤ length w → gap_by t.finishes i (get_or t.starts (j - 1) 0) ≡ gap_to b i j
-    gap_by_lem zero j h k l = refl
-    gap_by_lem (suc i) j h k l =
-        let e : suc i - 1 ≡ i = omega arith in
-        let f = rw e at (at_entry (suc i) (omega arith) l (λ e. e.finish) t.finishes (ap (λ (t : Timing). t.finishes) T.are)) in
-        let s = at_entry j h k (λ e. e.start) t.starts (ap (λ (t : Timing). t.starts) T.are) in
-        omega (arith, f, s, ap (λ m. (get_or b.entries m nobody).finish) e)
+  as_long : (b : Book) → TimingOf b c → length (numbers b) ≡ length w
+  as_long b h = from_length (size b) 1 ∙ sym (joins.count_is h) ∙ count_is
 
   -- one entry more
-  pub fill_more : {gaps spares : List ℕ} (k : ℕ) → k < length w → Filled t w gaps spares k → (spare : ℕ) → SparesTo t (get_or w k 0) (k + 1) spare
-      → (g : ℕ) → g ≡ gap_by t.finishes (get_or w k 0) (get_or t.starts k 0) → Filled t w (set gaps k g) (set spares k spare) (k + 1)
-  fill_more {gaps} {spares} k h d spare found g q = record { each = more; some = omega arith }
+  pub fill_more : {x : List JoinTicks} (k : ℕ) → k < length w → Filled c w x k → (t : JoinTicks) → TicksTo c (get_or w k 0) (k + 1) t → Filled c w (set x k t) (k + 1)
+  fill_more {x} k h d t found = record { each = more; some = omega arith }
     where
-      more : (b : Book) → TimingOf b t → (set gaps k g ≡ filled (gap_before b w) (numbers b) 28 0 (k + 1)) × (set spares k spare ≡ filled (spare_before b w) (numbers b) 28 0 (k + 1))
-      more b T =
+      more : (b : Book) → TimingOf b c → set x k t ≡ filled (ticks_before b w) (numbers b) 28 no_ticks (k + 1)
+      more b H =
           let same : k + 1 - 1 ≡ k = omega arith in
-          let entry : get_or (numbers b) k 0 ≡ k + 1 = ap (λ l. get_or l k 0) (sym (map-id (numbers b))) ∙ row_at (λ j. j) (size b) 1 k 0 (omega (arith, as_long b T)) ∙ omega arith in
-          let long : k < length (numbers b) = omega (arith, from_length (size b) 1, as_long b T) in
-          let (x, y) = d.each b T in (
-            filled_more (gap_before b w) (numbers b) 28 0 0 k gaps g x long (omega (arith, few)) (q ∙ rw (entry, same) (rw same at (gap_by_lem b T (get_or w k 0) (k + 1) (omega arith) (omega arith) (predecessor_inside k h)))),
-            filled_more (spare_before b w) (numbers b) 28 0 0 k spares spare y long (omega (arith, few)) (rw (entry, same) (found.each b T)),
-          )
+          let l = as_long b H in
+          let entry : get_or (numbers b) k 0 ≡ k + 1 =
+          ap (λ l. get_or l k 0) (sym (map-id (numbers b))) ∙ row_at (λ j. j) (size b) 1 k 0 (omega (arith, l, from_length (size b) 1)) ∙ omega arith in
+          filled_more (ticks_before b w) (numbers b) 28 no_ticks 0 k x t (d.each b H) (omega (arith, l)) (omega (arith, few)) (rw (entry, same) (found.each b H))
 
   -- after the last entry
-  pub fill_all : (x : JoinTicks) (k : ℕ) → length w ≤ k → Filled t w x.gaps x.spares k → TellsTicks t w x
-  fill_all x k h d = record { each = all }
-    where
-      all : (b : Book) → TimingOf b t → JoinTicksOf b w x
-      all b T =
-          let e : k ≡ length (numbers b) = omega (arith, from_length (size b) 1, as_long b T, d.some) in
-          let (p, q) = d.each b T in
-          record { gaps_are = p ∙ filled_all (gap_before b w) (numbers b) 28 0 k e; spares_are = q ∙ filled_all (spare_before b w) (numbers b) 28 0 k e }
+  pub fill_all : (x : List JoinTicks) (k : ℕ) → length w ≤ k → Filled c w x k → TellsTicks c w x
+  fill_all x k h d = record { each = λ b H. d.each b H ∙ filled_all (ticks_before b w) (numbers b) 28 no_ticks k (omega (arith, as_long b H, d.some)) }

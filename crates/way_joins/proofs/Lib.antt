@@ -1,3 +1,2 @@
-pub mod Counts
-mod Narrow
-mod Lookup
+pub mod Tables
+pub mod Lookup

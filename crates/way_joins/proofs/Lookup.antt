@@ -1,209 +1,181 @@
--- A spare and a join by the numbers of the tables are those of each book that the tables hold.
-use mathlib.Core.Path.{◌≡◌, refl, sym, ap, subst, ◌∙◌}
+-- What a checked book tells of its entries and of the moves between them, in each book that it has the timing of, or the tables.
+use mathlib.Core.Path.{◌≡◌, refl, sym, ap, ap₂, subst, ◌∙◌}
+use mathlib.Core.List.{List, map}
 use mathlib.Core.Bool.{Bool, true, false, cond}
-use mathlib.Core.Option.{Option, none, some}
-use mathlib.Core.List.{map}
-use Prim.Native.Nat.{ℕ, zero, suc, ◌+◌, ◌-◌, ◌≤◌}
+use mathlib.Core.Option.{Option as Maybe, none, some}
+use Prim.Native.Nat.{ℕ, zero, suc, ◌-◌, ◌≤◌}
 use native.Mathlib.Omega.{arith}
-use native.Mathlib.Numerals.{add-one}
 use lib.Dec.{eqb}
 use lib.IntN.{ℤ, pos}
 use lib.Signed.{le_z}
-use lib.ListN.{length, get_or, length-map}
+use lib.ListN.{get_or, get_or-map}
 use borrow.Author.Tests.{eq-eqb, ne_eqb}
-use Rattle.laws.specs.Padded.{padded_length}
-use Rattle.laws.specs.Tabulate.{tabulate_length}
+use Rattle.std.specs.Prelude.{Option, Some, None, option_map}
+use Rattle.laws.specs.Optional.{optional}
 use Rattle.book_lines.specs.declared.moves.Move.{Move}
-use Rattle.book_lines.specs.Lines.{Entry}
+use Rattle.book_lines.specs.declared.moves.PairMove.{PairMove}
+use Rattle.book_lines.specs.declared.entries.BookEntry.{BookEntry}
 use Rattle.book_lines.specs.Questions.{move_of}
-use Rattle.book_lines.specs.Columns.{place, value_of, table, column}
+use Rattle.book_lines.specs.Columns.{place, said, table, book_entry, blank_entry, entries_in}
 use Rattle.book_lines.proofs.Table.{Instruments, instruments_in, fair_parts, table_at}
+use Rattle.book_form.specs.declared.CheckedBook.{CheckedBook}
 use Rattle.book_form.specs.Book.{Book}
-use Rattle.book_form.specs.WithinLimits.{WithinLimits}
-use Rattle.book_form.proofs.Judging.{column_at}
-use Rattle.way_theory.specs.Follow.{size, entry_at, stay, without_line, line_or, link, spare_with, spare_by, spare, follow_cost}
+use Rattle.book_form.proofs.Judging.{entry_in}
+use Rattle.way_theory.specs.Follow.{size, entry_at, stay, without_line, line_or, link, road, spare_with, spare_by, spare, enough, follow_cost}
 use Rattle.way_theory.specs.Ways.{predecessor_cost}
+use Rattle.way_joins.specs.Tables.{ticks_of, cost_of, nameless, Timing, Tables, TimingOf, HasTiming}
+use Rattle.way_joins.specs.Joins.{Roads}
+use Rattle.way_joins.proofs.Tables.{tables_timing}
+use Rattle.laws.specs.Image.{map_option}
+use Rattle.std.proofs.lemmas.Option.{none-some, same_Some}
 use Rattle.way_theory.proofs.Fair.{FairEntry, fair_entry_lem}
-use Rattle.way_theory.proofs.Spare.{cost_in_time}
-use Rattle.way_joins.specs.declared.Spare.{Spare}
-use Rattle.way_joins.specs.declared.Spare.TheVariants.{NoMove, Ticks}
-use Rattle.way_joins.specs.declared.Join.TheVariants.{No, At}
-use Rattle.way_joins.specs.Tables.{Timing, TimingOf, Tables, tables_of, TablesOf}
-use Rattle.way_joins.specs.Joins.{spare_of, spare_told, join_of, join_if}
-use Rattle.way_joins.proofs.Counts.{timing_count, count_is}
 
--- the three ways through `spare_by`
-pub told_line : (a b t f s : ℕ) → ¬ (t ≡ 0) → Ticks (spare_with (t - 1) f s) ≡ spare_told a b t f s
-told_line a b zero f s n = absurd (n refl)
-told_line a b (suc t) f s n = let e : suc t - 1 ≡ t = omega arith in rw e
+-- what can be read of an entry
+pub record Readable (e : BookEntry) : Type 0 where
+  pub ends : Instruments e.arrives e.leaves
+  pub start_high : e.start ≤ 1000000
+  pub finish_high : e.finish ≤ 1000000
 
-pub told_stay : (a b t f s : ℕ) → t ≡ 0 → a ≡ b → Ticks (spare_with 0 f s) ≡ spare_told a b t f s
-told_stay a b t f s z e = rw (z, eq-eqb a b e)
+-- entry k of a checked book
+abbrev pub kept_at : CheckedBook → ℕ → BookEntry
+kept_at c k = get_or c.entries (k - 1) blank_entry
 
-pub told_none : (a b t f s : ℕ) → t ≡ 0 → ¬ (a ≡ b) → NoMove ≡ spare_told a b t f s
-told_none a b t f s z n = rw (z, ne_eqb a b n)
+module _ {b : Book} {c : CheckedBook} (h : TimingOf b c) where
+  pub count_is : c.count ≡ size b
+  count_is = ap (λ (t : Timing). t.count) h.are
 
-spare_told_lem : (a b f s : ℕ) (o : Option Move) → spare_told a b (value_of (λ m. m.ticks + 1) o) f s ≡ spare_of (spare_by (line_or o (without_line a b)) f s)
-spare_told_lem a b f s none = go (eqb a b)
-  where
-    go : (t : Bool) → cond t (Ticks (spare_with 0 f s)) NoMove ≡ spare_of (spare_by (cond t (some stay) none) f s)
-    go true = refl
-    go false = refl
-spare_told_lem a b f s (some m) = rw add-one refl
+  pub few : c.count ≤ 28
+  few = omega (arith, count_is, h.limits.few)
 
-join_with : (m : Move) (f s : ℕ) → join_if (Ticks (spare_with m.ticks f s)) m.cost ≡ join_of (cost_in_time (some m) f s)
-join_with m f s = go (le_z (pos 0) (spare_with m.ticks f s))
-  where
-    go : (t : Bool) → cond t (At m.cost) No ≡ join_of (cond t (some m.cost) none)
-    go true = refl
-    go false = refl
-
-join_told : (a b f s : ℕ) (o : Option Move) → join_if (spare_of (spare_by (line_or o (without_line a b)) f s)) (value_of (λ m. m.cost) o) ≡ join_of (cost_in_time (line_or o (without_line a b)) f s)
-join_told a b f s none = go (eqb a b)
-  where
-    go : (t : Bool) → join_if (spare_of (spare_by (cond t (some stay) none) f s)) 0 ≡ join_of (cost_in_time (cond t (some stay) none) f s)
-    go true = join_with stay f s
-    go false = refl
-join_told a b f s (some m) = join_with m f s
-
-value_of_high : (f : Move → ℕ) (B : ℕ) (o : Option Move) → ((m : Move) → o ≡ some m → f m ≤ B) → value_of f o ≤ B
-value_of_high f B none h = omega arith
-value_of_high f B (some m) h = h m refl
-
--- where the tables hold the move from entry i to entry j
-abbrev pub place_in : Timing → ℕ → ℕ → ℕ
-place_in t i j = place (get_or t.leaves (i - 1) 0) (get_or t.arrives (j - 1) 0)
-
--- the spare of the join from i to j, i not j, by the numbers in the tables
-abbrev pub spare_in : Timing → ℕ → ℕ → Spare
-spare_in t i j =
-    spare_told (get_or t.leaves (i - 1) 0) (get_or t.arrives (j - 1) 0) (get_or t.ticks (place_in t i j) 0) (get_or t.finishes (i - 1) 0) (get_or t.starts (j - 1) 0)
-
--- both instruments of entry k are some
-abbrev EndsIn : Timing → ℕ → Type 0
-EndsIn t k = Instruments (get_or t.arrives (k - 1) 0) (get_or t.leaves (k - 1) 0)
-
--- what can be read for it
-pub record CanRead (t : Timing) (i j : ℕ) : Type 0 where
-  pub i_small : i ≤ 28
-  pub j_small : j ≤ 28
-  pub ticks_all : length t.ticks ≡ 256
-  pub arrives_all : length t.arrives ≡ 28
-  pub leaves_all : length t.leaves ≡ 28
-  pub starts_all : length t.starts ≡ 28
-  pub finishes_all : length t.finishes ≡ 28
-  pub i_ends : EndsIn t i
-  pub j_ends : EndsIn t j
-  pub finish_in : get_or t.finishes (i - 1) 0 ≤ 1000000
-  pub start_in : get_or t.starts (j - 1) 0 ≤ 1000000
-  pub ticks_in_lem : (a b : ℕ) → Instruments a b → get_or t.ticks (place a b) 0 ≤ 1000001
-
-module _ (b : Book) (limits : WithinLimits b) where
-  column_long : (f : Entry → ℕ) → length (column f b.entries) ≡ 28
-  column_long f = padded_length 28 0 (map f b.entries) (omega (arith, length-map b.entries f, limits.few))
-
-  -- entry k
-  module _ (k : ℕ) (low : 1 ≤ k) (high : k ≤ size b) where
-    at : (f : Entry → ℕ) → get_or (column f b.entries) (k - 1) 0 ≡ f (entry_at b k)
-    at f = column_at f b.entries (k - 1) (omega arith)
+  module _ (k : ℕ) (low : 1 ≤ k) (high : k ≤ c.count) where
+    pub entry_is : nameless (kept_at c k) ≡ nameless (book_entry 0 (entry_at b k))
+    entry_is =
+        sym (get_or-map nameless c.entries (k - 1) blank_entry)
+        ∙ ap (λ (t : Timing). get_or t.entries (k - 1) blank_entry) h.are
+        ∙ get_or-map nameless (entries_in 0 b.entries) (k - 1) blank_entry
+        ∙ ap nameless (entry_in 0 b.entries (k - 1) blank_entry (omega (arith, count_is)))
 
     fair_at : FairEntry (entry_at b k)
-    fair_at = fair_entry_lem (entry_at b k) (limits.fair_entries (k - 1) (omega arith))
+    fair_at = fair_entry_lem (entry_at b k) (h.limits.fair_entries (k - 1) (omega (arith, count_is)))
 
-    ends_in : EndsIn (tables_of b).timing k
-    ends_in = rw (at (λ e. e.arrives), at (λ e. e.leaves)) (instruments_in _ _ fair_at.arrives_in fair_at.leaves_in)
+    readable : Readable (kept_at c k)
+    readable =
+        let f = fair_at in
+        let r : Readable (nameless (kept_at c k)) =
+        subst Readable (sym entry_is) (record { ends = instruments_in _ _ f.arrives_in f.leaves_in; start_high = omega (arith, f.ends_later, f.finish_high); finish_high = f.finish_high }) in
+        record { ends = r.ends; start_high = r.start_high; finish_high = r.finish_high }
 
-  ticks_small : (a c : ℕ) → Instruments a c → get_or (table (λ m. m.ticks + 1) b.moves) (place a c) 0 ≤ 1000001
-  ticks_small a c r =
-      rw (table_at a c r (λ m. m.ticks + 1) b.moves)
-      (value_of_high (λ m. m.ticks + 1) 1000001 (move_of b.moves a c) (λ m e. (let h = (fair_parts m (limits.fair_moves a c m e)).ticks_high in omega arith)))
+-- Of what the lines say: their ticks, or their costs.
+module _ (f : PairMove → ℕ) where
+  -- the line of two instruments
+  line_is : (ms : List Move) (moves : List (Option PairMove)) → map (option_map f) moves ≡ map (option_map f) (table ms) → (p q : ℕ) → Instruments p q
+      → option_map f (get_or moves (place p q) None) ≡ option_map f (option_map said (optional (move_of ms p q)))
+  line_is ms moves e p q r =
+      sym (get_or-map (option_map f) moves (place p q) None)
+      ∙ ap (λ l. get_or l (place p q) None) e
+      ∙ get_or-map (option_map f) (table ms) (place p q) None
+      ∙ ap (option_map f) (table_at p q r ms)
 
-module _ (b : Book) (limits : WithinLimits b) (i j : ℕ) (i-low : 1 ≤ i) (i-high : i ≤ size b) (j-low : 1 ≤ j) (j-high : j ≤ size b) where
-  can_read_book : CanRead (tables_of b).timing i j
-  can_read_book =
-      record {
-        i_small = omega (arith, limits.few);
-        j_small = omega (arith, limits.few);
-        ticks_all = tabulate_length 256 _;
-        arrives_all = column_long b limits (λ e. e.arrives);
-        leaves_all = column_long b limits (λ e. e.leaves);
-        starts_all = column_long b limits (λ e. e.start);
-        finishes_all = column_long b limits (λ e. e.finish);
-        i_ends = ends_in b limits i i-low i-high;
-        j_ends = ends_in b limits j j-low j-high;
-        finish_in = rw (at b limits i i-low i-high (λ e. e.finish)) (fair_at b limits i i-low i-high).finish_high;
-        start_in = rw (at b limits j j-low j-high (λ e. e.start)) (let f = fair_at b limits j j-low j-high in omega (arith, f.ends_later, f.finish_high));
-        ticks_in_lem = ticks_small b limits;
-      }
+-- How a player goes between two instruments, by what their line says.
+abbrev pub road_told : ℕ → ℕ → Option PairMove → Option PairMove
+road_told p q None = cond (eqb p q) (Some (said stay)) None
+road_told p q (Some m) = Some m
 
-  -- i ends on p, and j begins on q
-  abbrev p : ℕ
-  p = (entry_at b i).leaves
+pub told_stay : (p q : ℕ) (line : Option PairMove) → line ≡ None → p ≡ q → Some (record { ticks = 0; cost = 0 }) ≡ road_told p q line
+told_stay p q line e f = rw (e, eq-eqb p q f)
 
-  abbrev q : ℕ
-  q = (entry_at b j).arrives
+pub told_none : (p q : ℕ) (line : Option PairMove) → line ≡ None → ¬ (p ≡ q) → line ≡ road_told p q line
+told_none p q line e f = rw (e, ne_eqb p q f)
 
-  -- the columns at i and at j, and a table at the move from p to q
-  at_i : (f : Entry → ℕ) → get_or (column f b.entries) (i - 1) 0 ≡ f (entry_at b i)
-  at_i = at b limits i i-low i-high
+pub told_line : (p q : ℕ) (line : Option PairMove) {m : PairMove} → line ≡ Some m → line ≡ road_told p q line
+told_line p q line e = rw e
 
-  at_j : (f : Entry → ℕ) → get_or (column f b.entries) (j - 1) 0 ≡ f (entry_at b j)
-  at_j = at b limits j j-low j-high
+told_is : (f : PairMove → ℕ) (p q : ℕ) (line : Option PairMove) (o : Maybe Move) → option_map f line ≡ option_map f (option_map said (optional o))
+    → option_map f (road_told p q line) ≡ option_map f (option_map said (optional (line_or o (without_line p q))))
+told_is f p q None none e = go (eqb p q)
+  where
+    go : (t : Bool) → option_map f (cond t (Some (said stay)) None) ≡ option_map f (option_map said (optional (cond t (some stay) none)))
+    go true = refl
+    go false = refl
+told_is f p q None (some m) e = absurd (none-some _ e)
+told_is f p q (Some r) none e = absurd (none-some _ (sym e))
+told_is f p q (Some r) (some m) e = e
 
-  at_move : (f : Move → ℕ) → get_or (table f b.moves) (place p q) 0 ≡ value_of f (move_of b.moves p q)
-  at_move f = table_at p q (instruments_in p q (fair_at b limits i i-low i-high).leaves_in (fair_at b limits j j-low j-high).arrives_in) f b.moves
+module _ {b : Book} {c : CheckedBook} (h : TimingOf b c) (i j : ℕ) (i-low : 1 ≤ i) (i-high : i ≤ c.count) (j-low : 1 ≤ j) (j-high : j ≤ c.count) where
+  abbrev leaves : ℕ
+  leaves = (kept_at c i).leaves
 
-  spare_book : ¬ (i ≡ j) → spare_in (tables_of b).timing i j ≡ spare_of (spare b i j)
-  spare_book n =
-      rw (at_i (λ e. e.leaves), at_j (λ e. e.arrives), at_move (λ m. m.ticks + 1), at_i (λ e. e.finish), at_j (λ e. e.start), ne_eqb i j n)
-      (spare_told_lem p q (entry_at b i).finish (entry_at b j).start (move_of b.moves p q))
+  abbrev arrives : ℕ
+  arrives = (kept_at c j).arrives
 
-  cost_book : get_or (tables_of b).costs (place_in (tables_of b).timing i j) 0 ≡ value_of (λ m. m.cost) (move_of b.moves p q)
-  cost_book = rw (at_i (λ e. e.leaves), at_j (λ e. e.arrives)) (at_move (λ m. m.cost))
+  abbrev finish : ℕ
+  finish = (kept_at c i).finish
 
-  join_book : join_if (spare_of (spare b i j)) (get_or (tables_of b).costs (place_in (tables_of b).timing i j) 0) ≡ join_of (follow_cost b i j)
-  join_book = rw cost_book (go (eqb i j))
-    where
-      f : ℕ
-      f = (entry_at b i).finish
+  abbrev start : ℕ
+  start = (kept_at c j).start
 
-      s : ℕ
-      s = (entry_at b j).start
+  instruments : Instruments leaves arrives
+  instruments =
+      let p = (readable h i i-low i-high).ends in
+      let q = (readable h j j-low j-high).ends in
+      record { source_low = p.target_low; source_high = p.target_high; target_low = q.source_low; target_high = q.source_high }
 
-      go : (t : Bool) → join_if (spare_of (spare_by (cond t none (link b.moves p q)) f s)) (value_of (λ m. m.cost) (move_of b.moves p q)) ≡ join_of (cost_in_time (cond t none (link b.moves p q)) f s)
-      go true = refl
-      go false = join_told p q f s (move_of b.moves p q)
+  road_by : (f : PairMove → ℕ) → map (option_map f) c.moves ≡ map (option_map f) (table b.moves) → ¬ (i ≡ j) → (k : ℕ) → k ≡ place leaves arrives
+      → option_map f (road_told leaves arrives (get_or c.moves k None)) ≡ option_map f (option_map said (optional (road b i j)))
+  road_by f same n k e =
+      rw (e, ne_eqb i j n)
+      (told_is f leaves arrives _ (move_of b.moves leaves arrives) (line_is f b.moves c.moves same leaves arrives instruments)
+      ∙ ap (λ p. option_map f (option_map said (optional (link b.moves p arrives)))) (ap (λ (e : BookEntry). e.leaves) (entry_is h i i-low i-high))
+      ∙ ap (λ q. option_map f (option_map said (optional (link b.moves (entry_at b i).leaves q)))) (ap (λ (e : BookEntry). e.arrives) (entry_is h j j-low j-high)))
 
--- the same of what is lent, which is that of a book
-module _ (b : Book) (t : Timing) (T : TimingOf b t) (i j : ℕ) (i-low : 1 ≤ i) (i-high : i ≤ t.count) (j-low : 1 ≤ j) (j-high : j ≤ t.count) where
-  pub can_read : CanRead t i j
-  can_read = subst (λ t. CanRead t i j) (sym T.are) (can_read_book b T.limits i j i-low (omega (arith, timing_count b t T)) j-low (omega (arith, timing_count b t T)))
+  module _ (n : ℕ) (e : Some n ≡ ticks_of (option_map said (optional (road b i j)))) where
+    ticks_high : n ≤ 1000000
+    ticks_high = go (eqb i j) (eqb (entry_at b i).leaves (entry_at b j).arrives) (move_of b.moves (entry_at b i).leaves (entry_at b j).arrives) (λ m q. (fair_parts m (h.limits.fair_moves _ _ m q)).ticks_high) e
+      where
+        go : (t u : Bool) (o : Maybe Move) → ((m : Move) → o ≡ some m → m.ticks ≤ 1000000) → Some n ≡ ticks_of (option_map said (optional (cond t none (line_or o (cond u (some stay) none))))) → n ≤ 1000000
+        go true u o f q = absurd (none-some _ (sym q))
+        go false true none f q = omega (arith, same_Some _ _ q)
+        go false false none f q = absurd (none-some _ (sym q))
+        go false u (some m) f q = omega (arith, same_Some _ _ q, f m refl)
 
-  pub spare_apart : ¬ (i ≡ j) → spare_in t i j ≡ spare_of (spare b i j)
-  spare_apart n =
-      ap (λ t. spare_in t i j) T.are ∙ spare_book b T.limits i j i-low (omega (arith, timing_count b t T)) j-low (omega (arith, timing_count b t T)) n
+    by_book : spare_with n finish start ≡ spare_with n (entry_at b i).finish (entry_at b j).start
+    by_book = ap (λ f. spare_with n f start) (ap (λ (e : BookEntry). e.finish) (entry_is h i i-low i-high)) ∙ ap (λ s. spare_with n (entry_at b i).finish s) (ap (λ (e : BookEntry). e.start) (entry_is h j j-low j-high))
 
-pub spare_self : (b : Book) (i j : ℕ) → i ≡ j → NoMove ≡ spare_of (spare b i j)
-spare_self b i j e = rw (eq-eqb i j e)
+    pub spare_is : (z : ℤ) → z ≡ spare_with n finish start → Some z ≡ optional (spare b i j)
+    spare_is z q = ap Some (q ∙ by_book) ∙ go (road b i j) e (entry_at b i).finish (entry_at b j).start
+      where
+        go : (o : Maybe Move) → Some n ≡ ticks_of (option_map said (optional o)) → (f s : ℕ) → Some (spare_with n f s) ≡ optional (spare_by o f s)
+        go none x f s = absurd (none-some _ (sym x))
+        go (some m) x f s = ap (λ n. Some (spare_with n f s)) (same_Some _ _ x)
 
-module _ (b : Book) (t : Tables) (T : TablesOf b t) where
-  pub costs_all : length t.costs ≡ 256
-  costs_all = ap (λ (t : Tables). length t.costs) T.are ∙ tabulate_length 256 _
+    pub cost_is : (k : ℕ) → Some k ≡ cost_of (option_map said (optional (road b i j))) → (z : ℤ) → z ≡ spare_with n finish start → (t : Bool) → le_z (pos 0) z ≡ t
+        → cond t (Some k) None ≡ optional (predecessor_cost b i j)
+    cost_is k d z q t u = ap (λ t. cond t (Some k) None) (sym u) ∙ ap (λ z. cond (le_z (pos 0) z) (Some k) None) (q ∙ by_book) ∙ go (road b i j) e d (entry_at b i).finish (entry_at b j).start ∙ ap optional (later i i-low)
+      where
+        later : (i : ℕ) → 1 ≤ i → follow_cost b i j ≡ predecessor_cost b i j
+        later zero l = absurd (omega arith)
+        later (suc i) l = refl
 
-  pub join_opening : (i j : ℕ) → i ≡ 0 → At t.fee ≡ join_of (predecessor_cost b i j)
-  join_opening i j z = rw z (ap (λ (t : Tables). At t.fee) T.are)
+        cases : (t : Bool) (m : Move) → cond t (Some m.cost) None ≡ optional (cond t (some m.cost) none)
+        cases true m = refl
+        cases false m = refl
 
-  pub join_from : (i j : ℕ) → ¬ (i ≡ 0) → i ≤ t.timing.count → 1 ≤ j → j ≤ t.timing.count → (s : Spare) → s ≡ spare_of (spare b i j)
-      → join_if s (get_or t.costs (place_in t.timing i j) 0) ≡ join_of (predecessor_cost b i j)
-  join_from zero j n i-high j-low j-high s e = absurd (n refl)
-  join_from (suc i) j n i-high j-low j-high s e =
-      rw e
-      (ap (λ (t : Tables). join_if (spare_of (spare b (suc i) j)) (get_or t.costs (place_in t.timing (suc i) j) 0)) T.are
-      ∙ join_book b T.limits (suc i) j (omega arith) (omega (arith, count_is b t T)) j-low (omega (arith, count_is b t T)))
+        go : (o : Maybe Move) → Some n ≡ ticks_of (option_map said (optional o)) → Some k ≡ cost_of (option_map said (optional o)) → (f s : ℕ)
+            → cond (le_z (pos 0) (spare_with n f s)) (Some k) None ≡ optional (cond (enough (spare_by o f s)) (map_option (λ (m : Move). m.cost) o) none)
+        go none x y f s = absurd (none-some _ (sym x))
+        go (some m) x y f s = ap₂ (λ n k. cond (le_z (pos 0) (spare_with n f s)) (Some k) None) (same_Some _ _ x) (same_Some _ _ y) ∙ cases (le_z (pos 0) (spare_with m.ticks f s)) m
 
--- the two ways through `join_if` with ticks
-pub join_taken : (s : Spare) (cost : ℕ) (z : ℤ) → s ≡ Ticks z → le_z (pos 0) z ≡ true → At cost ≡ join_if s cost
-join_taken s cost z e t = rw (e, t)
+-- What the calls ask for, and how a player goes, of a checked book that has the timing of some.
+module _ {c : CheckedBook} (h : HasTiming c) (i j : ℕ) (i-low : 1 ≤ i) (i-high : i ≤ c.count) (j-low : 1 ≤ j) (j-high : j ≤ c.count) where
+  pub pair : Instruments (kept_at c i).leaves (kept_at c j).arrives
+  pair = instruments h.timing i j i-low i-high j-low j-high
 
-pub join_left : (s : Spare) (cost : ℕ) (z : ℤ) → s ≡ Ticks z → le_z (pos 0) z ≡ false → No ≡ join_if s cost
-join_left s cost z e t = rw (e, t)
+  pub small : (r : PairMove) → Roads c i j (Some r) → (r.ticks ≤ 1000000) × ((kept_at c i).finish ≤ 1000000) × ((kept_at c j).start ≤ 1000000)
+  small r e = (ticks_high h.timing i j i-low i-high j-low j-high r.ticks (e.ticks h.book h.timing), (readable h.timing i i-low i-high).finish_high, (readable h.timing j j-low j-high).start_high)
+
+  -- by the place k of the line of the two instruments
+  pub roads : ¬ (i ≡ j) → (k : ℕ) → k ≡ place (kept_at c i).leaves (kept_at c j).arrives → (r : Option PairMove) → r ≡ road_told (kept_at c i).leaves (kept_at c j).arrives (get_or c.moves k None) → Roads c i j r
+  roads n k e r q = record {
+    ticks = λ b h. ap ticks_of q ∙ road_by h i j i-low i-high j-low j-high (λ (m : PairMove). m.ticks) (ap (λ (t : Timing). t.ticks) h.are) n k e;
+    cost = λ b t. ap cost_of q ∙ road_by (tables_timing t) i j i-low i-high j-low j-high (λ (m : PairMove). m.cost) (ap (λ (t : Tables). t.costs) t.are) n k e;
+  }

@@ -1,39 +1,24 @@
 -- The spare of a join, and its cost, or that there is none.
-use Rattle.std.specs.Prelude.{◌≡◌, cond, ℕ, zero, suc, eqb, ℤ, pos}
-use Rattle.std.proofs.Math.Option.{Option, none, some}
-use Rattle.std.specs.Int.Signed.{le_z}
+use Rattle.std.specs.Prelude.{◌≡◌, ℕ, ℤ, Option, option_map}
+use Rattle.laws.specs.Optional.{optional}
+use Rattle.book_lines.specs.declared.moves.PairMove.{PairMove}
+use Rattle.book_lines.specs.Columns.{said}
+use Rattle.book_form.specs.declared.CheckedBook.{CheckedBook}
 use Rattle.book_form.specs.Book.{Book}
-use Rattle.way_theory.specs.Follow.{spare_with, spare}
+use Rattle.way_theory.specs.Follow.{road, spare}
 use Rattle.way_theory.specs.Ways.{predecessor_cost}
-use Rattle.way_joins.specs.declared.Spare.{Spare}
-use Rattle.way_joins.specs.declared.Spare.TheVariants.{NoMove, Ticks}
-use Rattle.way_joins.specs.declared.Join.{Join}
-use Rattle.way_joins.specs.declared.Join.TheVariants.{No, At}
-use Rattle.way_joins.specs.Tables.{Timing, TimingOf, Tables, TablesOf}
+use Rattle.way_joins.specs.Tables.{ticks_of, cost_of, TimingOf, TablesOf}
 
--- 02, request 7: "that test now gives the signed spare .. A missing move has an answer of its own"
-abbrev pub spare_of : Option ℤ → Spare
-spare_of none = NoMove
-spare_of (some z) = Ticks z
+-- how a player goes from i to j: its ticks, of each book that has this timing, and its cost, of each that has these tables
+pub record Roads (c : CheckedBook) (i j : ℕ) (r : Option PairMove) : Type 0 where
+  pub ticks : (b : Book) → TimingOf b c → ticks_of r ≡ ticks_of (option_map said (optional (road b i j)))
+  pub cost : (b : Book) → TablesOf b c → cost_of r ≡ cost_of (option_map said (optional (road b i j)))
 
--- the spare as the tables tell it of two instruments: t is one more than the ticks of their line, and 0 where there is none
-abbrev pub spare_told : ℕ → ℕ → ℕ → ℕ → ℕ → Spare
-spare_told a b zero finish start = cond (eqb a b) (Ticks (spare_with 0 finish start)) NoMove
-spare_told a b (suc t) finish start = Ticks (spare_with t finish start)
+-- the spare of the join from i to j, of each book that has this timing; 02, request 7: "that test now gives the signed spare .. A missing move has
+-- an answer of its own"
+pub record Spares (c : CheckedBook) (i j : ℕ) (r : Option ℤ) : Type 0 where
+  pub each : (b : Book) → TimingOf b c → r ≡ optional (spare b i j)
 
-abbrev pub join_of : Option ℕ → Join
-join_of none = No
-join_of (some c) = At c
-
--- a join of that cost: "Spare 0 or more means that j may follow."
-abbrev pub join_if : Spare → ℕ → Join
-join_if NoMove cost = No
-join_if (Ticks z) cost = cond (le_z (pos 0) z) (At cost) No
-
--- the spare of the join from i to j, of each book that has this timing
-pub record Spares (t : Timing) (i j : ℕ) (r : Spare) : Type 0 where
-  pub each : (b : Book) → TimingOf b t → r ≡ spare_of (spare b i j)
-
--- the join from i to j, or the opening of j where i is 0, of each book that the tables hold
-pub record Joins (t : Tables) (i j : ℕ) (r : Join) : Type 0 where
-  pub each : (b : Book) → TablesOf b t → r ≡ join_of (predecessor_cost b i j)
+-- the join from i to j, or the opening of j where i is 0, of each book that has these tables
+pub record Joins (c : CheckedBook) (i j : ℕ) (r : Option ℕ) : Type 0 where
+  pub each : (b : Book) → TablesOf b c → r ≡ optional (predecessor_cost b i j)

@@ -13,20 +13,22 @@ use Rattle.laws.specs.Count.{counted}
 use Rattle.laws.specs.Equality.{same_list}
 use Rattle.laws.specs.Lexicographic.{◌<lex◌, lex_irrefl, lex_trans}
 use Rattle.laws.specs.Members.{first?, none_some}
-use Rattle.laws.specs.Appended.{Appended, appended_none, appended_then}
+use Rattle.text_write.specs.declared.Writer.{Writer}
+use Rattle.text_write.specs.Writing.{HasRoomFor, Writes}
+use Rattle.text_write.proofs.Writing.{writes_none, writes_then}
 use Rattle.text_listing.specs.Lines.{end_line, more_line}
 use Rattle.book_form.specs.Book.{Book}
 use Rattle.way_theory.specs.FullWays.{full_ways, first_way, next_way}
 use Rattle.way_theory.proofs.FullWays.{full_ways_ascending}
 use Rattle.way_list.specs.WayListing.{line_of_way, lines_by, last_line}
 
-pub record ListedSoFar (b : Book) (before : List ℕ) (at : ℕ) (o : Option (List ℕ)) (out : List ℕ) (k n : ℕ) : Type 0 where
+pub record ListedSoFar (b : Book) (before : Writer) (o : Option (List ℕ)) (now : Writer) (n : ℕ) : Type 0 where
   pub done : List (List ℕ)
   pub left : List (List ℕ)
   pub whole : done ++ left ≡ full_ways b
   pub count : length done ≡ n
   pub stands : o ≡ first? left
-  pub written : Appended before at (lines_by line_of_way done) out k
+  pub written : Writes before (lines_by line_of_way done) now
 
 -- what is to be written
 abbrev pub all_lines : Book → List ℕ
@@ -39,14 +41,14 @@ lines_more (v ∷ l) w = ap (λ r. line_of_way v ++ r) (lines_more l w) ∙ sym 
 apart : (b : Book) → Apart (λ (w : List ℕ). w) (full_ways b)
 apart b = ascending_apart ◌<lex◌ lex_irrefl lex_trans (full_ways b) (full_ways_ascending b)
 
-pub starts : (b : Book) (before : List ℕ) (at : ℕ) (o : Option (List ℕ)) → o ≡ first_way b → at ≤ length before → ListedSoFar b before at o before at 0
-starts b before at o e h = record { done = []; left = full_ways b; whole = refl; count = refl; stands = e; written = appended_none before at h }
+pub starts : (b : Book) (before : Writer) (o : Option (List ℕ)) → o ≡ first_way b → HasRoomFor before [] → ListedSoFar b before o before 0
+starts b before o e h = record { done = []; left = full_ways b; whole = refl; count = refl; stands = e; written = writes_none h }
 
-module _ (b : Book) (before : List ℕ) (at : ℕ) (out : List ℕ) (k n : ℕ) where
-  pub goes_on : (w : List ℕ) → ListedSoFar b before at (some w) out k n → (out' : List ℕ) (k' : ℕ) → Appended out k (line_of_way w) out' k' → ListedSoFar b before at (next_way b w) out' k' (n + 1)
-  goes_on w p out' k' a = go p.left p.whole p.stands
+module _ (b : Book) (before now : Writer) (n : ℕ) where
+  pub goes_on : (w : List ℕ) → ListedSoFar b before (some w) now n → {after : Writer} → Writes now (line_of_way w) after → ListedSoFar b before (next_way b w) after (n + 1)
+  goes_on w p {after} a = go p.left p.whole p.stands
     where
-      go : (l : List (List ℕ)) → p.done ++ l ≡ full_ways b → some w ≡ first? l → ListedSoFar b before at (next_way b w) out' k' (n + 1)
+      go : (l : List (List ℕ)) → p.done ++ l ≡ full_ways b → some w ≡ first? l → ListedSoFar b before (next_way b w) after (n + 1)
       go [] e s = absurd (none_some w (sym s))
       go (v ∷ l) e s =
           let q : w ≡ v = cc in
@@ -57,16 +59,16 @@ module _ (b : Book) (before : List ℕ) (at : ℕ) (out : List ℕ) (k n : ℕ) 
             whole = one_on (full_ways b) p.done l w e';
             count = omega (arith, length-append p.done (w ∷ []), p.count);
             stands = after_in same_list (λ x. x) (full_ways b) (apart b) p.done l w e';
-            written = subst (λ (t : List ℕ). Appended before at t out' k') (sym (lines_more p.done w)) (appended_then p.written a);
+            written = subst (λ (t : List ℕ). Writes before t after) (sym (lines_more p.done w)) (writes_then p.written a);
           }
 
   -- a way is left after 1,000
-  pub ends_more : (w : List ℕ) → n ≡ 1000 → ListedSoFar b before at (some w) out k n → (out' : List ℕ) (r : ℕ) → Appended out k more_line out' r → Appended before at (all_lines b) out' r
-  ends_more w h p out' r a = go p.left p.whole p.stands
+  pub ends_more : (w : List ℕ) → n ≡ 1000 → ListedSoFar b before (some w) now n → {after : Writer} → Writes now more_line after → Writes before (all_lines b) after
+  ends_more w h p {after} a = go p.left p.whole p.stands
     where
-      go : (l : List (List ℕ)) → p.done ++ l ≡ full_ways b → some w ≡ first? l → Appended before at (all_lines b) out' r
+      go : (l : List (List ℕ)) → p.done ++ l ≡ full_ways b → some w ≡ first? l → Writes before (all_lines b) after
       go [] e s = absurd (none_some w (sym s))
-      go (v ∷ l) e s = subst (λ (t : List ℕ). Appended before at t out' r) same (appended_then p.written a)
+      go (v ∷ l) e s = subst (λ (t : List ℕ). Writes before t after) same (writes_then p.written a)
         where
           long : 1000 < length (full_ways b)
           long = omega (arith, ap length (sym e), length-append p.done (v ∷ l), p.count, h)
@@ -75,12 +77,12 @@ module _ (b : Book) (before : List ℕ) (at : ℕ) (out : List ℕ) (k n : ℕ) 
           same = rw (lt-leb (length (full_ways b)) 1000 long, sym e, take_at p.done (v ∷ l) 1000 (p.count ∙ h)) refl
 
   -- no way is left
-  pub ends_whole : n ≤ 1000 → ListedSoFar b before at none out k n → (out' : List ℕ) (r : ℕ) → Appended out k (end_line n) out' r → Appended before at (all_lines b) out' r
-  ends_whole h p out' r a = go p.left p.whole p.stands
+  pub ends_whole : n ≤ 1000 → ListedSoFar b before none now n → {after : Writer} → Writes now (end_line n) after → Writes before (all_lines b) after
+  ends_whole h p {after} a = go p.left p.whole p.stands
     where
-      go : (l : List (List ℕ)) → p.done ++ l ≡ full_ways b → none ≡ first? l → Appended before at (all_lines b) out' r
+      go : (l : List (List ℕ)) → p.done ++ l ≡ full_ways b → none ≡ first? l → Writes before (all_lines b) after
       go (v ∷ l) e s = absurd (none_some v s)
-      go [] e s = subst (λ (t : List ℕ). Appended before at t out' r) same (appended_then p.written a)
+      go [] e s = subst (λ (t : List ℕ). Writes before t after) same (writes_then p.written a)
         where
           all : p.done ≡ full_ways b
           all = sym (append-nil p.done) ∙ e

@@ -11,7 +11,8 @@ use Rattle.laws.specs.Padded.{take_padded}
 use Rattle.flow_enumerate.specs.Enumerator.{state_flow, item_at}
 use Rattle.flow_enumerate.specs.declared.Place.TheVariants.{Item}
 use Rattle.flow_enumerate.proofs.Steps.{NoItem}
-use Rattle.laws.specs.Appended.{Appended}
+use Rattle.text_write.specs.declared.Writer.{Writer}
+use Rattle.text_write.specs.Writing.{Writes}
 use Rattle.text_listing.proofs.Sizes.{way_size}
 use Rattle.book_form.specs.Book.{Book}
 use Rattle.way_theory.specs.Follow.{size}
@@ -60,9 +61,9 @@ module _ (b : Book) (s : WayEnumerator) (on : s.flows.place ≡ Item) where
         ∙ ap (take (length (standing_way b s))) (t.each b enumerates (standing_way b s) on_way)
         ∙ take_padded 28 0 (standing_way b s)
 
-pub lists_one : (s : WayEnumerator) → s.flows.place ≡ Item → (r : List ℕ) → Tells s r → (before : List ℕ) (at : ℕ) (after : List ℕ) (k : ℕ) → Appended before at (line_of_way (take s.entries r)) after k
-    → k ≤ at + way_room → ListsOne s before at after k
-lists_one s on r t before at after k a h = record { each = λ b enumerates w e. subst (λ (v : List ℕ). Appended before at (line_of_way v) after k) (same b enumerates w e) a; few = h }
+pub lists_one : (s : WayEnumerator) → s.flows.place ≡ Item → (r : List ℕ) → Tells s r → {before after : Writer} → Writes before (line_of_way (take s.entries r)) after
+    → after.at ≤ before.at + way_room → ListsOne s before after
+lists_one s on r t {before} {after} a h = record { each = λ b enumerates w e. subst (λ (v : List ℕ). Writes before (line_of_way v) after) (same b enumerates w e) a; few = h }
   where
     same : (b : Book) → Enumerates b s → (w : List ℕ) → way_at b s ≡ some w → take s.entries r ≡ w
     same b enumerates w e = let q : some (standing_way b s) ≡ some w = sym (on_way b s on) ∙ e in told b s on enumerates r t ∙ cc

@@ -9,6 +9,7 @@ use lib.IntN.{pos}
 use Rattle.laws.specs.Count.{counted}
 use Rattle.laws.specs.Members.{first?, none_some}
 use Rattle.flow_enumerate.specs.declared.Place.TheVariants.{Item}
+use Rattle.laws.specs.Appended.{Appended}
 use Rattle.text_listing.specs.Lines.{cost_line}
 use Rattle.book_form.specs.Book.{Book}
 use Rattle.book_form.specs.WithinLimits.{WithinLimits}
@@ -18,10 +19,10 @@ use Rattle.way_theory.specs.BookNet.{arc_cost}
 use Rattle.way_theory.proofs.Blocks.{along}
 use Rattle.way_theory.proofs.Matched.{arc_cost_sum}
 use Rattle.way_theory.proofs.Accepted.{arc_cost_small}
-use Rattle.way_enumerate.specs.WayEnumerator.{Enumerates, way_item_cost}
+use Rattle.way_enumerate.specs.WayEnumerator.{Enumerates, way_at, way_item_cost}
 use Rattle.way_enumerate.specs.declared.WayEnumerator.{WayEnumerator}
 use Rattle.way_enumerate.proofs.Enumerating.{cost_held}
-use Rattle.way_list.specs.WayListing.{line_of_way, lines_by, last_line, list_ways, ways_text}
+use Rattle.way_list.specs.WayListing.{line_of_way, lines_by, last_line, list_ways, ways_text, Lists}
 use Rattle.way_list.proofs.Progress.{all_lines}
 use Rattle.way_list.proofs.Standing.{standing_way, on_way, standing_few}
 
@@ -31,6 +32,10 @@ some_text cost (v ∷ l) w e = let q : v ≡ w = cc in rw q refl
 
 pub text_of : (b : Book) (w : List ℕ) → first_way b ≡ some w → cost_line (way_cost b w) ++ all_lines b ≡ ways_text b
 text_of b w e = some_text (way_cost b) (full_ways b) w e
+
+-- the bytes x that a list has at the end are those that its writer held
+pub lists_all : {s : WayEnumerator} {before x now : List ℕ} {r : ℕ} → x ≡ now → ((b : Book) → Enumerates b s → way_at b s ≡ first_way b → Appended before 0 (ways_text b) now r) → Lists s before x r
+lists_all e f = record { each = rw e f }
 
 -- each number of a way adds at most a million
 along_most : (f : ℕ → ℕ → ℕ) → ((p j : ℕ) → f p j ≤ 1000000) → (j : ℕ) (w : List ℕ) → along f j w ≤ 1000000 * length w

@@ -3,6 +3,8 @@ use Rattle.std.specs.Prelude.{◌≡◌, List, [], ◌∷◌, ◌++◌, ℕ, ◌
 use Rattle.std.proofs.Math.Option.{some}
 use Rattle.laws.specs.Count.{Count, exactly, more, counted}
 use Rattle.laws.specs.Appended.{Appended}
+use Rattle.text_write.specs.declared.Writer.{Writer}
+use Rattle.text_write.specs.Writing.{Writes}
 use Rattle.text_listing.specs.Lines.{cost_line, way_line, end_line, more_line, none_line}
 use Rattle.book_form.specs.Book.{Book}
 use Rattle.way_theory.specs.Ways.{times, way_cost}
@@ -47,13 +49,14 @@ pub record OnFirst (s : WayEnumerator) : Type 0 where
   pub on : s.flows.place ≡ Item
 
 -- what the functions write, of each book whose ways are enumerated: the line of the way that the enumerator stands on
-pub record ListsOne (s : WayEnumerator) (before : List ℕ) (at : ℕ) (after : List ℕ) (r : ℕ) : Type 0 where
-  pub each : (b : Book) → Enumerates b s → (w : List ℕ) → way_at b s ≡ some w → Appended before at (line_of_way w) after r
-  pub few : r ≤ at + way_room
+pub record ListsOne (s : WayEnumerator) (before after : Writer) : Type 0 where
+  pub each : (b : Book) → Enumerates b s → (w : List ℕ) → way_at b s ≡ some w → Writes before (line_of_way w) after
+  pub few : after.at ≤ before.at + way_room
 
 -- all lines after `(cost C)`, of an enumerator that stands on the first way
-pub record ListsFrom (s : WayEnumerator) (before : List ℕ) (at : ℕ) (after : List ℕ) (r : ℕ) : Type 0 where
-  pub each : (b : Book) → Enumerates b s → way_at b s ≡ first_way b → Appended before at (lines_by line_of_way (take 1000 (full_ways b)) ++ last_line (counted 1000 (length (full_ways b)))) after r
+pub record ListsFrom (s : WayEnumerator) (before after : Writer) : Type 0 where
+  pub lent : after.out.ghost_name ≡ before.out.ghost_name
+  pub each : (b : Book) → Enumerates b s → way_at b s ≡ first_way b → Writes before (lines_by line_of_way (take 1000 (full_ways b)) ++ last_line (counted 1000 (length (full_ways b)))) after
 
 -- the whole text, of an enumerator that stands on the first way
 pub record Lists (s : WayEnumerator) (before after : List ℕ) (r : ℕ) : Type 0 where

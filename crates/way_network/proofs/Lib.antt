@@ -1,6 +1,3 @@
-mod Progress
-mod Padding
 mod Balances
-mod Bounds
-mod Network
+mod Put
 pub mod Made

@@ -6,7 +6,7 @@ use Prim.Native.Nat.{ℕ, suc, ◌+◌, ◌-◌, ◌≤◌, ◌<◌}
 use native.Mathlib.Omega.{arith}
 use native.Mathlib.Numerals.{add-one}
 use lib.Dec.{eqb}
-use lib.ListN.{length, replicate, length-append}
+use lib.ListN.{length, get_or, replicate, length-append}
 use borrow.Author.Tests.{eq-eqb, ne_eqb}
 use Rattle.laws.specs.Members.{keep_if}
 use Rattle.laws.specs.Padded.{padded, drop_replicate}
@@ -14,11 +14,14 @@ use Rattle.laws.specs.Appended.{Appended, appended_none, appended_then, appended
 use Rattle.way_parts.specs.Parts.{predecessor, part_of, parts, part_if_opened, playing_order}
 use Rattle.way_parts.proofs.Behind.{behind, behind_none, behind_all, behind_more}
 
-pub opened_yes : (w : List ℕ) (j : ℕ) → predecessor w j ≡ 0 → part_if_opened w j ≡ part_of w j
-opened_yes w j e = rw (eq-eqb (predecessor w j) 0 e)
+at_place : (w : List ℕ) (k : ℕ) → predecessor w (k + 1) ≡ get_or w k 0
+at_place w k = let e : k + 1 - 1 ≡ k = omega arith in ap (λ n. get_or w n 0) e
 
-pub opened_no : (w : List ℕ) (j : ℕ) → ¬ (predecessor w j ≡ 0) → part_if_opened w j ≡ []
-opened_no w j e = rw (ne_eqb (predecessor w j) 0 e)
+pub opened_yes : (w : List ℕ) (k : ℕ) → get_or w k 0 ≡ 0 → part_if_opened w (k + 1) ≡ part_of w (k + 1)
+opened_yes w k e = rw (eq-eqb (predecessor w (k + 1)) 0 (at_place w k ∙ e))
+
+pub opened_no : (w : List ℕ) (k : ℕ) → ¬ (get_or w k 0 ≡ 0) → part_if_opened w (k + 1) ≡ []
+opened_no w k e = rw (ne_eqb (predecessor w (k + 1)) 0 (λ p. e (sym (at_place w k) ∙ p)))
 
 -- the parts that the entries behind the first j open
 unfoldable pub later : List ℕ → ℕ → List ℕ
@@ -73,6 +76,10 @@ module _ {w b o : List ℕ} {at j : ℕ} (d : Ordered w b o at j) (h : j < lengt
         put = appended_then d.put f;
         some = omega arith;
       }
+
+  -- entry j + 1 opens none
+  pub order_same : ¬ (get_or w j 0 ≡ 0) → Ordered w b o at (j + 1)
+  order_same q = order_more (rw (opened_no w j q) (appended_none o at (omega (arith, d.put.within, appended_long d.put))))
 
 pub order_end : {w o : List ℕ} {at j : ℕ} → Ordered w (replicate 28 0) o at j → length w ≤ j → o ≡ padded 28 0 (playing_order w)
 order_end {w} {o} {at} {j} d h =

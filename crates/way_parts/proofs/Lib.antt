@@ -11,3 +11,4 @@ pub mod Theorems
 mod Behind
 mod OnePart
 mod AllParts
+pub mod Searched

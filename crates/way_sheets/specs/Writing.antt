@@ -29,7 +29,7 @@ begun n zero = suc n
 begun n (suc i) = n
 
 -- what the sheets of w are written from: the bytes s, their checked book, and the gaps and spares of the way
-pub record HasSheets (s : List ℕ) (c : CheckedBook) (w : List ℕ) (x : JoinTicks) : Type 0 where
+pub record HasSheets (s : List ℕ) (c : CheckedBook) (w : List ℕ) (x : List JoinTicks) : Type 0 where
   pub book : Book
   pub holds : parse s ≡ some book
   pub limits : WithinLimits book
@@ -38,7 +38,7 @@ pub record HasSheets (s : List ℕ) (c : CheckedBook) (w : List ℕ) (x : JoinTi
   pub ticks : JoinTicksOf book w x
 
 -- and room for them
-pub record HasRoom (s : List ℕ) (c : CheckedBook) (w : List ℕ) (x : JoinTicks) (bytes : ℕ) : Type 0 where
+pub record HasRoom (s : List ℕ) (c : CheckedBook) (w : List ℕ) (x : List JoinTicks) (bytes : ℕ) : Type 0 where
   pub has : HasSheets s c w x
   pub room : length (sheets has.book w) ≤ bytes
 

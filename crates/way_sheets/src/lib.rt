@@ -1,85 +1,67 @@
-// The sheets of a way, written into a lent list of bytes. Each `put` answers the place after what it wrote.
+// The sheets of a way, written into a lent list of bytes.
 #![tactic(auto)]
 
-ghost use Rattle.std.specs.Prelude.{◌≡◌, ◌++◌, ◌+◌, ◌≤◌, length};
-ghost use Rattle.laws.specs.Appended.{Appended};
+ghost use Rattle.std.specs.Prelude.{◌≡◌, ◌≤◌, length};
+ghost use Rattle.text_write.specs.Writing.{HasRoomFor, Writes};
 ghost use Rattle.way_sheets.specs.Lines.{part_line, play_line, gap_line};
 ghost use Rattle.way_sheets.specs.Writing.{closing, lead, begun, HasRoom, WritesSheets};
 
 use book_form::CheckedBook;
+use book_lines::entries::BookEntry;
 use text_read::heads;
-use text_write::{put_item, put_row, put_text};
+use text_write::Writer;
 use way_gaps::JoinTicks;
 
 // The first line of part n.
-fn put_part_line(out: &mut [u8], at: usize, n: u32) -> usize
-    requires { at + length (part_line n) ≤ length out.old }
-    ensures { Appended out.old at (part_line n) out.new result }
+fn put_part_line(writer: &mut Writer, n: u32)
+    requires { HasRoomFor writer.old (part_line n) }
+    ensures { Writes writer.old (part_line n) writer.new }
 {
-    let k = put_item(out, at, &heads::PART, n as u64);
-    put_text(out, k, &heads::NEWLINE)
+    writer.item(&heads::PART, n as u64);
+    writer.text(&heads::NEWLINE);
 }
 
 // The line of an entry.
-fn put_play_line(out: &mut [u8], at: usize, name: &[u8], start: u32, finish: u32) -> usize
-    requires { at + length (play_line name.now start finish) ≤ length out.old }
-    ensures { Appended out.old at (play_line name.now start finish) out.new result }
+fn put_play_line(writer: &mut Writer, name: &[u8], entry: &BookEntry)
+    requires { HasRoomFor writer.old (play_line name.now entry.now.start entry.now.finish) }
+    ensures { Writes writer.old (play_line name.now entry.now.start entry.now.finish) writer.new }
 {
-    let a = put_text(out, at, &heads::PLAY);
-    let b = put_text(out, a, name);
-    let c = put_item(out, b, &heads::NAME_END, start as u64);
-    put_row(out, c, &heads::SPACE, finish as u64)
+    writer.text(&heads::PLAY);
+    writer.text(name);
+    writer.item(&heads::NAME_END, entry.start as u64);
+    writer.row(&heads::SPACE, entry.finish as u64);
 }
 
 // The line between two entries.
-fn put_gap_line(out: &mut [u8], at: usize, gap: u32, spare: u32) -> usize
-    requires { at + length (gap_line gap spare) ≤ length out.old }
-    ensures { Appended out.old at (gap_line gap spare) out.new result }
+fn put_gap_line(writer: &mut Writer, ticks: JoinTicks)
+    requires { HasRoomFor writer.old (gap_line ticks.gap ticks.spare) }
+    ensures { Writes writer.old (gap_line ticks.gap ticks.spare) writer.new }
 {
-    let k = put_item(out, at, &heads::GAP, gap as u64);
-    put_row(out, k, &heads::SPACE, spare as u64)
+    writer.item(&heads::GAP, ticks.gap as u64);
+    writer.row(&heads::SPACE, ticks.spare as u64);
 }
 
 // The last line of a part, if any of n was begun.
-fn put_closing(out: &mut [u8], at: usize, n: u32) -> usize
-    requires { at + length (closing n) ≤ length out.old }
-    ensures { Appended out.old at (closing n) out.new result }
+fn put_closing(writer: &mut Writer, n: u32)
+    requires { HasRoomFor writer.old (closing n) }
+    ensures { Writes writer.old (closing n) writer.new }
 {
-    if n == 0 {
-        return at;
+    if n != 0 {
+        writer.text(&heads::LINE_END);
     }
-    put_text(out, at, &heads::LINE_END)
 }
 
 // What stands before the line of an entry with predecessor i, where n parts are begun.
-fn put_lead(out: &mut [u8], at: usize, n: u32, i: u32, gap: u32, spare: u32) -> usize
-    requires { (n ≤ 28) × (at + length (lead n i gap spare) ≤ length out.old) }
-    ensures { Appended out.old at (lead n i gap spare) out.new result }
+fn put_lead(writer: &mut Writer, n: u32, i: u32, ticks: JoinTicks)
+    requires { (n ≤ 28) × HasRoomFor writer.old (lead n i ticks.gap ticks.spare) }
+    ensures { Writes writer.old (lead n i ticks.gap ticks.spare) writer.new }
 {
     if i == 0 {
-        let k = put_closing(out, at, n);
-        return put_part_line(out, k, n + 1);
+        put_closing(writer, n);
+        put_part_line(writer, n + 1);
+        return;
     }
-    put_gap_line(out, at, gap, spare)
-}
-
-// An entry with predecessor i, where n parts are begun: what stands before its line, and its line.
-fn put_entry(
-    out: &mut [u8],
-    at: usize,
-    n: u32,
-    i: u32,
-    gap: u32,
-    spare: u32,
-    name: &[u8],
-    start: u32,
-    finish: u32,
-) -> usize
-    requires { (n ≤ 28) × (at + length (lead n i gap spare ++ play_line name.now start finish) ≤ length out.old) }
-    ensures { Appended out.old at (lead n i gap spare ++ play_line name.now start finish) out.new result }
-{
-    let k = put_lead(out, at, n, i, gap, spare);
-    put_play_line(out, k, name, start, finish)
+    put_gap_line(writer, ticks);
 }
 
 // How many parts are begun with an entry whose predecessor is i, where n were begun before it.
@@ -94,40 +76,26 @@ fn begun(n: u32, i: u32) -> u32
 // `ticks` has the gaps and the spares of the way.
 pub fn put_sheets(
     text: &[u8],
-    book: CheckedBook,
+    book: &CheckedBook,
     way: &[u32],
-    ticks: JoinTicks,
+    ticks: &[JoinTicks; 28],
     out: &mut [u8],
 ) -> usize
-    requires { HasRoom text.now book way.now ticks (length out.old) }
+    requires { HasRoom text.now book.now way.now ticks.now (length out.old) }
     ensures { WritesSheets text.now way.now out.old out.new result }
 {
     let order = way_parts::playing_order(way);
-    let starts = book.starts;
-    let finishes = book.finishes;
-    let names = book.names;
-    let lengths = book.lengths;
-    let gaps = ticks.gaps;
-    let spares = ticks.spares;
-    let mut at = 0;
+    let mut writer = Writer { out, at: 0 };
     let mut n = 0;
-    for k in 0..way.len() {
-        let j = (order[k] - 1) as usize;
+    for number in &order[..way.len()] {
+        let j = *number as usize - 1;
         let i = way[j];
-        let from = names[j];
-        let to = from + lengths[j];
-        at = put_entry(
-            out,
-            at,
-            n,
-            i,
-            gaps[j],
-            spares[j],
-            &text[from..to],
-            starts[j],
-            finishes[j],
-        );
+        let entry = &book.entries[j];
+        let name = &text[entry.name..entry.name + entry.length];
+        put_lead(&mut writer, n, i, ticks[j]);
+        put_play_line(&mut writer, name, entry);
         n = begun(n, i);
     }
-    put_closing(out, at, n)
+    put_closing(&mut writer, n);
+    writer.at
 }

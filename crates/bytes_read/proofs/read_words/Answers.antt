@@ -1,44 +1,25 @@
-use mathlib.Core.Path.{◌≡◌, refl, sym, ap, ◌∙◌}
-use mathlib.Core.List.{map-id}
-use Prim.Native.Nat.{ℕ, ◌/◌, ◌≤◌, min}
-use native.Mathlib.Omega.{arith}
-use native.Mathlib.Nat.{min-le_left, min-le_right}
-use lib.ListN.{length, take}
+use Rattle.std.proofs.Common.{◌≡◌, ℕ, ◌<◌, ◌/◌, [], length, get_or, take, min, ap, ◌∙◌, arith}
+use Rattle.std.proofs.lemmas.List.{map-id, get_or-take, length-take, take_min}
+use Rattle.std.specs.Simd.{first_chunks}
 use Rattle.laws.specs.Padded.{padded, filled_more}
 use Rattle.bytes_read.specs.Words.{words}
-use Rattle.bytes_read.proofs.Words.{words_at, length_words, take_least}
+use Rattle.bytes_read.proofs.Words.{word_of_chunk, length_words}
 use Rattle.bytes_read.proofs.read_words.Goals as goal
-
-pub loop-i-init : goal.loop-i-init
-loop-i-init c = (omega arith, refl)
-
-pub read_word-n-requires : goal.read_word-n-requires
-read_word-n-requires c =
-    let few : (c.lesser-m.result ≤ length c.args.b.now / 4) × (c.lesser-m.result ≤ 512) = omega (arith, c.lesser-m.ensures, min-le_left (length c.args.b.now / 4) 512, min-le_right (length c.args.b.now / 4) 512) in
-    omega (arith, few.0)
-
-pub offset_bounds-r-i : goal.offset_bounds-r-i
-offset_bounds-r-i c =
-    let few : (c.lesser-m.result ≤ length c.args.b.now / 4) × (c.lesser-m.result ≤ 512) = omega (arith, c.lesser-m.ensures, min-le_left (length c.args.b.now / 4) 512, min-le_right (length c.args.b.now / 4) 512) in
-    omega (arith, few.1)
-
-pub bounds-r-i : goal.bounds-r-i
-bounds-r-i c =
-    let few : (c.lesser-m.result ≤ length c.args.b.now / 4) × (c.lesser-m.result ≤ 512) = omega (arith, c.lesser-m.ensures, min-le_left (length c.args.b.now / 4) 512, min-le_right (length c.args.b.now / 4) 512) in
-    omega (arith, few.1)
 
 pub loop-i-preserved : goal.loop-i-preserved
 loop-i-preserved c =
-    let few : (c.lesser-m.result ≤ length c.args.b.now / 4) × (c.lesser-m.result ≤ 512) = omega (arith, c.lesser-m.ensures, min-le_left (length c.args.b.now / 4) 512, min-le_right (length c.args.b.now / 4) 512) in
-    let l = c.loop-i in
-    let b = c.args.b.now in (
-      omega arith,
-      filled_more (λ (c : ℕ). c) (words b) 512 0 0 l.i l.r c.read_word-n.result l.invariant.1 (omega (arith, length_words b, few.0)) (omega (arith, few.1))
-          (c.read_word-n.ensures ∙ sym (words_at b l.i (omega (arith, few.0)))),
-    )
+    let b = c.args.b.now in
+    let i = c.loop-i.i in
+    let m = c.min-m.result in
+    let fours = c.as_chunks.result.0.now in
+    let few : (i < m) × (i < 512) × (i < length b / 4) = omega (arith, length-take m fours, c.as_chunks.ensures.front_len, c.min-m.ensures) in
+    let taken : get_or (take m fours) i [] ≡ get_or (first_chunks 4 (length b / 4) b) i [] = rw c.as_chunks.ensures.front (get_or-take m (first_chunks 4 (length b / 4) b) i [] few.0) in
+    filled_more (λ (n : ℕ). n) (words b) 512 0 0 i c.loop-i.r c.from_le_bytes.result c.loop-i.invariant
+    (omega (arith, length_words b, few.2)) few.1 (c.from_le_bytes.ensures ∙ word_of_chunk b i (get_or (take m fours) i []) few.2 taken)
 
 pub returns : goal.returns
-returns c = let l = c.loop-i in
+returns c =
     let b = c.args.b.now in
-    let e : l.i ≡ min (length (words b)) 512 = rw (length_words b) (omega (arith, c.lesser-m.ensures)) in
-    l.invariant.1 ∙ ap (padded 512 0) (map-id (take l.i (words b)) ∙ take_least (words b) l.i 512 e)
+    let i = c.loop-i.i in
+    let e : i ≡ min 512 (length (words b)) = omega (arith, length_words b, length-take c.min-m.result c.as_chunks.result.0.now, c.as_chunks.ensures.front_len, c.min-m.ensures) in
+    c.loop-i.invariant ∙ ap (padded 512 0) (map-id (take i (words b)) ∙ ap (λ k. take k (words b)) e ∙ take_min 512 (words b))

@@ -1,68 +1,40 @@
-use mathlib.Core.Path.{refl}
-use mathlib.Core.List.{List, []}
-use Prim.Native.Nat.{◌≤◌, ◌+◌, ℕ, suc}
-use native.Mathlib.Omega.{arith}
-use native.Mathlib.Numerals.{add-one}
-use lib.ListN.{length, take}
-use lib.IntN.{ℤ}
-use Rattle.net_model.specs.Network.{Net, tail, head}
-use Rattle.net_theory.specs.Graph.{net_with}
-use Rattle.net_theory.specs.FreeArcs.{FreeWalk}
-use Rattle.net_theory.proofs.Graph.{bounds_with, within_with}
-use Rattle.flow_arc.proofs.Lists.{free_walk_whole}
-use Rattle.flow_arc.proofs.WalksAbove.{walk_capacity_above, capacity_above_with}
+use Rattle.std.proofs.Common.{[], suc, ◌∙◌}
+use Rattle.net_model.specs.Network.{tail, head}
+use Rattle.net_model.specs.Struct.{net_from}
+use Rattle.net_theory.proofs.ArcReads.{arc_at}
+use Rattle.flow_push.proofs.Pushing.{pushable_room}
+use Rattle.flow_arc.proofs.Found.{found, not_found}
+use Rattle.flow_arc.proofs.Lists.{whole, free_walk_whole}
+use Rattle.flow_arc.proofs.WalksAbove.{walk_capacity_above, put_able, put_within}
 use Rattle.flow_arc.proofs.Raising.{unblocked, raised_one}
 use Rattle.flow_arc.proofs.raise.Goals as goal
 
-pub overflow_cast-s : goal.overflow_cast-s
-overflow_cast-s c = omega (arith, c.requires.0.searchable.ends.tail_in c.args.a c.requires.1)
+pub push-requires : goal.push-requires
+push-requires c =
+    let N = net_from [] c.args.arcs.now in
+    let f = c.args.flow.now in
+    let free = c.args.free.now in
+    let a = c.args.a in
+    let at = arc_at [] c.args.arcs.now a c.requires.1 in
+    let walk = found N f free _ _ (head N a) (tail N a) a (c.from-from.ensures ∙ at.head_is) (c.from-to.ensures ∙ at.tail_is) _ _ _ c.in-Some.len c.in-Some.is c.find_walk.ensures in
+    pushable_room N 1 _ _ c.requires.0.searchable.bounds (put_able N f a _ (walk_capacity_above N f free _ _ a _ walk) c.requires.0.within at.inside c.requires.2.1)
 
-pub overflow_cast-t : goal.overflow_cast-t
-overflow_cast-t c = omega (arith, c.requires.0.searchable.ends.head_in c.args.a c.requires.1)
-
-pub find_walk-route-requires : goal.find_walk-route-requires
-find_walk-route-requires c = let ends = c.requires.0.searchable.ends in
-    (c.requires.0.searchable, ends.head_in c.args.a c.requires.1, ends.tail_in c.args.a c.requires.1, refl)
+pub returns-in-Some : goal.returns-in-Some
+returns-in-Some c =
+    let N = net_from [] c.args.arcs.now in
+    let f = c.args.flow.now in
+    let free = c.args.free.now in
+    let a = c.args.a in
+    let at = arc_at [] c.args.arcs.now a c.requires.1 in
+    let walk = found N f free _ _ (head N a) (tail N a) a (c.from-from.ensures ∙ at.head_is) (c.from-to.ensures ∙ at.tail_is) _ _ _ c.in-Some.len c.in-Some.is c.find_walk.ensures in (
+      put_within N f a _ (walk_capacity_above N f free _ _ a _ walk) _ c.requires.0.within at.inside c.requires.2.1 c.push.ensures,
+      λ b d π ti. raised_one (whole N b d) π free f a at.inside ti _ _ c.requires.2.0 c.requires.2.1 (free_walk_whole N b d f free _ _ _ _ walk) c.push.ensures,
+    )
 
 -- there is a walk
-pub returns-in-Cut : goal.returns-in-Cut
-returns-in-Cut c =
-    let net : Net = net_with [] c.args.tails.now c.args.heads.now c.args.lows.now c.args.ups.now [] in
-    absurd
-    (unblocked net c.args.flow.now c.args.free.now (head net c.args.a) (tail net c.args.a) (suc c.args.a) c.requires.2.2
-    (rw add-one at (rw c.in-Cut.is at c.find_walk-route.ensures).0))
-
-pub put_on-requires : goal.put_on-requires
-put_on-requires c =
-    let net : Net = net_with [] c.args.tails.now c.args.heads.now c.args.lows.now c.args.ups.now [] in
-    let lent : List ℕ = c.find_walk-route.new.codes in
-    let len_of : ℕ = c.in-Codes.len in
-    let codes-of : List ℕ = take len_of lent in
-    let WalkFrom : ℕ → Type 0 = λ from. FreeWalk net c.args.flow.now c.args.free.now (head net c.args.a) (tail net c.args.a) from codes-of in
-    let told : (len_of ≤ length lent) × WalkFrom (c.args.a + 1) = let (few, walk, _) = rw c.in-Codes.is at c.find_walk-route.ensures in (few, walk) in
-    let walk_of : WalkFrom (suc c.args.a) = rw add-one at told.1 in (
-      told.0,
-      bounds_with net [] [] [] c.requires.0.searchable.bounds,
-      within_with net [] [] [] c.args.flow.now c.requires.0.within,
-      c.requires.1,
-      c.requires.2.1,
-      capacity_above_with net [] c.args.flow.now c.args.a codes-of
-          (walk_capacity_above net c.args.flow.now c.args.free.now (head net c.args.a) (tail net c.args.a) c.args.a codes-of walk_of),
-    )
-
-pub returns : goal.returns
-returns c =
-    let whole : List ℤ → List ℤ → Net = λ b c1. net_with b c.args.tails.now c.args.heads.now c.args.lows.now c.args.ups.now c1 in
-    let lent : List ℕ = c.find_walk-route.new.codes in
-    let len_of : ℕ = c.in-Codes.len in
-    let codes-of : List ℕ = take len_of lent in
-    let net : Net = net_with [] c.args.tails.now c.args.heads.now c.args.lows.now c.args.ups.now [] in
-    let WalkFrom : ℕ → Type 0 = λ from. FreeWalk net c.args.flow.now c.args.free.now (head net c.args.a) (tail net c.args.a) from codes-of in
-    let told : (len_of ≤ length lent) × WalkFrom (c.args.a + 1) = let (few, walk, _) = rw c.in-Codes.is at c.find_walk-route.ensures in (few, walk) in
-    let walk_of : WalkFrom (suc c.args.a) = rw add-one at told.1 in
-    let o = c.put_on in (
-      within_with (net_with [] c.args.tails.now [] c.args.lows.now c.args.ups.now []) [] c.args.heads.now [] _ o.ensures.within,
-      λ b x π ti. let N = whole b x in
-          raised_one N π c.args.free.now c.args.flow.now c.args.a c.requires.1 ti _ codes-of c.requires.2.0 c.requires.2.1
-          (free_walk_whole N c.args.flow.now c.args.free.now (head N c.args.a) (tail N c.args.a) (suc c.args.a) codes-of walk_of) o.ensures.exact,
-    )
+pub returns-in_default : goal.returns-in_default
+returns-in_default c =
+    let N = net_from [] c.args.arcs.now in
+    let at = arc_at [] c.args.arcs.now c.args.a c.requires.1 in
+    absurd (unblocked N c.args.flow.now c.args.free.now (head N c.args.a) (tail N c.args.a) (suc c.args.a) c.requires.2.2
+    (not_found N c.args.flow.now c.args.free.now _ _ (head N c.args.a) (tail N c.args.a) c.args.a (c.from-from.ensures ∙ at.head_is) (c.from-to.ensures ∙ at.tail_is) _ _ _ c.in_default.is c.find_walk.ensures))

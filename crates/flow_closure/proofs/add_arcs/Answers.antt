@@ -1,40 +1,18 @@
-use mathlib.Core.Path.{◌≡◌, sym, subst, ◌∙◌}
-use mathlib.Core.List.{[]}
-use Prim.Native.Nat.{ℕ}
-use native.Mathlib.Omega.{arith}
-use Rattle.net_model.specs.Network.{Net}
-use Rattle.net_theory.specs.Graph.{net_with}
-use Rattle.flow_closure.specs.Closure.{Closure}
-use Rattle.flow_closure.proofs.Closure.{closure_start}
-use Rattle.flow_closure.proofs.Candidates.{before_arc}
+use Rattle.std.proofs.Common.{[], ◌-◌, arith}
+use Rattle.net_theory.proofs.ArcReads.{arc_at}
+use Rattle.flow_closure.proofs.Closure.{closure_skip}
+use Rattle.flow_closure.proofs.Candidates.{before_arc, closure_more, tail_in, head_in}
 use Rattle.flow_closure.proofs.add_arcs.Goals as goal
 
-pub loop-a-init : goal.loop-a-init
-loop-a-init c =
-    let net : Net = net_with [] c.args.tails.now c.args.heads.now c.args.lows.now c.args.ups.now [] in
-    (omega arith, closure_start net c.args.flow.now c.args.free.now c.args.rows.now c.requires.1)
-
-pub overflow_sub-a : goal.overflow_sub-a
-overflow_sub-a c = omega (arith, c.loop-a-test.true)
-
 pub add_arc-requires : goal.add_arc-requires
-add_arc-requires c =
-    let net : Net = net_with [] c.args.tails.now c.args.heads.now c.args.lows.now c.args.ups.now [] in
-    let l = c.loop-a in
-    (c.requires.0, omega (arith, c.loop-a-test.true, l.invariant.0), before_arc net c.args.flow.now c.args.free.now l.a l.rows c.loop-a-test.true l.invariant.1)
+add_arc-requires c = let l = c.loop-a in
+    let at = arc_at [] c.args.arcs.now (l.a - 1) (omega arith) in
+    (l.invariant.preorder, tail_in _ _ _ c.requires.0 _ _ at, head_in _ _ _ c.requires.0 _ _ at)
 
-pub loop-a-smaller : goal.loop-a-smaller
-loop-a-smaller c = omega (arith, c.loop-a-test.true)
+pub loop-a-preserved-then-free-a : goal.loop-a-preserved-then-free-a
+loop-a-preserved-then-free-a c = let l = c.loop-a in
+    let at = arc_at [] c.args.arcs.now (l.a - 1) (omega arith) in
+    closure_more _ _ _ c.requires.0 _ _ at l.rows c.if-free-a.true _ (before_arc _ _ _ l.a l.rows c.loop-a-test.true l.invariant) c.add_arc.ensures
 
 pub loop-a-preserved : goal.loop-a-preserved
-loop-a-preserved c = (omega (arith, c.loop-a.invariant.0), c.add_arc.ensures)
-
-pub shape_of-rows : goal.shape_of-rows
-shape_of-rows c = c.loop-a.invariant.1.preorder.rows_len ∙ sym c.requires.1.preorder.rows_len
-
-pub returns : goal.returns
-returns c =
-    let net : Net = net_with [] c.args.tails.now c.args.heads.now c.args.lows.now c.args.ups.now [] in
-    let l = c.loop-a in
-    let e : l.a ≡ 0 = omega (arith, c.loop-a-test.false) in
-    subst (λ (i : ℕ). Closure net c.args.flow.now c.args.free.now i l.rows) e l.invariant.1
+loop-a-preserved c = let l = c.loop-a in closure_skip _ _ _ _ _ (before_arc _ _ _ l.a l.rows c.loop-a-test.true l.invariant) c.if-free-a.false

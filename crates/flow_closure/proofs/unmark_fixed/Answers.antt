@@ -1,54 +1,24 @@
-use mathlib.Core.Path.{refl, sym}
-use mathlib.Core.List.{[]}
-use native.Mathlib.Omega.{arith}
-use Rattle.net_model.specs.Network.{Net}
-use Rattle.net_theory.specs.Graph.{net_with}
-use Rattle.flow_closure.proofs.Narrowing.{other_marks, narrowing_start, narrowing_step, narrowing_done}
+use Rattle.std.proofs.Common.{[], arith, sym, ◌∙◌}
+use Rattle.net_model.specs.Struct.{net_from}
+use Rattle.net_theory.proofs.ArcReads.{arc_at, arcs_lent}
+use Rattle.flow_closure.proofs.Candidates.{tail_in, head_in}
+use Rattle.flow_closure.proofs.Narrowing.{right_unmarked, right_marked, narrowing_step, narrowing_done}
 use Rattle.flow_closure.proofs.unmark_fixed.Goals as goal
+use Rattle.flow_closure.proofs.unmark_fixed.Goals.{then-mark, else-mark}
 
-pub alone-requires : goal.alone-requires
-alone-requires c = refl
-
-pub slice_bounds-add_arcs-end : goal.slice_bounds-add_arcs-end
-slice_bounds-add_arcs-end c = sym c.alone.ensures.preorder.rows_len
-
-pub add_arcs-requires : goal.add_arcs-requires
-add_arcs-requires c = (c.requires, c.alone.ensures)
-
-pub loop-a-init : goal.loop-a-init
-loop-a-init c =
-    let net : Net = net_with [] c.args.tails.now c.args.heads.now c.args.lows.now c.args.ups.now [] in
-    (omega arith, c.add_arcs.ensures, narrowing_start net c.args.flow.now c.args.free.now)
-
-pub slice_bounds-on_cycle-end : goal.slice_bounds-on_cycle-end
-slice_bounds-on_cycle-end c = sym c.loop-a.invariant.1.preorder.rows_len
-
-pub on_cycle-stays-requires : goal.on_cycle-stays-requires
-on_cycle-stays-requires c =
-    let net : Net = net_with [] c.args.tails.now c.args.heads.now c.args.lows.now c.args.ups.now [] in
-    let l = c.loop-a in
-    (other_marks net c.args.flow.now c.args.free.now l.free l.invariant.2.same_len c.requires, l.invariant.1.preorder.rows_len, c.loop-a-test.true)
-
-pub bounds-free-a : goal.bounds-free-a
-bounds-free-a c = omega (arith, c.loop-a-test.true, c.loop-a.invariant.2.same_len, c.requires.free_len)
-
-pub overflow_add-a : goal.overflow_add-a
-overflow_add-a c = record { fits = omega (arith, c.loop-a-test.true, c.requires.ends.few) }
-
-pub loop-a-smaller : goal.loop-a-smaller
-loop-a-smaller c = omega (arith, c.loop-a-test.true)
+pub on_cycle-requires : goal.on_cycle-requires
+on_cycle-requires c =
+    let at = arc_at [] c.args.arcs.now c.loop-a.a (omega (arith, arcs_lent [] c.args.arcs.now)) in
+    (c.add_arcs.ensures.preorder.rows_len, tail_in _ _ _ c.requires _ _ at, head_in _ _ _ c.requires _ _ at)
 
 pub loop-a-preserved : goal.loop-a-preserved
-loop-a-preserved c =
-    let net : Net = net_with [] c.args.tails.now c.args.heads.now c.args.lows.now c.args.ups.now [] in
-    let l = c.loop-a in
-    (omega (arith, c.loop-a-test.true), l.invariant.1, narrowing_step net c.args.flow.now c.args.free.now c.requires _ l.invariant.1 l.free l.a _ c.loop-a-test.true l.invariant.2 c.on_cycle-stays.ensures)
-
-pub shape_of-free : goal.shape_of-free
-shape_of-free c = c.loop-a.invariant.2.same_len
+loop-a-preserved c = let l = c.loop-a in
+    let at = arc_at [] c.args.arcs.now l.a (omega (arith, arcs_lent [] c.args.arcs.now)) in
+    let same = l.invariant.rest l.a (omega arith) in
+    narrowing_step (net_from [] c.args.arcs.now) c.args.flow.now c.args.free.now l.free l.a c.if-mark.mark (omega arith) l.invariant (elim c.if-mark.branch [
+      | then-mark w ↦ right_marked (net_from [] c.args.arcs.now) c.args.flow.now c.args.free.now c.requires l.a _ at _ c.add_arcs.ensures (sym same ∙ w.if-mark.true) c.if-mark.mark (w.mark-is ∙ w.on_cycle.ensures)
+      | else-mark w ↦ right_unmarked (net_from [] c.args.arcs.now) c.args.flow.now c.args.free.now l.a c.if-mark.mark (sym same ∙ w.if-mark.false) (w.mark-is ∙ w.if-mark.false)
+    ])
 
 pub returns : goal.returns
-returns c =
-    let net : Net = net_with [] c.args.tails.now c.args.heads.now c.args.lows.now c.args.ups.now [] in
-    let l = c.loop-a in
-    narrowing_done net c.args.flow.now c.args.free.now l.free l.a c.loop-a-test.false l.invariant.2
+returns c = narrowing_done _ _ _ c.loop-a.free c.loop-a.a (omega arith) c.loop-a.invariant

@@ -1,11 +1,5 @@
-use Prim.Native.Nat.{ℕ, ◌-◌, ◌≤◌, ◌<◌}
-use lib.ListN.{length, get_or}
-use lib.IntN.{pos}
-use lib.Signed.{◌≤ℤ◌}
+use Rattle.std.proofs.Common.{ℕ, ◌<◌, get_or, pos, ◌≤ℤ◌}
 use Rattle.flow_feasible.proofs.first_excess.Given as goal
 
-abbrev pub invariant-loop-i : goal.invariant-loop-i
-invariant-loop-i l = (l.i ≤ length l.excess) × ((v : ℕ) → v < l.i → get_or l.excess v (pos 0) ≤ℤ pos 0)
-
-abbrev pub decreases-loop-i : goal.decreases-loop-i
-decreases-loop-i l = length l.excess - l.i
+abbrev pub invariant-loop-v : goal.invariant-loop-v
+invariant-loop-v l = (k : ℕ) → k < l.v → get_or l.excess k (pos 0) ≤ℤ pos 0

@@ -1,79 +1,28 @@
 use mathlib.Core.Path.{◌≡◌, refl, sym, ◌∙◌}
-use mathlib.Core.Bool.{Bool}
-use mathlib.Core.List.{List}
-use Prim.Native.Nat.{ℕ}
-use native.Mathlib.Omega.{arith}
-use lib.ListN.{length, get_or, length-replicate}
-use lib.IntN.{ℤ, pos}
-use Rattle.net_model.specs.Network.{Net, arcs, IsFlow, LeastCost}
-use Rattle.net_theory.specs.Graph.{net_with, bare}
-use Rattle.net_theory.specs.Ready.{Ready}
-use Rattle.net_theory.proofs.Bounds.{flow_bounds}
-use Rattle.net_theory.proofs.Ready.{accepted_ready}
-use Rattle.flow_relax.proofs.Accepted.{accepted_relaxable}
+use lib.ListN.{length, get_or}
+use lib.IntN.{pos}
+use Rattle.net_model.specs.Network.{Net, arcs}
+use Rattle.net_model.specs.Struct.{net_from}
+use Rattle.net_theory.proofs.ArcReads.{arcs_lent}
 use Rattle.flow_cancel.proofs.Cheapest.{cheapest}
-use Rattle.flow_least.specs.Marked.{Marked}
-use Rattle.flow_least.proofs.Marked.{labels_whole, marked_narrowed, first_marked, no_first}
+use Rattle.flow_least.proofs.Marked.{labels_whole, marked_by, marked_narrowed, first_marked, no_first}
 use Rattle.flow_least.proofs.first_flow.Goals as goal
-
-pub starting_flow-requires : goal.starting_flow-requires
-starting_flow-requires c = let p = c.requires in (p.0, p.1)
 
 pub returns-then-not-starting_flow : goal.returns-then-not-starting_flow
 returns-then-not-starting_flow c =
-    let whole : Net = net_with c.args.balances.now c.args.tails.now c.args.heads.now c.args.lows.now c.args.ups.now c.args.costs.now in
-    (no_first whole c.requires.0.well_formed (c.starting_flow.ensures.none c.if-not-starting_flow.true), c.starting_flow.ensures.within, refl)
-
-pub cancel_negative_cycles-requires : goal.cancel_negative_cycles-requires
-cancel_negative_cycles-requires c =
-    let whole : Net = net_with c.args.balances.now c.args.tails.now c.args.heads.now c.args.lows.now c.args.ups.now c.args.costs.now in
-    let given : List ℕ = c.starting_flow.new.flow in
-    let flow-of : IsFlow whole given = c.starting_flow.ensures.found c.if-not-starting_flow.false in
-    (accepted_relaxable whole c.requires.0 given (flow_bounds whole given flow-of), length-replicate {A = ℤ} 64 (pos 0))
-
-pub slice_bounds-mark-end : goal.slice_bounds-mark-end
-slice_bounds-mark-end c = sym c.cancel_negative_cycles.ensures.1.len
-
-pub mark-requires : goal.mark-requires
-mark-requires c =
-    let whole : Net = net_with c.args.balances.now c.args.tails.now c.args.heads.now c.args.lows.now c.args.ups.now c.args.costs.now in
-    let flow : List ℕ = c.cancel_negative_cycles.new.flow in
-    let labels : List ℤ = c.cancel_negative_cycles.new.labels in
-    let given : List ℕ = c.starting_flow.new.flow in
-    let flow-of : IsFlow whole given = c.starting_flow.ensures.found c.if-not-starting_flow.false in
-    let least : LeastCost whole flow = cheapest whole given flow c.requires.0.well_formed flow-of c.cancel_negative_cycles.ensures.0 (λ v. get_or labels v (pos 0)) c.cancel_negative_cycles.ensures.1.feasible in
-    (c.requires.0, least, labels_whole whole flow labels c.cancel_negative_cycles.ensures.1, c.requires.2)
-
-pub unmark_fixed-requires : goal.unmark_fixed-requires
-unmark_fixed-requires c =
-    let whole : Net = net_with c.args.balances.now c.args.tails.now c.args.heads.now c.args.lows.now c.args.ups.now c.args.costs.now in
-    let flow : List ℕ = c.cancel_negative_cycles.new.flow in
-    let labels : List ℤ = c.cancel_negative_cycles.new.labels in
-    let given : List ℕ = c.starting_flow.new.flow in
-    let flow-of : IsFlow whole given = c.starting_flow.ensures.found c.if-not-starting_flow.false in
-    let least : LeastCost whole flow = cheapest whole given flow c.requires.0.well_formed flow-of c.cancel_negative_cycles.ensures.0 (λ v. get_or labels v (pos 0)) c.cancel_negative_cycles.ensures.1.feasible in
-    let ready : (free : List Bool) → length free ≡ arcs whole → Ready (bare whole) flow free = λ free e. accepted_ready whole c.requires.0 flow free e (flow_bounds whole flow least.flow) in
-    (ready c.mark.new.free c.mark.ensures.marks_len).searchable
-
-pub minimise-requires : goal.minimise-requires
-minimise-requires c =
-    let whole : Net = net_with c.args.balances.now c.args.tails.now c.args.heads.now c.args.lows.now c.args.ups.now c.args.costs.now in
-    let flow : List ℕ = c.cancel_negative_cycles.new.flow in
-    let labels : List ℤ = c.cancel_negative_cycles.new.labels in
-    let given : List ℕ = c.starting_flow.new.flow in
-    let flow-of : IsFlow whole given = c.starting_flow.ensures.found c.if-not-starting_flow.false in
-    let least : LeastCost whole flow = cheapest whole given flow c.requires.0.well_formed flow-of c.cancel_negative_cycles.ensures.0 (λ v. get_or labels v (pos 0)) c.cancel_negative_cycles.ensures.1.feasible in
-    let ready : (free : List Bool) → length free ≡ arcs whole → Ready (bare whole) flow free = λ free e. accepted_ready whole c.requires.0 flow free e (flow_bounds whole flow least.flow) in
-    let marked-of : Marked whole c.unmark_fixed.new.free flow = let m = c.mark in let n = c.unmark_fixed in marked_narrowed whole flow m.new.free n.new.free m.ensures n.auto.free n.ensures in
-    (ready c.unmark_fixed.new.free marked-of.marks_len, omega arith)
-
-pub shape_of-flow : goal.shape_of-flow
-shape_of-flow c = c.minimise.auto.flow ∙ c.cancel_negative_cycles.auto.flow ∙ c.starting_flow.auto.flow
+    let s = c.starting_flow.ensures in
+    (no_first (net_from c.args.balances.now c.args.arcs.now) c.requires.0.well_formed (s.none c.if-not-starting_flow.true), s.within, refl)
 
 pub returns : goal.returns
 returns c =
-    let whole : Net = net_with c.args.balances.now c.args.tails.now c.args.heads.now c.args.lows.now c.args.ups.now c.args.costs.now in
-    let flow : List ℕ = c.cancel_negative_cycles.new.flow in
-    let marked-of : Marked whole c.unmark_fixed.new.free flow = let m = c.mark in let n = c.unmark_fixed in marked_narrowed whole flow m.new.free n.new.free m.ensures n.auto.free n.ensures in
-    first_marked whole c.unmark_fixed.new.free flow c.minimise.new.flow marked-of
-    (c.minimise.ensures.1 c.args.balances.now c.args.costs.now marked-of.potential marked-of.marks)
+    let N : Net = net_from c.args.balances.now c.args.arcs.now in
+    let wf = c.requires.0.well_formed in
+    let least =
+    cheapest N c.starting_flow.new.flow c.cancel_negative_cycles.new.flow wf (c.starting_flow.ensures.found c.if-not-starting_flow.false) c.cancel_negative_cycles.ensures.0
+    (λ v. get_or c.cancel_negative_cycles.new.labels v (pos 0)) c.cancel_negative_cycles.ensures.1.feasible in
+    let many : length c.args.arcs.now ≡ arcs N = sym (arcs_lent c.args.balances.now c.args.arcs.now) in
+    let marked =
+    marked_by N c.cancel_negative_cycles.new.flow wf least c.cancel_negative_cycles.new.labels (labels_whole N c.cancel_negative_cycles.new.flow c.cancel_negative_cycles.new.labels c.cancel_negative_cycles.ensures.1)
+    c.mark_tight.new.marks (c.mark_tight.auto.marks ∙ c.requires.2 ∙ many) (length c.args.arcs.now) many c.mark_tight.ensures in
+    let left = marked_narrowed N c.cancel_negative_cycles.new.flow c.mark_tight.new.marks c.unmark_fixed.new.free marked c.unmark_fixed.auto.free c.unmark_fixed.ensures in
+    first_marked N c.unmark_fixed.new.free c.cancel_negative_cycles.new.flow c.minimise.new.flow left (c.minimise.ensures.1 N.balances N.costs left.potential left.marks)

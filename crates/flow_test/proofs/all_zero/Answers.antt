@@ -1,22 +1,15 @@
-use mathlib.Core.Path.{◌≡◌}
-use native.Mathlib.Omega.{arith}
-use lib.ListN.{get_or}
-use lib.IntN.{pos}
-use Rattle.laws.specs.Range.{zero_of, zero_bits}
-use Rattle.flow_test.proofs.IsFlow.{one_more}
+use Rattle.std.proofs.Common.{arith, rules, tests, ◌≡◌, ◌≢◌, ◌<◌, ℕ, pos, Bool, true, false, List, ℤ, length, get_or}
+use Rattle.std.specs.Prelude.{MatchBool}
+use Rattle.std.specs.List.{HoldsAt, AllWithin}
+use Rattle.std.proofs.lemmas.Iterator.{cases_from_all, YieldsList-from_slice}
+use Rattle.flow_test.specs.FlowTest.{Decides}
 use Rattle.flow_test.proofs.all_zero.Goals as goal
 
-pub loop-v-init : goal.loop-v-init
-loop-v-init c = (omega arith, λ w h. absurd (omega arith))
-
-pub returns-then-x-ne0 : goal.returns-then-x-ne0
-returns-then-x-ne0 c = λ all. c.if-x-ne0.true (zero_bits (get_or c.args.excess.now c.loop-v.v (pos 0)) (all c.loop-v.v c.loop-v-test.true))
-
-pub loop-v-smaller : goal.loop-v-smaller
-loop-v-smaller c = omega (arith, c.loop-v-test.true)
-
-pub loop-v-preserved : goal.loop-v-preserved
-loop-v-preserved c = (omega (arith, c.loop-v-test.true), one_more (λ w. get_or c.args.excess.now w (pos 0) ≡ pos 0) c.loop-v.v c.loop-v.invariant.1 (zero_of (record { sfits = c.x-1.given }) c.if-x-ne0.false))
+zeros : (r : Bool) (xs : List ℤ) → MatchBool r (AllWithin (λ x. x ≡ pos 0) xs 0 (length xs)) ((k : ℕ) × (k < length xs) × HoldsAt (λ x. x ≢ pos 0) xs k)
+    → Decides ((v : ℕ) → v < length xs → get_or xs v (pos 0) ≡ pos 0) r
+zeros true xs h = λ v k. h v (pos 0) (omega arith) k
+zeros false xs h = λ all. h.2 (pos 0) (all h.0 h.1)
 
 pub returns : goal.returns
-returns c = λ w h. c.loop-v.invariant.1 w (omega (arith, c.loop-v-test.false))
+returns c =
+    zeros _ _ (cases_from_all _ _ _ (λ x. x ≡ pos 0) (λ x. x ≢ pos 0) c.all.ensures.ran (YieldsList-from_slice c.args.excess.now cc) (λ x q k. search (rules, tests)) (λ x q k. search (rules, tests)))

@@ -1,55 +1,22 @@
-use mathlib.Core.Path.{◌≡◌, sym, ◌∙◌}
-use mathlib.Core.List.{List}
-use Prim.Native.Nat.{ℕ}
-use lib.ListN.{length-map}
-use lib.IntN.{ℤ, nat_abs}
+use Rattle.std.proofs.Common.{rules, pos, get_or}
+use Rattle.std.proofs.iter.Serving.{serving}
 use Rattle.bytes_read.specs.Words.{ints}
-use Rattle.bytes_read.proofs.Words.{length_ints}
 use Rattle.net_model.specs.Input.{rows}
-use Rattle.net_model.specs.declared.Network.{Network}
-use Rattle.net_questions.proofs.Rows.{arcs_of}
-use Rattle.net_questions.proofs.Accepted.{AllPassed, passed}
-use Rattle.net_check.proofs.Limits.{tails_column, heads_column, lows_column, ups_column}
+use Rattle.net_model.specs.Struct.{blank_arc}
+use Rattle.net_questions.specs.Arcs.{no_arc}
+use Rattle.net_check.specs.Checked.{arc_of}
+use Rattle.net_check.proofs.Arcs.{fair_ends, fair_bounds, made_by, filled}
 use Rattle.net_check.proofs.fill.Goals as goal
 
-same : {n n' m m' : ℕ} {b b' c c' : List ℤ} {t t' d d' l l' u u' : List ℕ} → n ≡ n' → m ≡ m' → b ≡ b' → t ≡ t' → d ≡ d' → l ≡ l' → u ≡ u' → c ≡ c'
-    → ◌≡◌ {A = Network} (record { nodes = n; arcs = m; balances = b; tails = t; heads = d; lows = l; ups = u; costs = c })
-    (record { nodes = n'; arcs = m'; balances = b'; tails = t'; heads = d'; lows = l'; ups = u'; costs = c' })
-same p q r s v w x y = cc
-
-pub balances_of-given-requires : goal.balances_of-given-requires
-balances_of-given-requires c =
-    let ok : AllPassed c.args.balances.now c.args.arcs.now = passed c.args.balances.now c.args.arcs.now c.requires in
-    ok.nodes_fair.few
-
-pub ends_of-tails-requires : goal.ends_of-tails-requires
-ends_of-tails-requires c =
-    let ok : AllPassed c.args.balances.now c.args.arcs.now = passed c.args.balances.now c.args.arcs.now c.requires in
-    tails_column _ _ ok
-
-pub ends_of-heads-requires : goal.ends_of-heads-requires
-ends_of-heads-requires c =
-    let ok : AllPassed c.args.balances.now c.args.arcs.now = passed c.args.balances.now c.args.arcs.now c.requires in
-    heads_column _ _ ok
-
-pub bounds_of-lows-requires : goal.bounds_of-lows-requires
-bounds_of-lows-requires c =
-    let ok : AllPassed c.args.balances.now c.args.arcs.now = passed c.args.balances.now c.args.arcs.now c.requires in
-    lows_column _ _ ok
-
-pub bounds_of-ups-requires : goal.bounds_of-ups-requires
-bounds_of-ups-requires c =
-    let ok : AllPassed c.args.balances.now c.args.arcs.now = passed c.args.balances.now c.args.arcs.now c.requires in
-    ups_column _ _ ok
-
-pub costs_of-costs-requires : goal.costs_of-costs-requires
-costs_of-costs-requires c =
-    let ok : AllPassed c.args.balances.now c.args.arcs.now = passed c.args.balances.now c.args.arcs.now c.requires in
-    ok.arcs_fair.few
+pub from_fn-requires : goal.from_fn-requires
+from_fn-requires c =
+    let ends = fair_ends c.args.balances.now c.args.arcs.now c.requires in
+    let bounds = fair_bounds c.args.balances.now c.args.arcs.now c.requires in
+    grind serving
 
 pub returns : goal.returns
 returns c = let bs = c.args.balances.now in
     let xs = c.args.arcs.now in
-    same (sym (length_ints bs)) (sym (arcs_of xs) ∙ sym (length-map (rows (ints xs)) (λ r. nat_abs r.tail)))
-    c.balances_of-given.ensures c.ends_of-tails.ensures c.ends_of-heads.ensures
-    c.bounds_of-lows.ensures c.bounds_of-ups.ensures c.costs_of-costs.ensures
+    filled bs xs c.requires c.from_fn-2.result c.from_fn.result c.from_fn-2.ensures.items.long c.from_fn.ensures.items.long
+    (λ v h. made_by _ _ (λ v. get_or (ints bs) v (pos 0)) (λ v b q k. search rules) c.from_fn-2.result 64 c.from_fn-2.ensures.items v h (pos 0))
+    (λ a h. made_by _ _ (λ a. arc_of (get_or (rows (ints xs)) a no_arc)) (λ a r q k. search rules) c.from_fn.result 512 c.from_fn.ensures.items a h blank_arc)

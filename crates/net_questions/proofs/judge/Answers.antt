@@ -1,47 +1,47 @@
-use mathlib.Core.Path.{◌≡◌, sym, ◌∙◌}
-use mathlib.Core.Bool.{Bool, true, false, not}
-use Prim.Native.Nat.{ℕ, ◌/◌, ◌≤◌}
-use lib.ListN.{length}
-use borrow.Author.Tests.{not-true, not-false}
-use Rattle.net_questions.specs.Questions.{fair_nodes}
+use Rattle.std.proofs.Common.{◌≡◌, sym, ◌∙◌, rules, arith, ◌-◌, ◌/◌, length, w32, to_z}
+use mir.Facts.{to_z_pos}
+use Rattle.net_questions.specs.Questions.{Ends, Bounds, Cost, passes, last_node_number}
 use Rattle.net_questions.proofs.Rows.{fair_nodes_lem}
 use Rattle.net_questions.proofs.judge.Goals as goal
 
-said-no : {b t : Bool} → b ≡ t → not b ≡ true → t ≡ false
-said-no {b} p q = sym p ∙ not-true b q
+pub returns-then-not-all_rows : goal.returns-then-not-all_rows
+returns-then-not-all_rows c =
+    let fair = fair_nodes_lem (length c.args.balances.now) (sym c.fair_nodes.ensures ∙ c.if-not-fair_nodes.false) in
+    let last : to_z w32 (length c.args.balances.now / 4 - 1) ≡ last_node_number c.args.balances.now = to_z_pos w32 (omega (arith, fair.few)) in
+    let ends = c.all_rows.ensures (passes Ends (last_node_number c.args.balances.now)) (λ row b h. search rules) in
+    rw (sym c.fair_nodes.ensures ∙ c.if-not-fair_nodes.false, sym c.fair_arcs.ensures ∙ c.if-not-fair_arcs.false, sym ends ∙ c.if-not-all_rows.true)
 
-said-yes : {b t : Bool} → b ≡ t → not b ≡ false → t ≡ true
-said-yes {b} p q = sym p ∙ not-false b q
+pub returns-then-not-all_rows-2 : goal.returns-then-not-all_rows-2
+returns-then-not-all_rows-2 c =
+    let fair = fair_nodes_lem (length c.args.balances.now) (sym c.fair_nodes.ensures ∙ c.if-not-fair_nodes.false) in
+    let last : to_z w32 (length c.args.balances.now / 4 - 1) ≡ last_node_number c.args.balances.now = to_z_pos w32 (omega (arith, fair.few)) in
+    let ends = c.all_rows.ensures (passes Ends (last_node_number c.args.balances.now)) (λ row b h. search rules) in
+    let bounds = c.all_rows-2.ensures (passes Bounds (last_node_number c.args.balances.now)) (λ row b h. search rules) in
+    rw (sym c.fair_nodes.ensures ∙ c.if-not-fair_nodes.false, sym c.fair_arcs.ensures ∙ c.if-not-fair_arcs.false, sym ends ∙ c.if-not-all_rows.false, sym bounds ∙ c.if-not-all_rows-2.true)
 
-few : (k : ℕ) → fair_nodes k ≡ true → (1 ≤ k / 4) × (k / 4 ≤ 64)
-few k e = let f = fair_nodes_lem k e in (f.some, f.few)
-
-pub returns-then-not-fair_nodes : goal.returns-then-not-fair_nodes
-returns-then-not-fair_nodes c = rw (said-no c.fair_nodes.ensures c.if-not-fair_nodes.true-raw)
-
-pub returns-then-not-fair_arcs : goal.returns-then-not-fair_arcs
-returns-then-not-fair_arcs c = rw (said-yes c.fair_nodes.ensures c.if-not-fair_nodes.false-raw, said-no c.fair_arcs.ensures c.if-not-fair_arcs.true-raw)
-
-pub all_pass-requires : goal.all_pass-requires
-all_pass-requires c = few (length c.args.balances.now) (said-yes c.fair_nodes.ensures c.if-not-fair_nodes.false-raw)
-
-pub returns-then-not-all_pass : goal.returns-then-not-all_pass
-returns-then-not-all_pass c = rw (said-yes c.fair_nodes.ensures c.if-not-fair_nodes.false-raw, said-yes c.fair_arcs.ensures c.if-not-fair_arcs.false-raw, said-no c.all_pass.ensures c.if-not-all_pass.true-raw)
-
-pub all_pass-requires-2 : goal.all_pass-requires-2
-all_pass-requires-2 c = few (length c.args.balances.now) (said-yes c.fair_nodes.ensures c.if-not-fair_nodes.false-raw)
-
-pub returns-then-not-all_pass-2 : goal.returns-then-not-all_pass-2
-returns-then-not-all_pass-2 c = rw (said-yes c.fair_nodes.ensures c.if-not-fair_nodes.false-raw, said-yes c.fair_arcs.ensures c.if-not-fair_arcs.false-raw, said-yes c.all_pass.ensures c.if-not-all_pass.false-raw, said-no c.all_pass-2.ensures c.if-not-all_pass-2.true-raw)
-
-pub all_pass-requires-3 : goal.all_pass-requires-3
-all_pass-requires-3 c = few (length c.args.balances.now) (said-yes c.fair_nodes.ensures c.if-not-fair_nodes.false-raw)
-
-pub returns-then-not-all_pass-3 : goal.returns-then-not-all_pass-3
-returns-then-not-all_pass-3 c = rw (said-yes c.fair_nodes.ensures c.if-not-fair_nodes.false-raw, said-yes c.fair_arcs.ensures c.if-not-fair_arcs.false-raw, said-yes c.all_pass.ensures c.if-not-all_pass.false-raw, said-yes c.all_pass-2.ensures c.if-not-all_pass-2.false-raw, said-no c.all_pass-3.ensures c.if-not-all_pass-3.true-raw)
+pub returns-then-not-all_rows-3 : goal.returns-then-not-all_rows-3
+returns-then-not-all_rows-3 c =
+    let fair = fair_nodes_lem (length c.args.balances.now) (sym c.fair_nodes.ensures ∙ c.if-not-fair_nodes.false) in
+    let last : to_z w32 (length c.args.balances.now / 4 - 1) ≡ last_node_number c.args.balances.now = to_z_pos w32 (omega (arith, fair.few)) in
+    let ends = c.all_rows.ensures (passes Ends (last_node_number c.args.balances.now)) (λ row b h. search rules) in
+    let bounds = c.all_rows-2.ensures (passes Bounds (last_node_number c.args.balances.now)) (λ row b h. search rules) in
+    let cost = c.all_rows-3.ensures (passes Cost (last_node_number c.args.balances.now)) (λ row b h. search rules) in
+    rw (sym c.fair_nodes.ensures ∙ c.if-not-fair_nodes.false, sym c.fair_arcs.ensures ∙ c.if-not-fair_arcs.false, sym ends ∙ c.if-not-all_rows.false, sym bounds ∙ c.if-not-all_rows-2.false, sym cost ∙ c.if-not-all_rows-3.true)
 
 pub returns-then-not-all_balanced : goal.returns-then-not-all_balanced
-returns-then-not-all_balanced c = rw (said-yes c.fair_nodes.ensures c.if-not-fair_nodes.false-raw, said-yes c.fair_arcs.ensures c.if-not-fair_arcs.false-raw, said-yes c.all_pass.ensures c.if-not-all_pass.false-raw, said-yes c.all_pass-2.ensures c.if-not-all_pass-2.false-raw, said-yes c.all_pass-3.ensures c.if-not-all_pass-3.false-raw, said-no c.all_balanced.ensures c.if-not-all_balanced.true-raw)
+returns-then-not-all_balanced c =
+    let fair = fair_nodes_lem (length c.args.balances.now) (sym c.fair_nodes.ensures ∙ c.if-not-fair_nodes.false) in
+    let last : to_z w32 (length c.args.balances.now / 4 - 1) ≡ last_node_number c.args.balances.now = to_z_pos w32 (omega (arith, fair.few)) in
+    let ends = c.all_rows.ensures (passes Ends (last_node_number c.args.balances.now)) (λ row b h. search rules) in
+    let bounds = c.all_rows-2.ensures (passes Bounds (last_node_number c.args.balances.now)) (λ row b h. search rules) in
+    let cost = c.all_rows-3.ensures (passes Cost (last_node_number c.args.balances.now)) (λ row b h. search rules) in
+    rw (sym c.fair_nodes.ensures ∙ c.if-not-fair_nodes.false, sym c.fair_arcs.ensures ∙ c.if-not-fair_arcs.false, sym ends ∙ c.if-not-all_rows.false, sym bounds ∙ c.if-not-all_rows-2.false, sym cost ∙ c.if-not-all_rows-3.false, sym c.all_balanced.ensures ∙ c.if-not-all_balanced.true)
 
 pub returns : goal.returns
-returns c = rw (said-yes c.fair_nodes.ensures c.if-not-fair_nodes.false-raw, said-yes c.fair_arcs.ensures c.if-not-fair_arcs.false-raw, said-yes c.all_pass.ensures c.if-not-all_pass.false-raw, said-yes c.all_pass-2.ensures c.if-not-all_pass-2.false-raw, said-yes c.all_pass-3.ensures c.if-not-all_pass-3.false-raw, said-yes c.all_balanced.ensures c.if-not-all_balanced.false-raw)
+returns c =
+    let fair = fair_nodes_lem (length c.args.balances.now) (sym c.fair_nodes.ensures ∙ c.if-not-fair_nodes.false) in
+    let last : to_z w32 (length c.args.balances.now / 4 - 1) ≡ last_node_number c.args.balances.now = to_z_pos w32 (omega (arith, fair.few)) in
+    let ends = c.all_rows.ensures (passes Ends (last_node_number c.args.balances.now)) (λ row b h. search rules) in
+    let bounds = c.all_rows-2.ensures (passes Bounds (last_node_number c.args.balances.now)) (λ row b h. search rules) in
+    let cost = c.all_rows-3.ensures (passes Cost (last_node_number c.args.balances.now)) (λ row b h. search rules) in
+    rw (sym c.fair_nodes.ensures ∙ c.if-not-fair_nodes.false, sym c.fair_arcs.ensures ∙ c.if-not-fair_arcs.false, sym ends ∙ c.if-not-all_rows.false, sym bounds ∙ c.if-not-all_rows-2.false, sym cost ∙ c.if-not-all_rows-3.false, sym c.all_balanced.ensures ∙ c.if-not-all_balanced.false)

@@ -1,11 +1,7 @@
--- `text_read::read_number` meets its contract. The invariant: the bytes passed are digits of that value.
-use Prim.Native.Nat.{◌-◌}
-use lib.ListN.{length}
+-- `text_read::read_number` meets its contract: the bytes passed are digits of that value.
+use Rattle.std.proofs.Common.{◌≡◌}
 use Rattle.text_read.proofs.Runs.{Digits}
 use Rattle.text_read.proofs.read_number.Given as goal
 
-abbrev pub invariant-loop-i : goal.invariant-loop-i
-invariant-loop-i l = Digits l.rest l.value l.i
-
-abbrev pub decreases-loop-i : goal.decreases-loop-i
-decreases-loop-i l = length l.rest - l.i
+abbrev pub invariant-loop-b : goal.invariant-loop-b
+invariant-loop-b l = record { same : l.length ≡ l.b-index; digits : Digits l.rest l.value l.b-index }

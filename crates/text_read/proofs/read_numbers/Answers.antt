@@ -1,64 +1,36 @@
-use Prim.Native.Nat.{◌+◌, ◌≤◌}
-use mathlib.Core.Path.{refl}
-use mathlib.Core.List.{[], ◌∷◌, ◌++◌}
-use native.Mathlib.Omega.{arith}
-use lib.ListN.{length}
+use Rattle.std.proofs.Common.{arith, suc, ◌≡◌, ◌+◌, ◌-◌, ◌∙◌, length-set, take_all}
+use Rattle.std.proofs.lemmas.List.{length-replicate, take_more_set}
 use Rattle.text_read.specs.Heads.{bytes}
-use Rattle.text_read.proofs.Rows.{Passed, headed, unheaded, no_number, no_more, none_read, one_passed, row_ended, going_on}
+use Rattle.text_read.proofs.Rows.{known_none, no_head, no_number, one_more, all_known}
 use Rattle.text_read.proofs.read_numbers.Goals as goal
 
-pub returns-then-at-eq0 : goal.returns-then-at-eq0
-returns-then-at-eq0 c = none_read _ _ _ c.no_row.ensures (λ n h k. unheaded _ _ c.read_text-at.ensures c.if-at-eq0.true n h)
+pub loop-value-init : goal.loop-value-init
+loop-value-init g c = record { some = c.requires.head; places = length-replicate g.row.N 0; known = known_none _ _ _ _ (omega arith) }
 
-pub loop-count-init : goal.loop-count-init
-loop-count-init c = record { d = []; numbers_are = refl; count_is = refl; expecting = headed _ _ c.read_text-at.ensures c.if-at-eq0.false }
+pub returns-in_err-read_text : goal.returns-in_err-read_text
+returns-in_err-read_text g c =
+    let left : g.row.N - c.loop-value.value-index ≡ suc (g.row.N - (c.loop-value.value-index + 1)) = omega (arith, c.loop-value-test.true) in
+    rw c.from_residual.ensures (no_head c.loop-value.invariant.known left (c.in_err-read_text.ensures))
 
-pub returns-then-v-eq0 : goal.returns-then-v-eq0
-returns-then-v-eq0 c = none_read _ _ _ c.no_row-then-v-eq0.ensures (λ n h k. no_number _ _ c.loop-count.invariant.expecting c.read_number-v.ensures c.if-v-eq0.true n h)
+pub returns-in_err-number : goal.returns-in_err-number
+returns-in_err-number g c =
+    let left : g.row.N - c.loop-value.value-index ≡ suc (g.row.N - (c.loop-value.value-index + 1)) = omega (arith, c.loop-value-test.true) in
+    rw c.from_residual-in_err-number.ensures (no_number c.loop-value.invariant.known left c.in_ok-read_text.ensures (c.in_err-number.ensures))
 
-pub returns-then-end-ne0 : goal.returns-then-end-ne0
+pub loop-value-preserved : goal.loop-value-preserved
 unfolding bytes
-returns-then-end-ne0 c = row_ended _ _ c.loop-count.invariant c.read_number-v.ensures c.if-v-eq0.false c.read_text-end.ensures c.loop-count-test.true c.if-end-ne0.true
-
-pub returns-then-space-eq0 : goal.returns-then-space-eq0
-unfolding bytes
-returns-then-space-eq0 c =
-    let number_passed : let l = c.loop-count in let v = c.read_number-v.result in Passed c.args.head.now c.args.rest.now (l.invariant.d ++ (v.value ∷ [])) (l.at + v.used) = one_passed _ _ c.loop-count.invariant c.read_number-v.ensures c.if-v-eq0.false in
-    none_read _ _ _ c.no_row-then-space-eq0.ensures
-    (λ n h k. no_more _ _ number_passed c.read_text-end.ensures c.if-end-ne0.false c.read_text-space.ensures c.if-space-eq0.true n h)
-
-pub loop-count-preserved : goal.loop-count-preserved
-unfolding bytes
-loop-count-preserved c = going_on _ _ c.loop-count.invariant c.read_number-v.ensures c.if-v-eq0.false c.read_text-end.ensures c.loop-count-test.true c.if-end-ne0.false c.read_text-space.ensures c.if-space-eq0.false
+loop-value-preserved g c =
+    let v = c.loop-value in
+    let left : g.row.N - v.value-index ≡ suc (g.row.N - (v.value-index + 1)) = omega (arith, c.loop-value-test.true) in
+    record {
+      some = omega arith;
+      places = length-set v.value-items v.value-index c.in_ok-number.number ∙ v.invariant.places;
+      known = rw (take_more_set v.value-items v.value-index c.in_ok-number.number (omega (arith, c.loop-value-test.true, v.invariant.places)))
+          (one_more v.invariant.known left c.in_ok-read_text.ensures c.in_ok-number.ensures);
+    }
 
 pub returns : goal.returns
-returns c = let l = c.loop-count in
-    none_read _ _ _ c.no_row-2.ensures (λ n h k. l.invariant.expecting.shorter n h (omega (arith, l.invariant.count_is, c.loop-count-test.false)))
-
-pub slice_bounds-read_number-count : goal.slice_bounds-read_number-count
-slice_bounds-read_number-count c =
-    let reached : c.loop-count.at ≤ length c.args.rest.now = (c.loop-count.invariant.expecting.longer 0).within in
-    reached
-
-pub slice_bounds-read_number-start : goal.slice_bounds-read_number-start
-slice_bounds-read_number-start c =
-    let reached : c.loop-count.at ≤ length c.args.rest.now = (c.loop-count.invariant.expecting.longer 0).within in
-    reached
-
-pub overflow_add-at : goal.overflow_add-at
-overflow_add-at c =
-    let number_passed : let l = c.loop-count in let v = c.read_number-v.result in Passed c.args.head.now c.args.rest.now (l.invariant.d ++ (v.value ∷ [])) (l.at + v.used) = one_passed _ _ c.loop-count.invariant c.read_number-v.ensures c.if-v-eq0.false in
-    let past : c.loop-count.at + c.read_number-v.result.used ≤ length c.args.rest.now = (number_passed.longer 0).within in
-    omega (arith, past)
-
-pub slice_bounds-read_text-count : goal.slice_bounds-read_text-count
-slice_bounds-read_text-count c =
-    let number_passed : let l = c.loop-count in let v = c.read_number-v.result in Passed c.args.head.now c.args.rest.now (l.invariant.d ++ (v.value ∷ [])) (l.at + v.used) = one_passed _ _ c.loop-count.invariant c.read_number-v.ensures c.if-v-eq0.false in
-    let past : c.loop-count.at + c.read_number-v.result.used ≤ length c.args.rest.now = (number_passed.longer 0).within in
-    past
-
-pub slice_bounds-read_text-start : goal.slice_bounds-read_text-start
-slice_bounds-read_text-start c =
-    let number_passed : let l = c.loop-count in let v = c.read_number-v.result in Passed c.args.head.now c.args.rest.now (l.invariant.d ++ (v.value ∷ [])) (l.at + v.used) = one_passed _ _ c.loop-count.invariant c.read_number-v.ensures c.if-v-eq0.false in
-    let past : c.loop-count.at + c.read_number-v.result.used ≤ length c.args.rest.now = (number_passed.longer 0).within in
-    past
+returns g c =
+    let v = c.loop-value in
+    rw (take_all v.value-index v.value-items (omega (arith, v.invariant.places, c.loop-value-test.false))) at
+    (all_known v.invariant.known (omega (arith, c.loop-value-test.false)) c.requires.some)

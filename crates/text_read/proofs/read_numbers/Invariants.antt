@@ -1,10 +1,11 @@
--- `text_read::read_numbers` meets its contract: of the rows of 1 to 4 numbers, no more than one goes on at each place.
-use Prim.Native.Nat.{◌-◌}
+-- `text_read::read_numbers` meets its contract: after each number, the first of the others stands behind `before`.
+use Rattle.std.proofs.Common.{◌≡◌, ◌-◌, ◌<◌, length, take}
 use Rattle.text_read.proofs.Rows.{Known}
 use Rattle.text_read.proofs.read_numbers.Given as goal
 
-abbrev pub invariant-loop-count : goal.invariant-loop-count
-invariant-loop-count l = Known l.head l.rest l.at l.numbers l.count
-
-abbrev pub decreases-loop-count : goal.decreases-loop-count
-decreases-loop-count l = 4 - l.count
+abbrev pub invariant-loop-value : goal.invariant-loop-value
+invariant-loop-value g l = record {
+  some : 0 < length l.before;
+  places : length l.value-items ≡ g.row.N;
+  known : Known l.head l.rest g.row.N (take l.value-index l.value-items) (g.row.N - l.value-index) l.before l.after;
+}

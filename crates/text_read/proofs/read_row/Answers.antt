@@ -1,9 +1,15 @@
--- `text_read::read_row` meets its contract: as many numbers as are asked for, or none.
-use Rattle.text_read.proofs.Rows.{row_stands, row_absent}
+-- `text_read::read_row` meets its contract: numbers, and behind them the end of the line.
+use Rattle.text_read.specs.Heads.{bytes}
+use Rattle.text_read.proofs.Rows.{row_unread, row_open, row_closed}
 use Rattle.text_read.proofs.read_row.Goals as goal
 
-pub returns-then-r-n : goal.returns-then-r-n
-returns-then-r-n c = row_stands _ _ c.read_numbers-r.ensures _ c.requires.0 c.requires.1 c.if-r-n.true
+pub returns-in_default : goal.returns-in_default
+returns-in_default g c = row_unread _ _ _ c.in_default.ensures
+
+pub returns-in_err-after : goal.returns-in_err-after
+unfolding bytes
+returns-in_err-after g c = rw c.from_residual.ensures (row_open _ _ _ c.in-Some.ensures c.in_err-after.ensures)
 
 pub returns : goal.returns
-returns c = row_absent _ _ c.read_numbers-r.ensures _ c.requires.0 c.requires.1 c.if-r-n.false _ c.no_row.ensures
+unfolding bytes
+returns g c = row_closed _ _ _ c.in-Some.ensures c.in_ok-after.ensures

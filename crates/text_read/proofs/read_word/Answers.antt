@@ -1,26 +1,17 @@
-use mathlib.Core.Path.{◌≡◌, sym, ◌∙◌}
-use mathlib.Core.Bool.{true}
-use native.Mathlib.Omega.{arith}
-use lib.ListN.{get_or}
+-- `text_read::read_word` meets its contract: the longest front of letters and digits, if it is short.
+use Rattle.std.proofs.Common.{arith, sym, ◌∙◌}
+use Rattle.std.proofs.lemmas.List.Sums.{prefix_len-le-length}
 use Rattle.text_read.specs.Reader.{word_byte}
-use Rattle.text_read.proofs.Runs.{passed_none, passed_more, word_long, word_right, front_ends, front_stops}
+use Rattle.text_read.proofs.Runs.{word_stands, word_fails}
 use Rattle.text_read.proofs.read_word.Goals as goal
 
-pub loop-i-init : goal.loop-i-init
-loop-i-init c = (passed_none word_byte _, omega arith)
+pub split_at-requires : goal.split_at-requires
+split_at-requires c = omega (arith, c.count_word_bytes.ensures, prefix_len-le-length word_byte c.args.rest.now)
 
-pub returns-then-i-eq16 : goal.returns-then-i-eq16
-returns-then-i-eq16 c =
-    let in-word : word_byte (get_or c.args.rest.now c.loop-i.i 0) ≡ true = sym c.is_word_byte.ensures ∙ c.if-not-is_word_byte.false in
-    word_long c.loop-i.invariant.0 c.loop-i-test.true in-word c.if-i-eq16.true
+pub returns-then-is_short : goal.returns-then-is_short
+returns-then-is_short c =
+    let front = c.split_at.ensures.front in
+    rw (front, c.split_at.ensures.back) (word_stands c.args.rest.now c.count_word_bytes.ensures (rw front at (sym c.is_short.ensures ∙ c.if-is_short.true)))
 
-pub loop-i-preserved : goal.loop-i-preserved
-loop-i-preserved c =
-    let in-word : word_byte (get_or c.args.rest.now c.loop-i.i 0) ≡ true = sym c.is_word_byte.ensures ∙ c.if-not-is_word_byte.false in
-    (passed_more c.loop-i.invariant.0 c.loop-i-test.true in-word, omega arith)
-
-pub returns-after-loop-i : goal.returns-after-loop-i
-returns-after-loop-i c = word_right c.loop-i.invariant.0 c.loop-i.invariant.1 (front_ends word_byte _ _ c.loop-i-test.false)
-
-pub returns-then-not-is_word_byte : goal.returns-then-not-is_word_byte
-returns-then-not-is_word_byte c = word_right c.loop-i.invariant.0 c.loop-i.invariant.1 (front_stops word_byte _ _ c.loop-i-test.true (sym c.is_word_byte.ensures ∙ c.if-not-is_word_byte.true))
+pub returns-else-is_short : goal.returns-else-is_short
+returns-else-is_short c = word_fails c.args.rest.now c.count_word_bytes.ensures (rw c.split_at.ensures.front at (sym c.is_short.ensures ∙ c.if-is_short.false))

@@ -1,34 +1,35 @@
-use mathlib.Core.Path.{refl}
-use native.Mathlib.Omega.{arith}
-use Rattle.way_network.proofs.Network.{has_tables, few_entries, few_players, arcs_room, makes_net}
+use Rattle.std.proofs.Common.{◌+◌, refl, ap, ◌∙◌, arith}
+use Rattle.way_joins.proofs.Tables.{held_tables, holds_timing}
+use Rattle.way_joins.proofs.Lookup.{few}
+use Rattle.way_network.proofs.Put.{blocks_on, blocks_room, rows_room, all_put, makes_net}
+use Rattle.way_network.specs.Network.{put_arcs, rows_by}
 use Rattle.way_network.proofs.network_of.Goals as goal
+use Rattle.way_network.proofs.network_of.Goals.{else-loop-j-test, then-loop-j-test+else-j-e}
 
-pub put_arcs-m-requires : goal.put_arcs-m-requires
-put_arcs-m-requires c = (has_tables c.args.book c.requires, refl)
+pub put_joins-requires : goal.put_joins-requires
+put_joins-requires c = (held_tables c.requires, c.loop-j.invariant.low, c.loop-j-test.true, blocks_room _ _ c.requires refl c.loop-j.net c.loop-j.j c.loop-j.invariant)
 
-pub balances_of-balances-requires : goal.balances_of-balances-requires
-balances_of-balances-requires c = (few_players c.args.book c.requires, few_entries c.args.book c.requires)
+pub loop-j-preserved : goal.loop-j-preserved
+loop-j-preserved c = blocks_on _ _ c.loop-j.net c.put_joins.new.net c.loop-j.j c.loop-j.invariant c.loop-j-test.true c.put_joins.ensures
+
+pub put_rows-requires : goal.put_rows-requires
+put_rows-requires c =
+    let n = few (holds_timing c.requires.holds) in (
+      n,
+      elim c.loop-j-test.branch [
+        | else-loop-j-test w ↦ rw w.net-is (rows_room _ _ c.requires refl c.loop-j.net c.loop-j.j c.loop-j.invariant)
+        | then-loop-j-test+else-j-e w ↦ rw w.net-is (rows_room _ _ c.requires refl w.put_joins.new.net (c.loop-j.j + 1) (blocks_on _ _ c.loop-j.net w.put_joins.new.net c.loop-j.j c.loop-j.invariant w.loop-j-test.true w.put_joins.ensures))
+      ],
+    )
 
 pub returns : goal.returns
-returns c = makes_net c.args.book _ _ c.put_arcs-m.ensures _ _ _ c.balances_of-balances.ensures c.ones-lows.ensures c.ups_of-ups.ensures
-
-pub ones-lows-requires : goal.ones-lows-requires
-ones-lows-requires c = omega (arith, arcs_room c.args.book _ _ c.put_arcs-m.ensures c.requires, few_entries c.args.book c.requires)
-
-pub overflow_mul-n : goal.overflow_mul-n
-overflow_mul-n c = omega (arith, arcs_room c.args.book _ _ c.put_arcs-m.ensures c.requires, few_entries c.args.book c.requires)
-
-pub overflow_add-n : goal.overflow_add-n
-overflow_add-n c = omega (arith, arcs_room c.args.book _ _ c.put_arcs-m.ensures c.requires, few_entries c.args.book c.requires)
-
-pub ups_of-ups-requires : goal.ups_of-ups-requires
-ups_of-ups-requires c = omega (arith, arcs_room c.args.book _ _ c.put_arcs-m.ensures c.requires, few_entries c.args.book c.requires)
-
-pub overflow_mul-result : goal.overflow_mul-result
-overflow_mul-result c = omega (arith, arcs_room c.args.book _ _ c.put_arcs-m.ensures c.requires, few_entries c.args.book c.requires)
-
-pub overflow_add-result : goal.overflow_add-result
-overflow_add-result c = omega (arith, arcs_room c.args.book _ _ c.put_arcs-m.ensures c.requires, few_entries c.args.book c.requires)
-
-pub overflow_add-result-2 : goal.overflow_add-result-2
-overflow_add-result-2 c = omega (arith, arcs_room c.args.book _ _ c.put_arcs-m.ensures c.requires, few_entries c.args.book c.requires)
+returns c =
+    let book = c.args.book.now in
+    let net = c.put_rows.new.net in
+    let j = c.loop-j.j in
+    makes_net book _ refl refl net c.balances_of.ensures refl (λ b h. elim c.loop-j-test.branch [
+      | else-loop-j-test w ↦ all_put book _ c.loop-j.net net j c.loop-j.invariant (omega arith) (c.put_rows.ensures ∙ ap (λ n. put_arcs n (rows_by book.count book.players)) w.net-is) b h
+      | then-loop-j-test+else-j-e w ↦
+          all_put book _ w.put_joins.new.net net (j + 1) (blocks_on _ _ c.loop-j.net w.put_joins.new.net j c.loop-j.invariant w.loop-j-test.true w.put_joins.ensures) (omega arith)
+          (c.put_rows.ensures ∙ ap (λ n. put_arcs n (rows_by book.count book.players)) w.net-is) b h
+    ])

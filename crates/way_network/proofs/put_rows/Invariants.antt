@@ -1,10 +1,8 @@
-use Prim.Native.Nat.{◌-◌}
-use Rattle.way_network.specs.Arrays.{arrays}
-use Rattle.way_network.proofs.Progress.{Row}
+use Rattle.way_network.proofs.Put.{EntriesLeft, EndsLeft}
 use Rattle.way_network.proofs.put_rows.Given as goal
 
-abbrev pub invariant-loop-k : goal.invariant-loop-k
-invariant-loop-k l = Row l.e (arrays l.initial.tails l.initial.heads l.initial.costs) l.m (arrays l.tails l.heads l.costs) l.k
+abbrev pub invariant-loop-j : goal.invariant-loop-j
+invariant-loop-j l = EntriesLeft l.e l.players l.fn.net l.net l.j
 
-abbrev pub decreases-loop-k : goal.decreases-loop-k
-decreases-loop-k l = l.k-end - l.k
+abbrev pub invariant-loop-j-2 : goal.invariant-loop-j-2
+invariant-loop-j-2 l = EndsLeft l.e l.players l.fn.net l.net l.j

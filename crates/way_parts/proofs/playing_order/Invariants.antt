@@ -1,11 +1,7 @@
--- The invariant: the parts that the first j entries open are written.
-use Prim.Native.Nat.{◌-◌}
-use lib.ListN.{length, replicate}
+-- The invariant: the parts that the first k entries open are written.
+use Rattle.std.proofs.Common.{replicate}
 use Rattle.way_parts.proofs.AllParts.{Ordered}
 use Rattle.way_parts.proofs.playing_order.Given as goal
 
-abbrev pub invariant-loop-j : goal.invariant-loop-j
-invariant-loop-j l = Ordered l.way (replicate 28 0) l.order l.at l.j
-
-abbrev pub decreases-loop-j : goal.decreases-loop-j
-decreases-loop-j l = length l.way - l.j
+abbrev pub invariant-loop-k : goal.invariant-loop-k
+invariant-loop-k l = Ordered l.way (replicate 28 0) l.order l.at l.k

@@ -1,22 +1,16 @@
-use mathlib.Core.Path.{sym, ap, ◌∙◌}
-use native.Mathlib.Omega.{arith}
-use Rattle.laws.specs.Members.{first?}
-use Rattle.way_theory.specs.Ways.{or_none}
-use Rattle.way_parts.proofs.Behind.{behind_none, behind_all, behind_found, behind_passed}
+use Rattle.std.proofs.Common.{◌≡◌, sym, ap, ◌∙◌, rules, tests, ◌+◌, eqb, option_map}
+use Rattle.std.proofs.lemmas.Iterator.{YieldsList-from_slice}
+use Rattle.std.proofs.lemmas.Iterator.Search.{position_from_yields_List}
+use Rattle.std.specs.List.{position}
+use Rattle.way_parts.proofs.Searched.{searched}
 use Rattle.way_parts.proofs.successor.Goals as goal
 
--- src/lib.rt:16:5
-pub loop-k-init : goal.loop-k-init
-loop-k-init c = (ap first? (behind_none _ _), omega arith)
+pub returns-in_err-k : goal.returns-in_err-k
+returns-in_err-k c =
+    let e : c.position.result ≡ position (λ p. eqb p c.args.i) c.args.way.now = position_from_yields_List (λ p. eqb p c.args.i) _ _ _ c.position.ensures.ran (YieldsList-from_slice c.args.way.now cc) (λ x b q k. search (rules, tests)) in
+    c.from_residual.ensures ∙ sym (ap (option_map (λ k. k + 1)) (sym e ∙ c.in_err-k.was)) ∙ sym (searched c.args.way.now c.args.i)
 
--- src/lib.rt:18:13
-pub returns-then-way-k : goal.returns-then-way-k
-returns-then-way-k c = sym (ap or_none (c.loop-k.invariant.0 ∙ ap first? (behind_found _ _ _ c.loop-k-test.true c.if-way-k.true)))
-
--- src/lib.rt:16:5
-pub loop-k-preserved : goal.loop-k-preserved
-loop-k-preserved c = (c.loop-k.invariant.0 ∙ ap first? (behind_passed _ _ _ c.loop-k-test.true c.if-way-k.false), omega arith)
-
--- src/lib.rt:12:1
 pub returns : goal.returns
-returns c = sym (ap or_none (c.loop-k.invariant.0 ∙ ap first? (behind_all _ _ _ c.loop-k-test.false)))
+returns c =
+    let e : c.position.result ≡ position (λ p. eqb p c.args.i) c.args.way.now = position_from_yields_List (λ p. eqb p c.args.i) _ _ _ c.position.ensures.ran (YieldsList-from_slice c.args.way.now cc) (λ x b q k. search (rules, tests)) in
+    sym (ap (option_map (λ k. k + 1)) (sym e ∙ c.in_ok-k.was)) ∙ sym (searched c.args.way.now c.args.i)

@@ -6,15 +6,15 @@ use Rattle.way_sheet_sizes.proofs.play_line_size.Goals as goal
 
 pub overflow_add-result-2 : goal.overflow_add-result-2
 unfolding bytes
-overflow_add-result-2 c = omega (arith, c.requires, c.item_size.ensures, item_most name_end c.args.start (omega arith))
+overflow_add-result-2 c = omega (arith, c.requires, c.item_size.ensures, item_most name_end c.args.entry.now.start (omega arith))
 
 pub overflow_add-result-3 : goal.overflow_add-result-3
 unfolding bytes
-overflow_add-result-3 c = omega (arith, c.requires, c.item_size.ensures, c.row_size.ensures, item_most name_end c.args.start (omega arith), row_size space c.args.finish 9 (omega arith))
+overflow_add-result-3 c = omega (arith, c.requires, c.item_size.ensures, c.row_size.ensures, item_most name_end c.args.entry.now.start (omega arith), row_size space c.args.entry.now.finish 9 (omega arith))
 
 pub returns : goal.returns
 unfolding bytes
 returns c = (
   omega (arith, c.item_size.ensures, c.row_size.ensures),
-  omega (arith, c.requires, c.item_size.ensures, c.row_size.ensures, item_most name_end c.args.start (omega arith), row_size space c.args.finish 9 (omega arith)),
+  omega (arith, c.requires, c.item_size.ensures, c.row_size.ensures, item_most name_end c.args.entry.now.start (omega arith), row_size space c.args.entry.now.finish 9 (omega arith)),
 )

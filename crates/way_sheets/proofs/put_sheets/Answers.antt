@@ -1,118 +1,78 @@
-use mathlib.Core.Path.{◌≡◌}
-use mathlib.Core.List.{List}
-use Prim.Native.Nat.{ℕ, ◌<◌, ◌+◌, ◌-◌, ◌≤◌}
+use Rattle.std.proofs.Common.{◌≡◌, refl, ap, List, ℕ, ◌+◌, ◌-◌, ◌≤◌, ◌<◌, length, take, get_or, arith, rules}
 use Rattle.laws.specs.Padded.{padded}
+use Rattle.book_lines.specs.Columns.{blank_entry}
 use Rattle.book_form.specs.declared.CheckedBook.{CheckedBook}
+use Rattle.text_write.proofs.Writing.{writes_then, room_first, room_then}
 use Rattle.way_parts.specs.Parts.{playing_order}
 use Rattle.way_gaps.specs.declared.JoinTicks.{JoinTicks}
 use Rattle.way_sheets.specs.Writing.{HasRoom}
-use native.Mathlib.Omega.{arith}
-use lib.ListN.{length, get_or}
-use Rattle.laws.specs.Appended.{appended_long}
-use Rattle.way_sheets.proofs.Turn.{put_none, begun_few, acyclic, entry_inside, name_inside, put_room, put_more, last_room, put_all, written}
+use Rattle.way_sheets.proofs.Turn.{put_none, begun_few, acyclic, as_long, entry_inside, name_inside, put_room, put_more, last_room, written, sheets_held}
 use Rattle.way_sheets.proofs.put_sheets.Goals as goal
 
 -- the entry of a turn is one of the way, and its name lies in the bytes
-module _ (s : List ℕ) (b : CheckedBook) (w : List ℕ) (x : JoinTicks) (room : ℕ) (roomy : HasRoom s b w x room) where
-  module _ (order : List ℕ) (o : order ≡ padded 28 0 (playing_order w)) (k : ℕ) (h : k < length w) where
-    inside : let e = get_or order k 0 in (1 ≤ e) × (e ≤ length w) × (length w ≤ 28)
-    inside = let e = entry_inside _ _ _ _ _ roomy _ o _ h in (e.0, e.1, (acyclic _ _ _ _ _ roomy).few)
+module _ (s : List ℕ) (b : CheckedBook) (w : List ℕ) (x : List JoinTicks) (room : ℕ) (roomy : HasRoom s b w x room) (order : List ℕ) (o : order ≡ padded 28 0 (playing_order w)) where
+  all : length (take (length w) order) ≡ length w
+  all = as_long s b w x room roomy (take (length w) order) (ap (take (length w)) o)
 
-    named : let j = get_or order k 0 - 1 in get_or b.names j 0 + get_or b.lengths j 0 ≤ length s
-    named = let e = entry_inside _ _ _ _ _ roomy _ o _ h in name_inside _ _ _ _ _ roomy _ e.0 e.2
+  module _ (k : ℕ) (h : k < length (take (length w) order)) where
+    abbrev entry : ℕ
+    entry = get_or (take (length w) order) k 0
+
+    inside : (1 ≤ entry) × (entry ≤ length w) × (length w ≤ 28)
+    inside = let e = entry_inside s b w x room roomy (take (length w) order) (ap (take (length w)) o) k h in (e.0, e.1, (acyclic s b w x room roomy).few)
+
+    named : let e = get_or b.entries (entry - 1) blank_entry in e.name + e.length ≤ length s
+    named = let e = entry_inside s b w x room roomy (take (length w) order) (ap (take (length w)) o) k h in name_inside s b w x room roomy entry e.0 e.2
 
 pub playing_order-order-requires : goal.playing_order-order-requires
 playing_order-order-requires c = acyclic _ _ _ _ _ c.requires
 
-pub loop-k-init : goal.loop-k-init
-loop-k-init c = put_none _ _ _
-
-pub offset_bounds-order-k : goal.offset_bounds-order-k
-offset_bounds-order-k c = omega (arith, inside _ _ _ _ _ c.requires _ c.playing_order-order.ensures _ c.loop-k-test.true, c.loop-k-test.true)
-
-pub bounds-order-k : goal.bounds-order-k
-bounds-order-k c = omega (arith, inside _ _ _ _ _ c.requires _ c.playing_order-order.ensures _ c.loop-k-test.true, c.loop-k-test.true)
+pub loop-number-init : goal.loop-number-init
+loop-number-init c = put_none _ _ _ refl
 
 pub overflow_sub-j : goal.overflow_sub-j
-overflow_sub-j c = omega (arith, inside _ _ _ _ _ c.requires _ c.playing_order-order.ensures _ c.loop-k-test.true)
-
-pub overflow_cast-j : goal.overflow_cast-j
-overflow_cast-j c = omega (arith, inside _ _ _ _ _ c.requires _ c.playing_order-order.ensures _ c.loop-k-test.true)
-
-pub offset_bounds-way-j : goal.offset_bounds-way-j
-offset_bounds-way-j c = omega (arith, inside _ _ _ _ _ c.requires _ c.playing_order-order.ensures _ c.loop-k-test.true)
+overflow_sub-j c = omega (arith, inside _ _ _ _ _ c.requires _ c.playing_order-order.ensures _ c.loop-number-test.true)
 
 pub bounds-way-j : goal.bounds-way-j
-bounds-way-j c = omega (arith, inside _ _ _ _ _ c.requires _ c.playing_order-order.ensures _ c.loop-k-test.true)
+bounds-way-j c = omega (arith, inside _ _ _ _ _ c.requires _ c.playing_order-order.ensures _ c.loop-number-test.true)
 
-pub offset_bounds-names-j : goal.offset_bounds-names-j
-offset_bounds-names-j c = omega (arith, inside _ _ _ _ _ c.requires _ c.playing_order-order.ensures _ c.loop-k-test.true)
+pub bounds-book-j : goal.bounds-book-j
+bounds-book-j c = omega (arith, inside _ _ _ _ _ c.requires _ c.playing_order-order.ensures _ c.loop-number-test.true)
 
-pub bounds-names-j : goal.bounds-names-j
-bounds-names-j c = omega (arith, inside _ _ _ _ _ c.requires _ c.playing_order-order.ensures _ c.loop-k-test.true)
+pub overflow_add-name : goal.overflow_add-name
+overflow_add-name c = omega (arith, named _ _ _ _ _ c.requires _ c.playing_order-order.ensures _ c.loop-number-test.true)
 
-pub offset_bounds-lengths-j : goal.offset_bounds-lengths-j
-offset_bounds-lengths-j c = omega (arith, inside _ _ _ _ _ c.requires _ c.playing_order-order.ensures _ c.loop-k-test.true)
+pub slice_bounds-name-end : goal.slice_bounds-name-end
+slice_bounds-name-end c = named _ _ _ _ _ c.requires _ c.playing_order-order.ensures _ c.loop-number-test.true
 
-pub bounds-lengths-j : goal.bounds-lengths-j
-bounds-lengths-j c = omega (arith, inside _ _ _ _ _ c.requires _ c.playing_order-order.ensures _ c.loop-k-test.true)
+pub bounds-ticks-j : goal.bounds-ticks-j
+bounds-ticks-j c = omega (arith, inside _ _ _ _ _ c.requires _ c.playing_order-order.ensures _ c.loop-number-test.true)
 
-pub overflow_add-to : goal.overflow_add-to
-overflow_add-to c = omega (arith, named _ _ _ _ _ c.requires _ c.playing_order-order.ensures _ c.loop-k-test.true)
+pub put_lead-requires : goal.put_lead-requires
+put_lead-requires c =
+    let d = c.loop-number.invariant in (
+      omega (arith, begun_few _ _ _ _ _ c.requires d, inside _ _ _ _ _ c.requires _ c.playing_order-order.ensures _ c.loop-number-test.true, all _ _ _ _ _ c.requires _ c.playing_order-order.ensures, c.loop-number-test.true),
+      room_first _ _ (put_room _ _ _ _ _ c.requires _ (ap (take (length c.args.way.now)) c.playing_order-order.ensures) _ c.loop-number-test.true d refl (omega arith)),
+    )
 
-pub slice_bounds-put_entry-end : goal.slice_bounds-put_entry-end
-slice_bounds-put_entry-end c = named _ _ _ _ _ c.requires _ c.playing_order-order.ensures _ c.loop-k-test.true
-
-pub offset_bounds-gaps-j : goal.offset_bounds-gaps-j
-offset_bounds-gaps-j c = omega (arith, inside _ _ _ _ _ c.requires _ c.playing_order-order.ensures _ c.loop-k-test.true)
-
-pub bounds-gaps-j : goal.bounds-gaps-j
-bounds-gaps-j c = omega (arith, inside _ _ _ _ _ c.requires _ c.playing_order-order.ensures _ c.loop-k-test.true)
-
-pub offset_bounds-spares-j : goal.offset_bounds-spares-j
-offset_bounds-spares-j c = omega (arith, inside _ _ _ _ _ c.requires _ c.playing_order-order.ensures _ c.loop-k-test.true)
-
-pub bounds-spares-j : goal.bounds-spares-j
-bounds-spares-j c = omega (arith, inside _ _ _ _ _ c.requires _ c.playing_order-order.ensures _ c.loop-k-test.true)
-
-pub offset_bounds-starts-j : goal.offset_bounds-starts-j
-offset_bounds-starts-j c = omega (arith, inside _ _ _ _ _ c.requires _ c.playing_order-order.ensures _ c.loop-k-test.true)
-
-pub bounds-starts-j : goal.bounds-starts-j
-bounds-starts-j c = omega (arith, inside _ _ _ _ _ c.requires _ c.playing_order-order.ensures _ c.loop-k-test.true)
-
-pub offset_bounds-finishes-j : goal.offset_bounds-finishes-j
-offset_bounds-finishes-j c = omega (arith, inside _ _ _ _ _ c.requires _ c.playing_order-order.ensures _ c.loop-k-test.true)
-
-pub bounds-finishes-j : goal.bounds-finishes-j
-bounds-finishes-j c = omega (arith, inside _ _ _ _ _ c.requires _ c.playing_order-order.ensures _ c.loop-k-test.true)
-
-pub put_entry-at-requires : goal.put_entry-at-requires
-put_entry-at-requires c =
-    let few : c.loop-k.n ≤ 28 = omega (arith, begun_few _ _ _ _ _ c.requires c.loop-k.invariant, inside _ _ _ _ _ c.requires _ c.playing_order-order.ensures _ c.loop-k-test.true, c.loop-k-test.true) in
-    let d = c.loop-k.invariant in
-    (few, put_room _ _ _ _ _ c.requires _ c.playing_order-order.ensures _ c.loop-k-test.true d (omega arith))
+pub put_play_line-requires : goal.put_play_line-requires
+put_play_line-requires c =
+    room_then _ _ c.put_lead.ensures
+    (put_room _ _ _ _ _ c.requires _ (ap (take (length c.args.way.now)) c.playing_order-order.ensures) _ c.loop-number-test.true c.loop-number.invariant refl (omega arith))
 
 pub begun-n-requires : goal.begun-n-requires
 begun-n-requires c =
-    let few : c.loop-k.n ≤ 28 = omega (arith, begun_few _ _ _ _ _ c.requires c.loop-k.invariant, inside _ _ _ _ _ c.requires _ c.playing_order-order.ensures _ c.loop-k-test.true, c.loop-k-test.true) in
-    few
+    omega (arith, begun_few _ _ _ _ _ c.requires c.loop-number.invariant, inside _ _ _ _ _ c.requires _ c.playing_order-order.ensures _ c.loop-number-test.true, all _ _ _ _ _ c.requires _ c.playing_order-order.ensures, c.loop-number-test.true)
 
-pub overflow_step-k : goal.overflow_step-k
-overflow_step-k c = omega (arith, inside _ _ _ _ _ c.requires _ c.playing_order-order.ensures _ c.loop-k-test.true, c.loop-k-test.true)
-
-pub loop-k-smaller : goal.loop-k-smaller
-loop-k-smaller c = omega (arith, c.loop-k-test.true)
-
-pub loop-k-preserved : goal.loop-k-preserved
-loop-k-preserved c = put_more _ _ _ _ _ c.requires _ c.playing_order-order.ensures _ c.loop-k-test.true c.loop-k.invariant
-    c.put_entry-at.ensures c.begun-n.ensures
+pub loop-number-preserved : goal.loop-number-preserved
+loop-number-preserved c =
+    put_more _ _ _ _ _ c.requires _ (ap (take (length c.args.way.now)) c.playing_order-order.ensures) _ c.loop-number-test.true c.loop-number.invariant
+    (writes_then c.put_lead.ensures c.put_play_line.ensures) c.begun-n.ensures
 
 pub put_closing-requires : goal.put_closing-requires
-put_closing-requires c = last_room _ _ _ _ _ c.requires c.loop-k.invariant c.loop-k-test.false (omega arith)
-
-pub shape_of-out : goal.shape_of-out
-shape_of-out c = appended_long (put_all _ _ _ _ _ c.requires c.loop-k.invariant c.loop-k-test.false c.put_closing.ensures)
+put_closing-requires c = last_room _ _ _ _ _ c.requires c.loop-number.invariant (omega (arith, c.loop-number-test.false, all _ _ _ _ _ c.requires _ c.playing_order-order.ensures)) refl (omega arith)
 
 pub returns : goal.returns
-returns c = written _ _ _ _ _ c.requires c.loop-k.invariant c.loop-k-test.false c.put_closing.ensures
+returns c =
+    sheets_held (search rules)
+    (written _ _ _ _ _ c.requires c.loop-number.invariant (omega (arith, c.loop-number-test.false, all _ _ _ _ _ c.requires _ c.playing_order-order.ensures)) refl c.put_closing.ensures)

@@ -1,11 +1,6 @@
--- The invariant: the first k entries of the playing order are written.
-use Prim.Native.Nat.{◌-◌}
-use lib.ListN.{length}
+-- The invariant: the first entries of the playing order are written.
 use Rattle.way_sheets.proofs.Turn.{Puts}
 use Rattle.way_sheets.proofs.put_sheets.Given as goal
 
-abbrev pub invariant-loop-k : goal.invariant-loop-k
-invariant-loop-k l = Puts l.text l.way l.initial.out l.out l.at l.n l.k
-
-abbrev pub decreases-loop-k : goal.decreases-loop-k
-decreases-loop-k l = length l.way - l.k
+abbrev pub invariant-loop-number : goal.invariant-loop-number
+invariant-loop-number l = Puts l.text l.way l.initial.writer l.writer l.n l.number-index

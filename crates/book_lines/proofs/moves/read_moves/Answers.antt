@@ -1,63 +1,31 @@
 use mathlib.Core.List.{[], ◌∷◌, ◌++◌}
 use native.Mathlib.Omega.{arith}
-use Rattle.text_read.specs.Reader.{ReadsFront}
-use Rattle.text_read.specs.Heads.{bytes}
-use Rattle.book_lines.specs.Lines.{move, move_from}
-use Rattle.text_read.proofs.Lines.{lines_none, lines_more, lines_fall, lines_all}
-use Rattle.book_lines.proofs.MovePass.{move_read, known_moves_none, known_moves_more}
+use Rattle.book_lines.specs.Lines.{move}
+use Rattle.text_read.proofs.Lines.{lines_none, lines_more, lines_all}
+use Rattle.book_lines.proofs.MovePass.{known_moves_none, known_moves_more}
 use Rattle.book_lines.proofs.moves.read_moves.Goals as goal
 
-pub loop-r-init : goal.loop-r-init
-loop-r-init c = ([], lines_none move _, known_moves_none)
+pub loop-m-init : goal.loop-m-init
+loop-m-init c = ([], lines_none move _, known_moves_none)
 
-pub overflow_sub-result : goal.overflow_sub-result
-overflow_sub-result c = omega (arith, c.loop-r.invariant.1.shorter)
-
-pub returns-then-used-eq0 : goal.returns-then-used-eq0
-unfolding bytes
-returns-then-used-eq0 c =
-    let got : ReadsFront c.loop-r.rest.now (move c.loop-r.rest.now) c.read_row-r.result.used (move_from c.read_row-r.result.numbers) = move_read c.read_row-r.ensures in
-    let v = c.loop-r.invariant in
+pub returns : goal.returns
+returns c =
+    let v = c.loop-m.invariant in
     record {
       list = v.0;
-      is = lines_all v.1 got c.if-used-eq0.true;
+      is = lines_all v.1 c.in_default.ensures;
       within = omega arith;
       few = omega (arith, v.1.shorter);
       line = v.2.line_is;
       bad = v.2.bad_is;
-      ticks = v.2.ticks_are;
-      costs = v.2.costs_are;
+      table_is = v.2.table_is;
     }
 
-pub overflow_add-line : goal.overflow_add-line
-overflow_add-line c = let v = c.loop-r.invariant in
-    omega (arith, v.2.line_is, v.1.shorter, c.requires)
-
-pub slice_bounds-rest-count : goal.slice_bounds-rest-count
-unfolding bytes
-slice_bounds-rest-count c =
-    let got : ReadsFront c.loop-r.rest.now (move c.loop-r.rest.now) c.read_row-r.result.used (move_from c.read_row-r.result.numbers) = move_read c.read_row-r.ensures in
-    got.within
-
-pub slice_bounds-rest-start : goal.slice_bounds-rest-start
-unfolding bytes
-slice_bounds-rest-start c =
-    let got : ReadsFront c.loop-r.rest.now (move c.loop-r.rest.now) c.read_row-r.result.used (move_from c.read_row-r.result.numbers) = move_read c.read_row-r.ensures in
-    got.within
-
-pub loop-r-smaller : goal.loop-r-smaller
-unfolding bytes
-loop-r-smaller c =
-    let got : ReadsFront c.loop-r.rest.now (move c.loop-r.rest.now) c.read_row-r.result.used (move_from c.read_row-r.result.numbers) = move_read c.read_row-r.ensures in
-    lines_fall c.loop-r.invariant.1 got c.if-used-eq0.false
-
-pub loop-r-preserved : goal.loop-r-preserved
-unfolding bytes
-loop-r-preserved c =
-    let got : ReadsFront c.loop-r.rest.now (move c.loop-r.rest.now) c.read_row-r.result.used (move_from c.read_row-r.result.numbers) = move_read c.read_row-r.ensures in
-    let v = c.loop-r.invariant in
-    let m = move_from c.read_row-r.result.numbers in (
+pub loop-m-preserved : goal.loop-m-preserved
+loop-m-preserved c =
+    let v = c.loop-m.invariant in
+    let m = c.in-Some.m in (
       v.0 ++ (m ∷ []),
-      lines_more v.1 got c.if-used-eq0.false,
-      rw c.first_bad-bad.ensures (known_moves_more v.0 m _ _ _ _ _ _ _ v.2 c.put_move-passes.ensures),
+      lines_more v.1 c.in-Some.ensures,
+      rw c.first_bad-bad.ensures (known_moves_more v.0 m _ _ _ _ _ v.2 c.put_move-passes.ensures),
     )
