@@ -238,6 +238,11 @@ class Header(unittest.TestCase):
         source = "#include <desk.h>\nint main() { return desk_first(nullptr, 0, nullptr, 0).code == 12 ? 0 : 1; }\n"
         subprocess.run(["g++", "-std=c++11", "-Wall", "-Wextra", "-Werror", "-pedantic", "-I", HEADER.parent, "-fsyntax-only", "-x", "c++", "-"], input=source.encode(), check=True)
 
+    def test_needs(self):
+        """The archive asks for these two functions from outside, and for nothing else."""
+        needs = subprocess.run(["nm", "--undefined-only", "--format=just-symbols", desk_library.archive()], check=True, stdout=subprocess.PIPE, text=True).stdout.split()
+        self.assertEqual(sorted(name for name in needs if not name.endswith(":")), ["memcpy", "memset"])
+
     def test_codes(self):
         """The codes of the header are those that the tests know."""
         codes = {name: int(number) for name, number in re.findall(r"^    DESK_(\w+) = (\d+)", HEADER.read_text(), re.M)}

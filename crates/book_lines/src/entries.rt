@@ -5,7 +5,7 @@ ghost use Rattle.book_lines.specs.Lines.{short_form, long_form, entry};
 ghost use Rattle.book_lines.specs.Passes.{numbers_of, EntryRead, fair_line, told, EntriesRead};
 
 use crate::verdict::{first_bad, is_instrument};
-use text_read::{heads, read_numbers, read_row, read_text, read_word};
+use text_read::{heads, read_numbers, read_text, read_word};
 
 // The line of an entry, of either form: a join arrives at the first instrument, and leaves from the second. `left` is how many bytes of the
 // book are left where the name begins.
@@ -52,26 +52,27 @@ pub struct Entries {
 fn read_form(rest: &[u8]) -> Option<(EntryNumbers, &[u8])>
     ensures { ReadsFront rest.now ((short_form <|> long_form) rest.now) result (λ r. numbers_of r.0) (λ r. r.1.now) }
 {
-    let read = read_numbers::<3>(rest, &heads::NAME_END)?;
-    let numbers = read.0;
-    if let Some(after) = read_text(read.1, &heads::LINE_END) {
+    let (row, after) = read_numbers(rest, &heads::NAME_END)?;
+    let n = row.numbers;
+    if row.count == 3 {
         let short = EntryNumbers {
-            arrives: numbers[0],
-            leaves: numbers[0],
-            start: numbers[1],
-            finish: numbers[2],
+            arrives: n[0],
+            leaves: n[0],
+            start: n[1],
+            finish: n[2],
         };
         return Some((short, after));
     }
-    let last = read_row::<1>(read.1, &heads::SPACE)?;
-    let fourth = last.0;
-    let long = EntryNumbers {
-        arrives: numbers[0],
-        leaves: numbers[1],
-        start: numbers[2],
-        finish: fourth[0],
-    };
-    Some((long, last.1))
+    if row.count == 4 {
+        let long = EntryNumbers {
+            arrives: n[0],
+            leaves: n[1],
+            start: n[2],
+            finish: n[3],
+        };
+        return Some((long, after));
+    }
+    None
 }
 
 // The entry at the front of `rest`.

@@ -1,47 +1,22 @@
 // The calls of the part sheets.
 #![tactic(auto)]
 
-ghost use Rattle.std.specs.Prelude.{◌≡◌, ◌≤◌, take};
 ghost use Rattle.call_sheets.specs.SheetCalls.{BookSheetsRoom, BookSheets};
 ghost use Rattle.call_sheets.specs.AdmittedWay.{AdmitsWay, Answered};
 
 use book_form::CheckedBook;
 use call_reply::Reply;
 use call_way_bytes::WayRefusal;
-use way_gaps::JoinTicks;
 
-// A least-cost way as it was given: the book, the numbers of the way before what else was read, and its gaps and spares.
-#[derive(Clone, Copy)]
-struct GivenWay {
-    book: CheckedBook,
-    numbers: [u32; 512],
-    ticks: [JoinTicks; 28],
-}
-
-impl GivenWay {
-    fn way(&self) -> &[u32]
-        requires { self.now.book.count ≤ 28 }
-        ensures { result.now ≡ take self.now.book.count self.now.numbers }
-    {
-        &self.numbers[..self.book.count]
-    }
-}
-
-// Puts questions 11 to 16 and 18.
-fn admit_way(book: &[u8], given: &[u8]) -> Result<GivenWay, WayRefusal>
+// Puts questions 11 to 16 and 18. It hands out the book alone: what is read of the way afterwards takes no stack while question 18 is put.
+fn admit_way(book: &[u8], given: &[u8]) -> Result<CheckedBook, WayRefusal>
     ensures { AdmitsWay book.now given.now result }
 {
     let checked = book_check::check(book)?;
     if !call_way_bytes::is_given(&checked, given) {
         return Err(WayRefusal::StrangeWay);
     }
-    let numbers = bytes_read::read_words(given);
-    let ticks = way_gaps::join_ticks(&checked, &numbers[..checked.count]);
-    Ok(GivenWay {
-        book: checked,
-        numbers,
-        ticks,
-    })
+    Ok(checked)
 }
 
 // How many bytes the sheets of the least-cost way given take. Questions 11 to 16 and 18.
@@ -49,8 +24,11 @@ pub fn room(book: &[u8], given: &[u8]) -> Reply
     ensures { BookSheetsRoom book.now given.now result }
 {
     match admit_way(book, given) {
-        Ok(asked) => {
-            let n = way_sheet_sizes::size_of(&asked.book, asked.way(), &asked.ticks);
+        Ok(checked) => {
+            let numbers = bytes_read::read_words(given);
+            let way = &numbers[..checked.count];
+            let ticks = way_gaps::join_ticks(&checked, way);
+            let n = way_sheet_sizes::size_of(&checked, way, &ticks);
             call_reply::value_alone(n as i64)
         }
         Err(refusal) => refusal.reply(),
@@ -67,10 +45,13 @@ pub fn write(book: &[u8], given: &[u8], text: &mut [u8]) -> Reply
 fn write_sheets(book: &[u8], given: &[u8], text: &mut [u8]) -> Result<Reply, WayRefusal>
     ensures { Answered book.now given.now text.old text.new result }
 {
-    let asked = admit_way(book, given)?;
-    if !way_sheet_sizes::fits_in(&asked.book, asked.way(), &asked.ticks, text.len()) {
+    let checked = admit_way(book, given)?;
+    let numbers = bytes_read::read_words(given);
+    let way = &numbers[..checked.count];
+    let ticks = way_gaps::join_ticks(&checked, way);
+    if !way_sheet_sizes::fits_in(&checked, way, &ticks, text.len()) {
         return Err(WayRefusal::Text);
     }
-    let n = way_sheets::put_sheets(book, &asked.book, asked.way(), &asked.ticks, text);
+    let n = way_sheets::put_sheets(book, &checked, way, &ticks, text);
     Ok(call_reply::value_alone(n as i64))
 }

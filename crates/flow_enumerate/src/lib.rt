@@ -46,19 +46,23 @@ pub fn resume(net: net_model::Network, flow: [u32; 512]) -> Enumerator
     requires { Sound net }
     ensures { Stands result × (result.net ≡ net) × Resumes (net_in net) (take net.arcs flow) result }
 {
-    let m = net.arcs;
+    // The state is built once and then changed: put together at the end, it would be moved over the network that is passed, by a function that C must bring.
+    let mut resumed = start(net);
+    let m = resumed.net.arcs;
     let mut free = [false; 512];
-    if !flow_least::mark_if_least(net.arcs(), net.balances(), &flow[..m], &mut free[..m]) {
-        return start(net);
+    if !flow_least::mark_if_least(
+        resumed.net.arcs(),
+        resumed.net.balances(),
+        &flow[..m],
+        &mut free[..m],
+    ) {
+        return resumed;
     }
-    let cost = flow_cost::cost_of(net.arcs(), &flow[..m]);
-    Enumerator {
-        net,
-        place: Place::Item,
-        cost,
-        flow,
-        free,
-    }
+    resumed.place = Place::Item;
+    resumed.cost = flow_cost::cost_of(resumed.net.arcs(), &flow[..m]);
+    resumed.flow = flow;
+    resumed.free = free;
+    resumed
 }
 
 // Question 8 as a test: whether a given flow is an item.

@@ -65,11 +65,16 @@ pub fn find_cycle(
     let mut preds = [65535u16; 64];
     // The rounds so far, which are fewer than 64. Only the proof reads it.
     let mut k: usize = 0;
-    'rounds: loop {
-        let last = flow_relax::round(arcs, flow, need, labels, &mut preds)?;
+    // A node on a cycle, or none after a round that changed no label.
+    let node = 'rounds: loop {
+        let Some(last) = flow_relax::round(arcs, flow, need, labels, &mut preds) else {
+            break 'rounds None;
+        };
         if let Some(node) = go_back(arcs, &preds, last) {
-            return Some(collect(arcs, &preds, node, out));
+            break 'rounds Some(node);
         }
         k += 1;
-    }
+    };
+    let node = node?;
+    Some(collect(arcs, &preds, node, out))
 }

@@ -2,7 +2,7 @@
 // the bounds: whoever needs a flow tests it.
 #![tactic(auto)]
 
-ghost use Rattle.std.specs.Prelude.{◌≡◌, ℕ, ◌<◌, ◌≤◌, length};
+ghost use Rattle.std.specs.Prelude.{◌≡◌, ℕ, ◌/◌, ◌<◌, ◌≤◌, length, IfSome};
 ghost use Rattle.net_model.specs.Network.{low, up};
 ghost use Rattle.net_model.specs.Struct.{net_from};
 ghost use Rattle.net_theory.specs.Bounds.{InBounds};
@@ -133,7 +133,9 @@ impl Simplex {
     }
 
     // Sends d along the code.
-    fn push(&mut self, code: Code, d: u32) {
+    fn push(&mut self, code: Code, d: u32)
+        ensures { self.new.arcs ≡ self.old.arcs }
+    {
         let i = code.number;
         let j = code.back().number;
         self.capacity[i] = self.capacity[i].wrapping_sub(d);
@@ -142,7 +144,9 @@ impl Simplex {
 
     // Takes the step at each node from `from` up to the one below `join`.
     fn walk_up<F: Fn(&mut Simplex, u8)>(&mut self, from: u8, join: u8, step: F)
-        requires { F.IsAlwaysCallable step }
+        requires callable { F.IsAlwaysCallable step }
+        requires keeps { (s : _) (x : _) (t : _) → F.post step s x tt t → t.now.arcs ≡ s.now.arcs }
+        ensures { self.new.arcs ≡ self.old.arcs }
     {
         let mut x = from;
         for _ in 0..MOST_UP {
@@ -155,7 +159,9 @@ impl Simplex {
     }
 
     // Sends d from `from` up to `join`.
-    fn push_up(&mut self, from: u8, join: u8, d: u32) {
+    fn push_up(&mut self, from: u8, join: u8, d: u32)
+        ensures { self.new.arcs ≡ self.old.arcs }
+    {
         self.walk_up(from, join, |simplex, x| simplex.push(simplex.up_from(x), d));
     }
 
@@ -212,7 +218,9 @@ impl Simplex {
     }
 
     // Sends d round the cycle of e, whose sides meet at `join`.
-    fn push_round(&mut self, e: Code, join: u8, d: u32) {
+    fn push_round(&mut self, e: Code, join: u8, d: u32)
+        ensures { self.new.arcs ≡ self.old.arcs }
+    {
         if d == 0 {
             return;
         }
@@ -222,21 +230,27 @@ impl Simplex {
     }
 
     // From `from` up to `join`, takes `part` out of the subtrees that have it, and puts it into those that have it not.
-    fn change_subtrees(&mut self, from: u8, join: u8, part: u64) {
+    fn change_subtrees(&mut self, from: u8, join: u8, part: u64)
+        ensures { self.new.arcs ≡ self.old.arcs }
+    {
         self.walk_up(from, join, |simplex, x| {
             simplex.below[usize::from(x)] = simplex.subtree_of(x) ^ part;
         });
     }
 
     // Joins x to its parent by the code `via`, with its new subtree.
-    fn set_parent(&mut self, x: u8, via: Code, subtree: u64) {
+    fn set_parent(&mut self, x: u8, via: Code, subtree: u64)
+        ensures { self.new.arcs ≡ self.old.arcs }
+    {
         self.up[usize::from(x)] = via;
         self.below[usize::from(x)] = subtree;
     }
 
     // Joins the subtree `part` of `leave` to the rest of the tree by the code e that leads into it: the arcs from there up to `leave` are
     // reversed.
-    fn update_parents(&mut self, leave: u8, part: u64, e: Code) {
+    fn update_parents(&mut self, leave: u8, part: u64, e: Code)
+        ensures { self.new.arcs ≡ self.old.arcs }
+    {
         let mut code = e;
         let mut rest = part;
         for _ in 0..MOST_UP {
@@ -253,7 +267,9 @@ impl Simplex {
     }
 
     // The potentials of the nodes of `part`, changed by d.
-    fn shift_potentials(&mut self, part: u64, d: i32) {
+    fn shift_potentials(&mut self, part: u64, d: i32)
+        ensures { self.new.arcs ≡ self.old.arcs }
+    {
         let mut rest = part;
         while rest != 0 {
             let v = rest.trailing_zeros() as usize;
@@ -263,7 +279,9 @@ impl Simplex {
     }
 
     // Brings the arc of e into the tree in the place of the arc above `leave`; e leads into the subtree of `leave`.
-    fn exchange(&mut self, e: Code, leave: u8, join: u8) {
+    fn exchange(&mut self, e: Code, leave: u8, join: u8)
+        ensures { self.new.arcs ≡ self.old.arcs }
+    {
         let part = self.subtree_of(leave);
         self.change_subtrees(self.parent_of(leave), join, part);
         self.change_subtrees(self.head_of(e.back()), join, part);
@@ -272,7 +290,9 @@ impl Simplex {
     }
 
     // Lets e enter: sends round its cycle what can go, and takes an arc that is then full or empty out of the tree.
-    fn pivot(&mut self, e: Code) {
+    fn pivot(&mut self, e: Code)
+        ensures { self.new.arcs ≡ self.old.arcs }
+    {
         let cycle = self.cycle_of(e);
         self.push_round(e, cycle.join, cycle.amount);
         if let Some(Leaving { leave, into }) = cycle.leaving {
@@ -283,6 +303,7 @@ impl Simplex {
     // The code of arc a that may enter: the cost falls by it.
     fn eligible(&self, a: usize) -> Option<Code>
         requires { a < 1024 }
+        ensures { IfSome result (λ e. e.number / 2 ≡ a) }
     {
         let reduced = self.reduced(Code { number: 2 * a });
         let number = if reduced < 0 { 2 * a } else { 2 * a + 1 };
@@ -293,13 +314,21 @@ impl Simplex {
         }
     }
 
+    // The code of the first arc that has one, from `from` on and before `end`.
+    fn first_eligible(&self, from: usize, end: usize) -> Option<Code>
+        requires { end ≤ 1024 }
+        ensures { IfSome result (λ e. (from ≤ e.number / 2) × (e.number / 2 < end)) }
+    {
+        (from..end).find_map(|a| self.eligible(a))
+    }
+
     // The code that enters: that of the first arc that has one, from `from` on and then from 0.
     fn entering(&self, from: usize) -> Option<Code>
-        requires { from ≤ 1024 }
+        requires { from ≤ self.now.arcs }
+        ensures { IfSome result (λ e. e.number / 2 < self.now.arcs) }
     {
-        (from..self.arcs)
-            .find_map(|a| self.eligible(a))
-            .or_else(|| (0..from).find_map(|a| self.eligible(a)))
+        self.first_eligible(from, self.arcs)
+            .or_else(|| self.first_eligible(0, from))
     }
 
     // Pivots until no arc may enter.

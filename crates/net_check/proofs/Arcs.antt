@@ -4,7 +4,7 @@ use mathlib.Core.Bool.{true}
 use mathlib.Core.List.{List, [], ◌∷◌, map}
 use Prim.Native.Nat.{ℕ, zero, suc, ◌+◌, ◌-◌, ◌/◌, ◌≤◌, ◌<◌}
 use native.Mathlib.Omega.{arith}
-use lib.ListN.{length, get_or, length-map, get_or-map}
+use lib.ListN.{length, get_or, set, length-map, get_or-map}
 use lib.Seq.{ext_get_or}
 use lib.IntN.{ℤ, pos, nat_abs}
 use lib.Signed.{◌≤ℤ◌, le_z}
@@ -14,7 +14,7 @@ use Rattle.std.proofs.lemmas.List.{get_or_default}
 use Rattle.laws.specs.Linear.{lin, given2}
 use Rattle.laws.specs.Integers.{true_le_z}
 use Rattle.laws.specs.Tests.{true_and, all}
-use Rattle.laws.specs.Padded.{padded, padded_at, padded_length}
+use Rattle.laws.specs.Padded.{padded, padded_at, padded_length, filled, filled_more}
 use Rattle.laws.specs.Within.{from}
 use Rattle.bytes_read.specs.Words.{ints}
 use Rattle.bytes_read.proofs.Words.{length_ints}
@@ -27,7 +27,7 @@ use Rattle.net_model.specs.declared.Network.{Network}
 use Rattle.net_questions.specs.Questions.{Ends, Bounds, inside, passes, last_node_number, network_refusal}
 use Rattle.net_questions.specs.Arcs.{no_arc}
 use Rattle.net_questions.proofs.Rows.{arcs_of, all_by_places}
-use Rattle.net_questions.proofs.Accepted.{AllPassed, Inside, GoodArc, passed, good_arc}
+use Rattle.net_questions.proofs.Accepted.{Inside, GoodArc, passed, good_arc}
 use Rattle.net_check.specs.Checked.{arc_of, checked_net}
 
 inside_true : (lo hi z : ℤ) → Inside lo hi z → inside lo hi z ≡ true
@@ -97,19 +97,28 @@ pub array_holds : {A : Type 0} (k : ℕ) (d : A) (l r : List A) → length l ≤
 array_holds k d l r h e f = ext_get_or d r (padded k d l) (e ∙ sym (padded_length k d l h)) (λ i q. f i (omega arith) ∙ sym (padded_at k d l i))
 
 -- the struct that was made is that of the network
-pub filled : (bs xs : List ℕ) → network_refusal bs xs ≡ 0 → (balances : List ℤ) (table : List Arc) → length balances ≡ 64 → length table ≡ 512
+pub made : (bs xs : List ℕ) → network_refusal bs xs ≡ 0 → (balances : List ℤ) (table : List Arc) → length balances ≡ 64
     → ((v : ℕ) → v < 64 → get_or balances v (pos 0) ≡ get_or (ints bs) v (pos 0))
-    → ((a : ℕ) → a < 512 → get_or table a blank_arc ≡ arc_of (get_or (rows (ints xs)) a no_arc))
+    → table ≡ padded 512 blank_arc (map arc_of (rows (ints xs)))
     → ◌≡◌ {A = Network} (record { nodes = length bs / 4; arcs = length xs / 20; balances = balances; table = table }) (checked_net bs xs)
-filled bs xs none balances table p q f g =
+made bs xs none balances table p f g =
     same (sym (length_ints bs)) (sym (length-map (rows (ints xs)) (λ r. nat_abs r.tail) ∙ arcs_of xs))
-    (array_holds 64 (pos 0) (ints bs) balances (omega (arith, length_ints bs, ok.nodes_fair.few)) p f)
-    (array_holds 512 blank_arc (map arc_of (rows (ints xs))) table (omega (arith, length-map (rows (ints xs)) arc_of, arcs_of xs, ok.arcs_fair.few)) q
-    (λ a h. g a h ∙ sym (get_or-map arc_of (rows (ints xs)) a no_arc)) ∙ ap (padded 512 blank_arc) (sym (arcs_are (ints bs) (ints xs))))
+    (array_holds 64 (pos 0) (ints bs) balances (omega (arith, length_ints bs, (passed bs xs none).nodes_fair.few)) p f)
+    (g ∙ ap (padded 512 blank_arc) (sym (arcs_are (ints bs) (ints xs))))
   where
-    ok : AllPassed bs xs
-    ok = passed bs xs none
-
     same : {n n' m m' : ℕ} {b b' : List ℤ} {t t' : List Arc} → n ≡ n' → m ≡ m' → b ≡ b' → t ≡ t'
         → ◌≡◌ {A = Network} (record { nodes = n; arcs = m; balances = b; table = t }) (record { nodes = n'; arcs = m'; balances = b'; table = t' })
     same p q r v = cc
+
+-- an arc more
+module _ (bs xs : List ℕ) (none : network_refusal bs xs ≡ 0) (a : ℕ) (here : a < length xs / 20) where
+  pub within : a < 512
+  within = omega (arith, here, (passed bs xs none).arcs_fair.few)
+
+  pub table_more : (net : Network) (n m : ℕ) (balances : List ℤ) (x : Arc)
+      → net ≡ record { nodes = n; arcs = m; balances = balances; table = filled arc_of (rows (ints xs)) 512 blank_arc a } → x ≡ arc_of (get_or (rows (ints xs)) a no_arc)
+      → ◌≡◌ {A = Network} (record { nodes = net.nodes; arcs = net.arcs; balances = net.balances; table = set net.table a x })
+      (record { nodes = n; arcs = m; balances = balances; table = filled arc_of (rows (ints xs)) 512 blank_arc (a + 1) })
+  table_more net n m balances x e q =
+      rw e (ap (λ (t : List Arc). record { nodes = n; arcs = m; balances = balances; table = t })
+      (filled_more arc_of (rows (ints xs)) 512 blank_arc no_arc a (filled arc_of (rows (ints xs)) 512 blank_arc a) x refl (omega (arith, here, arcs_of xs)) within q))

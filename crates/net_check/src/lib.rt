@@ -1,7 +1,7 @@
 // The checked network: the struct of a network that passes questions 1 to 6, or the first question that it fails.
 #![tactic(auto)]
 
-ghost use Rattle.std.specs.Prelude.{◌≡◌, true, pos, get_or};
+ghost use Rattle.std.specs.Prelude.{◌≡◌, ◌/◌, ◌<◌, true, pos, get_or, length};
 ghost use Rattle.laws.specs.Tests.{all};
 ghost use Rattle.bytes_read.specs.Words.{ints};
 ghost use Rattle.net_model.specs.Input.{rows};
@@ -37,30 +37,31 @@ fn arc_of(row: Row) -> Arc
     }
 }
 
-// Arc a of fair ones, and a blank one where there is none.
+// Arc a of fair ones.
 fn arc_at(arcs: &[u8], a: usize) -> Arc
     requires ends { all (passes Ends (pos 63)) (rows (ints arcs.now)) ≡ true }
     requires bounds { all (passes Bounds (pos 63)) (rows (ints arcs.now)) ≡ true }
+    requires here { a < length arcs.now / 20 }
     ensures { result ≡ arc_of (get_or (rows (ints arcs.now)) a no_arc) }
 {
-    if a < arcs.len() / 20 {
-        arc_of(net_questions::row_at(arcs, a))
-    } else {
-        BLANK
-    }
+    arc_of(net_questions::row_at(arcs, a))
 }
 
-// The struct of an accepted network.
+// The struct of an accepted network. Only the places that it has arcs for are gone through.
 fn fill(balances: &[u8], arcs: &[u8]) -> Network
     requires { network_refusal balances.now arcs.now ≡ 0 }
     ensures { result ≡ checked_net balances.now arcs.now }
 {
-    Network {
+    let mut net = Network {
         nodes: balances.len() / 4,
         arcs: arcs.len() / 20,
-        table: array::from_fn(|a| arc_at(arcs, a)),
+        table: [BLANK; 512],
         balances: array::from_fn(|v| bytes_read::read_i32(balances, v)),
+    };
+    for a in 0..arcs.len() / 20 {
+        net.table[a] = arc_at(arcs, a);
     }
+    net
 }
 
 // The network of two lists of bytes, or the first question that it fails.

@@ -2,7 +2,7 @@
 use Rattle.std.specs.Prelude.{List, [], ℕ, ℤ}
 use Rattle.net_model.specs.Network.{Net}
 
--- the network of the lists that a function is lent, with [] for each that it is not
+-- the network of these lists
 abbrev pub net_with : List ℤ → List ℕ → List ℕ → List ℕ → List ℕ → List ℤ → Net
 net_with b t h l u c = record { balances = b; tails = t; heads = h; lows = l; ups = u; costs = c }
 

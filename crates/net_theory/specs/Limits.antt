@@ -1,5 +1,5 @@
 -- What the functions over the lists of a network ask of those that they are lent. Each part is about other lists, and an accepted network keeps all
--- of them (`AcceptedNet`; the lemmas are in proofs/Limits.antt). A function that is lent some lists speaks of the network that has these and no others.
+-- of them (`AcceptedNet`; the lemmas are in proofs/Limits.antt). A function speaks of the network of the arcs that it is lent (`net_from`).
 use Rattle.std.specs.Prelude.{◌≡◌, ℕ, ◌≤◌, ◌<◌, length}
 use Rattle.laws.specs.Range.{Bounded}
 use Rattle.net_model.specs.Network.{Net, nodes, arcs, tail, head, up, cost, balance}

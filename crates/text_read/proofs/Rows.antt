@@ -1,15 +1,16 @@
 -- The rest of a line: its numbers one after another, and what a loop knows that reads them.
-use Prim.Native.Nat.{ℕ, zero, suc, ◌+◌, ◌<◌, ◌≤◌}
+use Prim.Native.Nat.{ℕ, zero, suc, ◌+◌, ◌-◌, ◌<◌, ◌≤◌}
 use mathlib.Core.Path.{◌≡◌, refl, sym, ap, ◌∙◌}
 use mathlib.Core.Bool.{Bool, true, false}
 use mathlib.Core.List.{List, [], ◌∷◌, ◌++◌, append_assoc, append-nil}
 use native.Mathlib.Omega.{arith}
-use lib.Dec.{eqb}
-use lib.ListN.{length, length-append}
-use borrow.Author.Tests.{eqb-true}
-use Rattle.text_read.specs.Reader.{Parsed, fails, reads, Reader, then_read, ◌>>=◌, ◌>>◌, give, begins, text, number, numbers, row, ReadAs}
+use lib.Dec.{eqb, leb}
+use lib.ListN.{length, length-append, replicate, set}
+use borrow.Author.Tests.{eqb-true, leb-true, leb-false}
+use Rattle.laws.specs.Padded.{padded, padded_more}
+use Rattle.text_read.specs.Reader.{Parsed, fails, reads, Reader, then_read, ◌>>=◌, ◌>>◌, give, begins, text, number, numbers, row, ReadAs, NumbersIn}
 use Rattle.text_read.specs.Heads.{bytes, space, line_end}
-use Rattle.text_read.proofs.Leaves.{not_read, reads_same, both}
+use Rattle.text_read.proofs.Leaves.{not_read, both}
 use Rattle.text_read.proofs.Sequence.{From, then_reads, then_fails, begin, next_read, stops, all_read}
 
 -- with the numbers d read before
@@ -87,7 +88,7 @@ no_longer (suc n) (suc m) h s l t e = begins_alike space n m s (no_longer n m (o
 pub one_count : (head : List ℕ) (n m : ℕ) → n < m → (s : List ℕ) {l t : List ℕ} → row head (suc n) s ≡ reads l t → row head (suc m) s ≡ fails
 one_count head n m h s e = begins_alike head n m s (no_longer n m h) e
 
--- What the loop of `read_numbers` knows, which is to read n numbers of s: the numbers d are read and m are left, the first of them behind `head'`.
+-- What the loop of `read_sequence` knows, which is to read n numbers of s: the numbers d are read and m are left, the first of them behind `head'`.
 pub record Known (head s : List ℕ) (n : ℕ) (d : List ℕ) (m : ℕ) (head' t : List ℕ) : Type 0 where
   pub count : length d + m ≡ n
   pub from : From (numbers head n s) (after d (numbers head' m)) s t
@@ -153,23 +154,6 @@ row_is head zero s = refl
 row_is head (suc n) s =
     one_before (λ vs. text line_end >>= (λ _. give vs)) (λ v vs t. sym (then_then (text line_end) (λ _. give vs) (λ l. give (v ∷ l)) t)) head n n (row_is space n) s
 
--- the rest has m numbers
-module _ (m : ℕ) where
-  abbrev others : List ℕ → Reader (List ℕ)
-  others vs = row space m >>= (λ ws. give (vs ++ ws))
-
-  others_on : (v : ℕ) (vs t : List ℕ) → others (v ∷ vs) t ≡ (others vs >>= (λ l. give (v ∷ l))) t
-  unfolding give ◌>>=◌ then_read
-  others_on v vs t = sym (then_then (row space m) (λ ws. give (vs ++ ws)) (λ l. give (v ∷ l)) t)
-
-  spaced : (n : ℕ) (s : List ℕ) → row space (n + m) s ≡ (numbers space n >>= others) s
-  unfolding numbers give ◌>>=◌ then_read
-  spaced zero s = let z : 0 + m ≡ m = omega arith in rw z (sym (after_nothing (row space m) s))
-  spaced (suc n) s = let z : suc n + m ≡ suc (n + m) = omega arith in rw z (one_before others others_on space n (n + m) (spaced n) s)
-
-  row_more : (head : List ℕ) (n : ℕ) (s : List ℕ) → row head (suc (n + m)) s ≡ (numbers head (suc n) >>= others) s
-  row_more head n s = one_before others others_on head n (n + m) (spaced n) s
-
 module _ (head s : List ℕ) (n : ℕ) where
   pub row_unread : numbers head n s ≡ fails → row head n s ≡ fails
   row_unread e = row_is head n s ∙ then_fails (numbers head n) _ s e
@@ -184,35 +168,78 @@ module _ (head s : List ℕ) (n : ℕ) where
     pub row_closed : {u : List ℕ} → ReadAs t (text line_end t) tt u → ReadAs s (row head n s) l u
     row_closed o = all_read (next_read (text line_end) _ rowed o) (omega (arith, r.fewer, o.fewer))
 
--- a row of m numbers more
-module _ (head s : List ℕ) (n m : ℕ) where
-  pub longer_unread : numbers head (suc n) s ≡ fails → row head (suc (n + m)) s ≡ fails
-  longer_unread e = row_more m head n s ∙ then_fails (numbers head (suc n)) _ s e
+-- What the loop of `read_numbers` knows after `count` numbers, which are d: no row has as few, and each longer one goes on behind `head'`.
+pub record Passed (head s numbers : List ℕ) (count : ℕ) (head' t : List ℕ) : Type 0 where
+  pub d : List ℕ
+  pub numbers_are : numbers ≡ padded 4 0 d
+  pub count_is : count ≡ length d
+  pub some : 0 < length head'
+  pub shorter : (n : ℕ) → 1 ≤ n → n ≤ count → row head n s ≡ fails
+  pub longer : (m : ℕ) → Known head s (count + m) d m head' t
 
-  module _ {l t : List ℕ} (r : ReadAs s (numbers head (suc n) s) l t) where
-    goes_on : From (row head (suc (n + m)) s) (row space m >>= (λ ws. give (l ++ ws))) s t
-    goes_on = let f = begin (row head (suc (n + m))) s in next_read (numbers head (suc n)) _ (record { is = f.is ∙ row_more m head n s; ends = f.ends }) r
+pub passed_none : (head s : List ℕ) → 0 < length head → Passed head s (replicate 4 0) 0 head s
+passed_none head s h =
+    record { d = []; numbers_are = refl; count_is = refl; some = h; shorter = λ n low high. absurd (omega arith); longer = λ m. known_none head s (0 + m) m (omega arith) }
 
-    pub longer_fails : row space m t ≡ fails → row head (suc (n + m)) s ≡ fails
-    longer_fails e = stops (row space m) _ goes_on e
+module _ {head s values : List ℕ} {count : ℕ} {head' t : List ℕ} (p : Passed head s values count head' t) where
+  -- where no longer row goes on, there is none
+  none_longer : ((m : ℕ) → numbers head (count + suc m) s ≡ fails) → (n : ℕ) → 1 ≤ n → row head n s ≡ fails
+  none_longer f n h = go (leb n count) refl
+    where
+      go : (x : Bool) → leb n count ≡ x → row head n s ≡ fails
+      go true q = p.shorter n h (leb-true n count q)
+      go false q = let z : count + suc (n - count - 1) ≡ n = omega (arith, leb-false n count q) in row_unread head s n (rw z at (f (n - count - 1)))
 
-    pub longer_read : {k u : List ℕ} → ReadAs t (row space m t) k u → ReadAs s (row head (suc (n + m)) s) (l ++ k) u
-    longer_read o = all_read (next_read (row space m) _ goes_on o) (omega (arith, r.fewer, o.fewer))
+  pub none_headed : text head' t ≡ fails → (n : ℕ) → 1 ≤ n → row head n s ≡ fails
+  none_headed e = none_longer (λ m. no_head (p.longer (suc m)) refl e)
 
--- how many numbers are read
-pub numbers_length : (head : List ℕ) (n : ℕ) (s : List ℕ) {l t : List ℕ} → numbers head n s ≡ reads l t → length l ≡ n
-unfolding numbers give ◌>>◌
-numbers_length head zero s {l} {t} e = ap length (sym (reads_same [] l s t e).0)
-numbers_length head (suc n) s {l} {t} e =
-    let a = both (text head) _ s l t e in
-    let b = both number _ a.rest l t a.second in
-    let c = both (numbers space n) _ b.rest l t b.second in
-    let longer = ap length (sym (reads_same (b.value ∷ c.value) l c.rest t c.second).0) in
-    longer ∙ ap suc (numbers_length space n b.rest c.first)
+  module _ {u : List ℕ} (r : ReadAs t (text head' t) tt u) where
+    pub none_numbered : number u ≡ fails → (n : ℕ) → 1 ≤ n → row head n s ≡ fails
+    none_numbered e = none_longer (λ m. no_number (p.longer (suc m)) refl r e)
 
-pub row_length : (head : List ℕ) (n : ℕ) (s : List ℕ) {l t : List ℕ} → row head n s ≡ reads l t → length l ≡ n
-unfolding give
-row_length head n s {l} {t} e =
-    let a = both (numbers head n) _ s l t (sym (row_is head n s) ∙ e) in
-    let b = both (text line_end) _ a.rest l t a.second in
-    ap length (sym (reads_same a.value l b.rest t b.second).0) ∙ numbers_length head n s a.first
+    module _ (few : count < 4) {v : ℕ} {w : List ℕ} (o : ReadAs u (number u) v w) where
+      length_more : length (p.d ++ (v ∷ [])) ≡ count + 1
+      length_more = length-append p.d (v ∷ []) ∙ omega (arith, p.count_is)
+
+      put : set values count v ≡ padded 4 0 (p.d ++ (v ∷ []))
+      put = rw (p.numbers_are, p.count_is) (padded_more 4 0 p.d v (omega (arith, few, p.count_is)))
+
+      longer_still : (m : ℕ) → Known head s (count + 1 + m) (p.d ++ (v ∷ [])) m space w
+      longer_still m = let z : count + suc m ≡ count + 1 + m = omega arith in rw z at (one_more (p.longer (suc m)) refl r o)
+
+      as_many : ReadAs s (numbers head (count + 1) s) (p.d ++ (v ∷ [])) w
+      as_many = let z : count + 1 + 0 ≡ count + 1 = omega arith in all_known (rw z at (longer_still 0)) refl (omega arith)
+
+      pub row_ended : {x : List ℕ} → ReadAs w (text line_end w) tt x → NumbersIn s head (record { numbers = set values count v; count = count + 1 }) x
+      row_ended {x} e =
+          record {
+            list = p.d ++ (v ∷ []);
+            numbers_are = put;
+            count_is = sym length_more;
+            some = omega arith;
+            few = omega (arith, few);
+            stands = here;
+            others = λ n low high z. go n low z (leb n count) refl;
+          }
+        where
+          here : ReadAs s (row head (count + 1) s) (p.d ++ (v ∷ [])) x
+          here = row_closed head s (count + 1) as_many e
+
+          go : (n : ℕ) → 1 ≤ n → ¬ (n ≡ count + 1) → (x : Bool) → leb n count ≡ x → row head n s ≡ fails
+          go n low z true q = p.shorter n low (leb-true n count q)
+          go n low z false q =
+              let more = leb-false n count q in
+              let next : suc (n - 1) ≡ n = omega (arith, low) in
+              let one : count + 1 ≡ suc count = omega arith in
+              rw next at (one_count head count (n - 1) (omega (arith, more, z)) s (rw one at here.stands))
+
+      pub going_on : text line_end w ≡ fails → Passed head s (set values count v) (count + 1) space w
+      unfolding bytes
+      going_on e =
+          record { d = p.d ++ (v ∷ []); numbers_are = put; count_is = sym length_more; some = omega arith; shorter = λ n low high. go n low high (leb n count) refl; longer = longer_still }
+        where
+          go : (n : ℕ) → 1 ≤ n → n ≤ count + 1 → (x : Bool) → leb n count ≡ x → row head n s ≡ fails
+          go n low high true q = p.shorter n low (leb-true n count q)
+          go n low high false q =
+              let last : count + 1 ≡ n = omega (arith, high, leb-false n count q) in
+              rw last at (row_open head s (count + 1) as_many e)

@@ -1,5 +1,5 @@
 -- A fixed text, a number and a word, at the front of the bytes.
-use Prim.Native.Nat.{ℕ, suc, ◌+◌, ◌*◌, ◌-◌, ◌^◌, ◌<◌, ◌≤◌}
+use Prim.Native.Nat.{ℕ, zero, suc, min, ◌+◌, ◌*◌, ◌-◌, ◌^◌, ◌<◌, ◌≤◌}
 use mathlib.Core.Path.{◌≡◌, refl, sym, ap, ◌∙◌}
 use mathlib.Core.List.{List, [], ◌∷◌, ◌++◌}
 use mathlib.Core.Bool.{Bool, true, false, ◌&&◌, false≢true}
@@ -93,6 +93,43 @@ module _ (s : List ℕ) {n : ℕ} where
     pub word_fails : short (take n s) ≡ false → word s ≡ fails
     unfolding word ◌>>◌
     word_fails q = judged_fails word_byte (λ w. short w) (λ w. w) s e q
+
+-- Of a longer run the first 17 bytes are enough to see that it is no word.
+prefix_taken : (test : ℕ → Bool) (k : ℕ) (s : List ℕ) → prefix_len test (take k s) ≡ min k (prefix_len test s)
+prefix_taken test zero s = omega arith
+prefix_taken test (suc k) [] = omega arith
+prefix_taken test (suc k) (b ∷ s) = go (test b) refl (prefix_taken test k s)
+  where
+    go : (x : Bool) → test b ≡ x → prefix_len test (take k s) ≡ min k (prefix_len test s) → prefix_len test (take (suc k) (b ∷ s)) ≡ min (suc k) (prefix_len test (b ∷ s))
+    go true e h = rw e (omega (arith, h))
+    go false e h = rw e (omega arith)
+
+module _ (s : List ℕ) {k n : ℕ} (looked : k ≡ min (length s) 17) (e : n ≡ prefix_len word_byte (take k s)) where
+  at_most : n ≡ min 17 (prefix_len word_byte s)
+  at_most = omega (arith, looked, e ∙ prefix_taken word_byte k s, prefix_len-le-length word_byte s)
+
+  pub short_within : n ≤ length s
+  short_within = omega (arith, at_most, prefix_len-le-length word_byte s)
+
+  taken_length : length (take n s) ≡ n
+  taken_length = length-take-le n s short_within
+
+  pub short_stands : short (take n s) ≡ true → ReadAs s (word s) (take n s) (drop n s)
+  short_stands q =
+      let few = leb-true _ _ (and_true (leb 1 (length (take n s))) (leb (length (take n s)) 16) q).1 in
+      word_stands s (omega (arith, at_most, few, taken_length)) q
+
+  pub short_fails : short (take n s) ≡ false → word s ≡ fails
+  short_fails q = go (leb 17 n) refl
+    where
+      long : (w : List ℕ) → 16 < length w → short w ≡ false
+      long w h = rw (le-leb 1 (length w) (omega arith), lt-leb (length w) 16 h)
+
+      go : (x : Bool) → leb 17 n ≡ x → word s ≡ fails
+      go true k =
+          let l = length-take-le (prefix_len word_byte s) s (prefix_len-le-length word_byte s) in
+          word_fails s {n = prefix_len word_byte s} refl (long (take (prefix_len word_byte s) s) (omega (arith, l, at_most, leb-true 17 n k)))
+      go false k = let whole : n ≡ prefix_len word_byte s = omega (arith, at_most, leb-false 17 n k) in word_fails s whole q
 
 -- The value of digits, one after another.
 pub digit_range : (b : ℕ) → digit b ≡ true → (48 ≤ b) × (b ≤ 57)

@@ -1,5 +1,7 @@
 -- Readers: what stands at the front of a list of bytes, and the bytes that follow it.
-use Rattle.std.specs.Prelude.{ℕ, zero, suc, ◌+◌, ◌*◌, ◌-◌, ◌<◌, ◌≡◌, List, [], ◌∷◌, Bool, true, false, not, ◌&&◌, ◌||◌, Option, MatchOption, length, drop, get_or, leb, eqb}
+use Rattle.std.specs.Prelude.{ℕ, zero, suc, ◌+◌, ◌*◌, ◌-◌, ◌<◌, ◌≤◌, ◌≡◌, List, [], ◌∷◌, Bool, true, false, not, ◌&&◌, ◌||◌, Option, MatchOption, length, drop, get_or, leb, eqb}
+use Rattle.laws.specs.Padded.{padded}
+use Rattle.text_read.specs.declared.Row.{Row}
 use Rattle.text_read.specs.Heads.{space, line_end}
 
 -- a form was read, with its value and the bytes that follow it; or it does not stand there
@@ -138,3 +140,18 @@ pub record ReadAs {A : Type 0} (s : List ℕ) (p : Parsed A) (a : A) (after : Li
 -- bytes that follow it.
 abbrev pub ReadsFront : {A X : Type 0} → List ℕ → Parsed A → Option X → (X → A) → (X → List ℕ) → Type 0
 ReadsFront s p r value after = MatchOption r (p ≡ fails) (λ x. ReadAs s p (value x) (after x))
+
+-- What is answered of the rest of a line whose numbers are `list`, and which ends before `after`: of the rows of 1 to 4 numbers the one with as
+-- many stands there, and no other.
+pub record NumbersIn (s head : List ℕ) (r : Row) (after : List ℕ) : Type 0 where
+  pub list : List ℕ
+  pub numbers_are : r.numbers ≡ padded 4 0 list
+  pub count_is : r.count ≡ length list
+  pub some : 1 ≤ r.count
+  pub few : r.count ≤ 4
+  pub stands : ReadAs s (row head r.count s) list after
+  pub others : (n : ℕ) → 1 ≤ n → n ≤ 4 → ¬ (n ≡ r.count) → row head n s ≡ fails
+
+-- The same where there may be no such row: then none of 1 to 4 numbers stands there.
+abbrev pub NumbersRead : {X : Type 0} → List ℕ → List ℕ → Option X → (X → Row) → (X → List ℕ) → Type 0
+NumbersRead s head r value after = MatchOption r ((n : ℕ) → 1 ≤ n → n ≤ 4 → row head n s ≡ fails) (λ x. NumbersIn s head (value x) (after x))

@@ -5,7 +5,7 @@ pub mod heads;
 
 ghost use Rattle.std.specs.Prelude.{◌≡◌, ◌<◌, length};
 ghost use Rattle.std.specs.List.{prefix_len};
-ghost use Rattle.text_read.specs.Reader.{plain, short, word_byte, text, number, word, numbers, row, ReadsFront};
+ghost use Rattle.text_read.specs.Reader.{plain, short, word_byte, text, number, word, numbers, row, ReadsFront, NumbersRead};
 
 // What follows the bytes of `head`.
 pub fn read_text<'a>(rest: &'a [u8], head: &[u8]) -> Option<&'a [u8]>
@@ -63,11 +63,12 @@ fn is_short(word: &[u8]) -> bool
     1 <= word.len() && word.len() <= 16
 }
 
-// A word of 1 to 16 letters and digits.
+// A word of 1 to 16 letters and digits. Of a longer run no more than 17 are looked at.
 pub fn read_word(rest: &[u8]) -> Option<(&[u8], &[u8])>
     ensures { ReadsFront rest.now (word rest.now) result (λ r. r.0.now) (λ r. r.1.now) }
 {
-    let (word, after) = rest.split_at(count_word_bytes(rest));
+    let first = &rest[..rest.len().min(17)];
+    let (word, after) = rest.split_at(count_word_bytes(first));
     if is_short(word) {
         Some((word, after))
     } else {
@@ -75,8 +76,42 @@ pub fn read_word(rest: &[u8]) -> Option<(&[u8], &[u8])>
     }
 }
 
+// The numbers of a row of 1 to 4: the first `count` places of `numbers`; the others are 0.
+#[derive(Clone, Copy)]
+pub struct Row {
+    pub numbers: [u32; 4],
+    pub count: usize,
+}
+
+// The rest of a line from `head` on, with 1 to 4 numbers.
+pub fn read_numbers<'a>(rest: &'a [u8], head: &[u8]) -> Option<(Row, &'a [u8])>
+    requires { 0 < length head.now }
+    ensures { NumbersRead rest.now head.now result (λ r. r.0) (λ r. r.1.now) }
+{
+    let mut numbers = [0u32; 4];
+    let mut after = rest;
+    let mut before = head;
+    for k in 0..4usize {
+        let (number, left) = read_number(read_text(after, before)?)?;
+        numbers[k] = number;
+        if let Some(behind) = read_text(left, &heads::LINE_END) {
+            let row = Row {
+                numbers,
+                count: k + 1,
+            };
+            return Some((row, behind));
+        }
+        after = left;
+        before = &heads::SPACE;
+    }
+    None
+}
+
 // N numbers, the first behind `head`, and each other behind a space.
-pub fn read_numbers<'a, const N: usize>(rest: &'a [u8], head: &[u8]) -> Option<([u32; N], &'a [u8])>
+pub fn read_sequence<'a, const N: usize>(
+    rest: &'a [u8],
+    head: &[u8],
+) -> Option<([u32; N], &'a [u8])>
     requires some { 0 < N }
     requires head { 0 < length head.now }
     ensures { ReadsFront rest.now (numbers head.now N rest.now) result (λ r. r.0) (λ r. r.1.now) }
@@ -99,7 +134,7 @@ pub fn read_row<'a, const N: usize>(rest: &'a [u8], head: &[u8]) -> Option<([u32
     requires head { 0 < length head.now }
     ensures { ReadsFront rest.now (row head.now N rest.now) result (λ r. r.0) (λ r. r.1.now) }
 {
-    let Some(read) = read_numbers::<N>(rest, head) else {
+    let Some(read) = read_sequence::<N>(rest, head) else {
         return None;
     };
     let row = read.0;

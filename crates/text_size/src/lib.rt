@@ -7,12 +7,17 @@ ghost use Rattle.text_write.specs.Decimal.{decimal};
 
 use text_read::heads;
 
-// How many digits n has.
+// The powers of ten from 10 on that a number of 32 bits may reach.
+const POWERS: [u32; 9] = [
+    10, 100, 1000, 10000, 100000, 1000000, 10000000, 100000000, 1000000000,
+];
+
+// How many digits n has: tests instead of divisions, so that no branch depends on n.
 fn digit_count(n: u32) -> usize
     ensures digits { result ≡ length (decimal n) }
     ensures few { result ≤ 10 }
 {
-    n.max(1).ilog10() as usize + 1
+    1 + POWERS.iter().filter(|power| **power <= n).count()
 }
 
 // What `Writer::item` writes.

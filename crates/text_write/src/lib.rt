@@ -17,14 +17,15 @@ pub struct Writer<'a> {
 }
 
 impl<'a> Writer<'a> {
-    // The bytes of `head`.
+    // The bytes of `head`, one by one: moved as a block from one list of C's to another, they would make the archive ask C for `memmove`.
     pub fn text(&mut self, head: &[u8])
         requires { HasRoomFor self.old head.now }
         ensures { Writes self.old head.now self.new }
     {
-        let end = self.at + head.len();
-        self.out[self.at..end].copy_from_slice(head);
-        self.at = end;
+        for byte in head {
+            self.out[self.at] = *byte;
+            self.at += 1;
+        }
     }
 
     // A digit.

@@ -1,13 +1,12 @@
 -- What a checked book tells of its entries and of the moves between them, in each book that it has the timing of, or the tables.
-use mathlib.Core.Path.{◌≡◌, refl, sym, ap, ap₂, subst, ◌∙◌}
+use mathlib.Core.Path.{◌≡◌, refl, sym, ap, subst, ◌∙◌}
 use mathlib.Core.List.{List, map}
 use mathlib.Core.Bool.{Bool, true, false, cond}
 use mathlib.Core.Option.{Option as Maybe, none, some}
-use Prim.Native.Nat.{ℕ, zero, suc, ◌-◌, ◌≤◌}
+use Prim.Native.Nat.{ℕ, ◌-◌, ◌≤◌}
 use native.Mathlib.Omega.{arith}
 use lib.Dec.{eqb}
-use lib.IntN.{ℤ, pos}
-use lib.Signed.{le_z}
+use lib.IntN.{ℤ}
 use lib.ListN.{get_or, get_or-map}
 use borrow.Author.Tests.{eq-eqb, ne_eqb}
 use Rattle.std.specs.Prelude.{Option, Some, None, option_map}
@@ -21,12 +20,10 @@ use Rattle.book_lines.proofs.Table.{Instruments, instruments_in, fair_parts, tab
 use Rattle.book_form.specs.declared.CheckedBook.{CheckedBook}
 use Rattle.book_form.specs.Book.{Book}
 use Rattle.book_form.proofs.Judging.{entry_in}
-use Rattle.way_theory.specs.Follow.{size, entry_at, stay, without_line, line_or, link, road, spare_with, spare_by, spare, enough, follow_cost}
-use Rattle.way_theory.specs.Ways.{predecessor_cost}
+use Rattle.way_theory.specs.Follow.{size, entry_at, stay, without_line, line_or, link, road, spare_with, spare_by, spare}
 use Rattle.way_joins.specs.Tables.{ticks_of, cost_of, nameless, Timing, Tables, TimingOf, HasTiming}
 use Rattle.way_joins.specs.Joins.{Roads}
 use Rattle.way_joins.proofs.Tables.{tables_timing}
-use Rattle.laws.specs.Image.{map_option}
 use Rattle.std.proofs.lemmas.Option.{none-some, same_Some}
 use Rattle.way_theory.proofs.Fair.{FairEntry, fair_entry_lem}
 
@@ -147,23 +144,6 @@ module _ {b : Book} {c : CheckedBook} (h : TimingOf b c) (i j : ℕ) (i-low : 1 
         go : (o : Maybe Move) → Some n ≡ ticks_of (option_map said (optional o)) → (f s : ℕ) → Some (spare_with n f s) ≡ optional (spare_by o f s)
         go none x f s = absurd (none-some _ (sym x))
         go (some m) x f s = ap (λ n. Some (spare_with n f s)) (same_Some _ _ x)
-
-    pub cost_is : (k : ℕ) → Some k ≡ cost_of (option_map said (optional (road b i j))) → (z : ℤ) → z ≡ spare_with n finish start → (t : Bool) → le_z (pos 0) z ≡ t
-        → cond t (Some k) None ≡ optional (predecessor_cost b i j)
-    cost_is k d z q t u = ap (λ t. cond t (Some k) None) (sym u) ∙ ap (λ z. cond (le_z (pos 0) z) (Some k) None) (q ∙ by_book) ∙ go (road b i j) e d (entry_at b i).finish (entry_at b j).start ∙ ap optional (later i i-low)
-      where
-        later : (i : ℕ) → 1 ≤ i → follow_cost b i j ≡ predecessor_cost b i j
-        later zero l = absurd (omega arith)
-        later (suc i) l = refl
-
-        cases : (t : Bool) (m : Move) → cond t (Some m.cost) None ≡ optional (cond t (some m.cost) none)
-        cases true m = refl
-        cases false m = refl
-
-        go : (o : Maybe Move) → Some n ≡ ticks_of (option_map said (optional o)) → Some k ≡ cost_of (option_map said (optional o)) → (f s : ℕ)
-            → cond (le_z (pos 0) (spare_with n f s)) (Some k) None ≡ optional (cond (enough (spare_by o f s)) (map_option (λ (m : Move). m.cost) o) none)
-        go none x y f s = absurd (none-some _ (sym x))
-        go (some m) x y f s = ap₂ (λ n k. cond (le_z (pos 0) (spare_with n f s)) (Some k) None) (same_Some _ _ x) (same_Some _ _ y) ∙ cases (le_z (pos 0) (spare_with m.ticks f s)) m
 
 -- What the calls ask for, and how a player goes, of a checked book that has the timing of some.
 module _ {c : CheckedBook} (h : HasTiming c) (i j : ℕ) (i-low : 1 ≤ i) (i-high : i ≤ c.count) (j-low : 1 ≤ j) (j-high : j ≤ c.count) where

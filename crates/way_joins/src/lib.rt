@@ -56,11 +56,7 @@ pub fn join_of(book: &CheckedBook, i: usize, j: usize) -> Option<u32>
     if i == 0 {
         return Some(book.fee);
     }
-    let road = road_between(book, i, j)?;
-    let spare = spare_with(
-        road.ticks,
-        book.entries[i - 1].finish,
-        book.entries[j - 1].start,
-    );
-    if 0 <= spare { Some(road.cost) } else { None }
+    let spare = spare_of(book, i, j)?;
+    let cost = road_between(book, i, j)?.cost;
+    if 0 <= spare { Some(cost) } else { None }
 }

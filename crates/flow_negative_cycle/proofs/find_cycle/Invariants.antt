@@ -1,4 +1,3 @@
-use mathlib.Core.Path.{◌≡◌}
 use mathlib.Core.List.{[]}
 use Prim.Native.Nat.{◌-◌}
 use Rattle.net_model.specs.Struct.{net_from}
@@ -6,7 +5,7 @@ use Rattle.flow_negative_cycle.proofs.Searching.{Searching}
 use Rattle.flow_negative_cycle.proofs.find_cycle.Given as goal
 
 abbrev pub invariant-rounds : goal.invariant-rounds
-invariant-rounds l = Searching (net_from [] l.arcs) l.flow l.need l.labels l.preds l.k × (l.out ≡ l.initial.out)
+invariant-rounds l = Searching (net_from [] l.arcs) l.flow l.need l.labels l.preds l.k
 
 abbrev pub decreases-rounds : goal.decreases-rounds
 decreases-rounds l = 64 - l.k

@@ -1,36 +1,21 @@
-use Rattle.std.proofs.Common.{arith, suc, ◌≡◌, ◌+◌, ◌-◌, ◌∙◌, length-set, take_all}
-use Rattle.std.proofs.lemmas.List.{length-replicate, take_more_set}
 use Rattle.text_read.specs.Heads.{bytes}
-use Rattle.text_read.proofs.Rows.{known_none, no_head, no_number, one_more, all_known}
+use Rattle.text_read.proofs.Rows.{passed_none, none_headed, none_numbered, row_ended, going_on}
 use Rattle.text_read.proofs.read_numbers.Goals as goal
 
-pub loop-value-init : goal.loop-value-init
-loop-value-init g c = record { some = c.requires.head; places = length-replicate g.row.N 0; known = known_none _ _ _ _ (omega arith) }
+pub loop-k-init : goal.loop-k-init
+loop-k-init c = passed_none _ _ c.requires
 
 pub returns-in_err-read_text : goal.returns-in_err-read_text
-returns-in_err-read_text g c =
-    let left : g.row.N - c.loop-value.value-index ≡ suc (g.row.N - (c.loop-value.value-index + 1)) = omega (arith, c.loop-value-test.true) in
-    rw c.from_residual.ensures (no_head c.loop-value.invariant.known left (c.in_err-read_text.ensures))
+returns-in_err-read_text c = rw c.from_residual.ensures (λ n low high. none_headed c.loop-k.invariant c.in_err-read_text.ensures n low)
 
 pub returns-in_err-number : goal.returns-in_err-number
-returns-in_err-number g c =
-    let left : g.row.N - c.loop-value.value-index ≡ suc (g.row.N - (c.loop-value.value-index + 1)) = omega (arith, c.loop-value-test.true) in
-    rw c.from_residual-in_err-number.ensures (no_number c.loop-value.invariant.known left c.in_ok-read_text.ensures (c.in_err-number.ensures))
+returns-in_err-number c =
+    rw c.from_residual-in_err-number.ensures (λ n low high. none_numbered c.loop-k.invariant c.in_ok-read_text.ensures c.in_err-number.ensures n low)
 
-pub loop-value-preserved : goal.loop-value-preserved
+pub returns-in-Some : goal.returns-in-Some
 unfolding bytes
-loop-value-preserved g c =
-    let v = c.loop-value in
-    let left : g.row.N - v.value-index ≡ suc (g.row.N - (v.value-index + 1)) = omega (arith, c.loop-value-test.true) in
-    record {
-      some = omega arith;
-      places = length-set v.value-items v.value-index c.in_ok-number.number ∙ v.invariant.places;
-      known = rw (take_more_set v.value-items v.value-index c.in_ok-number.number (omega (arith, c.loop-value-test.true, v.invariant.places)))
-          (one_more v.invariant.known left c.in_ok-read_text.ensures c.in_ok-number.ensures);
-    }
+returns-in-Some c = row_ended c.loop-k.invariant c.in_ok-read_text.ensures c.loop-k-test.true c.in_ok-number.ensures c.in-Some.ensures
 
-pub returns : goal.returns
-returns g c =
-    let v = c.loop-value in
-    rw (take_all v.value-index v.value-items (omega (arith, v.invariant.places, c.loop-value-test.false))) at
-    (all_known v.invariant.known (omega (arith, c.loop-value-test.false)) c.requires.some)
+pub loop-k-preserved : goal.loop-k-preserved
+unfolding bytes
+loop-k-preserved c = going_on c.loop-k.invariant c.in_ok-read_text.ensures c.loop-k-test.true c.in_ok-number.ensures c.in_default.ensures

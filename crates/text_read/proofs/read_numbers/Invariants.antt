@@ -1,11 +1,6 @@
--- `text_read::read_numbers` meets its contract: after each number, the first of the others stands behind `before`.
-use Rattle.std.proofs.Common.{◌≡◌, ◌-◌, ◌<◌, length, take}
-use Rattle.text_read.proofs.Rows.{Known}
+-- `text_read::read_numbers` meets its contract: of the rows of 1 to 4 numbers, no more than one goes on at each place.
+use Rattle.text_read.proofs.Rows.{Passed}
 use Rattle.text_read.proofs.read_numbers.Given as goal
 
-abbrev pub invariant-loop-value : goal.invariant-loop-value
-invariant-loop-value g l = record {
-  some : 0 < length l.before;
-  places : length l.value-items ≡ g.row.N;
-  known : Known l.head l.rest g.row.N (take l.value-index l.value-items) (g.row.N - l.value-index) l.before l.after;
-}
+abbrev pub invariant-loop-k : goal.invariant-loop-k
+invariant-loop-k l = Passed l.head l.rest l.numbers l.k l.before l.after

@@ -1,20 +1,23 @@
 -- `book_lines::entries::read_form` meets its contract: the count of numbers decides the form.
+use Rattle.std.proofs.Common.{arith}
 use Rattle.text_read.specs.Heads.{bytes}
-use Rattle.book_lines.proofs.Forms.{no_three, short_read, no_fourth, long_read}
+use Rattle.book_lines.proofs.Forms.{neither, short_read, long_read, neither_read}
 use Rattle.book_lines.proofs.entries.read_form.Goals as goal
 
-pub returns-in_err-read : goal.returns-in_err-read
+pub returns-in_err-row : goal.returns-in_err-row
 unfolding bytes
-returns-in_err-read c = rw c.from_residual.ensures (no_three c.args.rest.now c.in_err-read.ensures)
+returns-in_err-row c =
+    let none = c.in_err-row.ensures in
+    rw c.from_residual.ensures (neither c.args.rest.now (none 3 (omega arith) (omega arith)) (none 4 (omega arith) (omega arith)))
 
-pub returns-in-Some : goal.returns-in-Some
+pub returns-then-row-eq3 : goal.returns-then-row-eq3
 unfolding bytes
-returns-in-Some c = short_read c.args.rest.now c.in_ok-read.ensures c.in-Some.ensures
+returns-then-row-eq3 c = short_read c.in_ok-row.ensures c.if-row-eq3.true
 
-pub returns-in_err-last : goal.returns-in_err-last
+pub returns-then-row-eq4 : goal.returns-then-row-eq4
 unfolding bytes
-returns-in_err-last c = rw c.from_residual-in_err-last.ensures (no_fourth c.args.rest.now c.in_ok-read.ensures c.in_default.ensures c.in_err-last.ensures)
+returns-then-row-eq4 c = long_read c.in_ok-row.ensures c.if-row-eq4.true
 
 pub returns : goal.returns
 unfolding bytes
-returns c = long_read c.args.rest.now c.in_ok-read.ensures c.in_default.ensures c.in_ok-last.ensures
+returns c = neither_read c.in_ok-row.ensures c.if-row-eq3.false c.if-row-eq4.false
