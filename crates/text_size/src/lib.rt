@@ -12,7 +12,7 @@ const POWERS: [u32; 9] = [
     10, 100, 1000, 10000, 100000, 1000000, 10000000, 100000000, 1000000000,
 ];
 
-// How many digits n has: tests instead of divisions, so that no branch depends on n.
+// How many digits n has: nine tests, and no division.
 fn digit_count(n: u32) -> usize
     ensures digits { result ≡ length (decimal n) }
     ensures few { result ≤ 10 }
